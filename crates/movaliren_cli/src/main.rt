@@ -17,13 +17,14 @@ use arguments::{Asked, Job, Task};
 use clock::FoundClock;
 use description::Format;
 use line_streams::{FilterError, LineJob, StandardStreams};
-use place::ZoneClock;
+use place::InZone;
 use say::{fail, refuse, say_passed};
 use std::default::Default;
 use std::env;
 use std::process::ExitCode;
 use time_fmt::Formattable;
 use time_fmt::parts::UNIX_TIMESTAMP;
+use time_jiff::ZoneClock;
 use time_known::{Iso8601, Rfc2822};
 use time_lines::{InPlace, InUtc, NowJob, Place, ReadJob, Rfc3339InPlace, Shown, UnixJob, Utc};
 use time_read::LenientReader;
@@ -102,7 +103,7 @@ fn run_by<F: Formattable + Drop>(rt: &HostRuntime, asked: &Asked, description: F
     match clock::find(rt, asked.clock) {
         Ok(FoundClock::Utc) => run(rt, asked.task, InUtc { description }),
         Ok(FoundClock::Zone(zone)) => {
-            let place = ZoneClock::new(zone.as_time_zone());
+            let place = InZone(ZoneClock::new(zone.as_time_zone()));
             run(rt, asked.task, InPlace { description, place })
         }
         Err(status) => status,
@@ -120,7 +121,7 @@ fn run_rfc3339(rt: &HostRuntime, asked: &Asked) -> ExitCode {
         Ok(FoundClock::Utc) => run_days(rt, asked.task, Utc),
         Ok(FoundClock::Zone(zone)) => {
             let clock = ZoneClock::new(zone.as_time_zone());
-            run_days(rt, asked.task, clock)
+            run_days(rt, asked.task, InZone(clock))
         }
         Err(status) => status,
     }
