@@ -1,8 +1,7 @@
 -- The first place of a byte, as a search for it answers.
-use Rattle.std.proofs.Common.{◌≡◌, ⊎_elim, ℕ, ◌<◌, ◌≤◌, List, length, Bool, true, false, Option, Some, None, get_or}
+use Rattle.std.proofs.Common.{◌≡◌, refl, ⊎_elim, ℕ, ◌<◌, ◌≤◌, List, length, Bool, true, false, Option, Some, None, get_or}
 use Rattle.std.proofs.Common.{arith}
-use Rattle.std.proofs.lemmas.Bool.{cases_lt}
-use Rattle.std.proofs.lemmas.Grind.{common_steps}
+use Rattle.std.proofs.lemmas.Bool.{cases_lt, cond_above, cond_below}
 use Rattle.std.proofs.lemmas.List.Sums.{passes_at_first, fails_before_first}
 use Rattle.std.specs.List.{position, position_or_len}
 use Rattle.memchr.specs.Find.{IsFirstByte}
@@ -13,10 +12,11 @@ no_both b holds fails = cc
 
 -- the first element that passes is the answer, if one does
 some_position : (p : ℕ → Bool) (xs : List ℕ) (i : ℕ) → i < length xs → position_or_len p xs ≡ i → Some i ≡ position p xs
-some_position p xs i inside e = grind (arith, common_steps)
+some_position p xs i inside e =
+    rw (← e) (cond_below (position_or_len p xs) (length xs) (Some (position_or_len p xs)) None (omega arith))
 
 no_position : (p : ℕ → Bool) (xs : List ℕ) → length xs ≤ position_or_len p xs → None ≡ position p xs
-no_position p xs past = grind (arith, common_steps)
+no_position p xs past = cond_above (position_or_len p xs) (length xs) (Some (position_or_len p xs)) None None past refl
 
 -- the first place that a search finds is the first position
 pub first_byte : (p : ℕ → Bool) (xs : List ℕ) (r : Option ℕ) → IsFirstByte p xs r → r ≡ position p xs

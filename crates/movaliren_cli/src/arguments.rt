@@ -225,11 +225,10 @@ fn option<'a>(alloc: Global, row: &OptionRow) -> Result<Arg<'a>, AllocError> {
         .value_names(row.takes.names)
         .allow_hyphen_values(row.takes.is_signed)
         .value_parser(row.takes.parser);
-    let option = match row.letter {
-        Some(letter) => option.short(letter),
-        None => option,
-    };
-    option.groups(row.groups)
+    match row.letter {
+        Some(letter) => option.short(letter).groups(row.groups),
+        None => option.groups(row.groups),
+    }
 }
 
 /// The description, which needs no name.
@@ -241,26 +240,28 @@ fn description<'a>(alloc: Global) -> Arg<'a> {
 
 /// The command of a job, with its options.
 fn subcommand<'a>(alloc: Global, job: &JobRow) -> Result<Command<'a>, AllocError> {
-    let mut command = Command::new(alloc, job.name)
+    let mut args = Vec::new(alloc);
+    args.push(description(alloc))?;
+    for row in job.options {
+        args.push(option(alloc, row)?)?;
+    }
+    Command::new(alloc, job.name)
         .about(job.about)
         .after_help(DESCRIPTIONS)
-        .arg(description(alloc))?;
-    for row in job.options {
-        command = command.arg(option(alloc, row)?)?;
-    }
-    Ok(command)
+        .args(args)
 }
 
 fn command<'a>(alloc: Global) -> Result<Command<'a>, AllocError> {
-    let mut command = Command::new(alloc, "movaliren")
+    let mut below = Vec::new(alloc);
+    for job in JOBS {
+        below.push(subcommand(alloc, job)?)?;
+    }
+    Command::new(alloc, "movaliren")
         .version("0.1.0")
         .about("Formats the moments of the lines of standard input")
         .subcommand_required(true)
-        .arg_required_else_help(true);
-    for job in JOBS {
-        command = command.subcommand(subcommand(alloc, job)?)?;
-    }
-    Ok(command)
+        .arg_required_else_help(true)
+        .subcommands(below)
 }
 
 fn clock_of<'a>(matches: &ArgMatches<'a>) -> Clock<'a> {

@@ -3,9 +3,7 @@ ghost use Rattle.std.specs.Prelude.{IfErr};
 ghost use Rattle.movaliren_cli.specs.Refusal.{IsRefusalOf};
 
 use std::alloc::Global;
-use time_below::format_description::OwnedFormatItem;
-use time_describe::{InvalidDescription, InvalidStrftime, parse_owned, parse_strftime_owned};
-use time_plan::Plan;
+use time_plan::{InvalidDescription, InvalidStrftime, Plan};
 
 /// A format that has a name.
 #[derive(Clone, Copy)]
@@ -36,46 +34,31 @@ impl Format {
 /// Why a text is no description.
 #[derive(Drop)]
 pub enum Refusal {
-    /// There was no memory.
-    Memory,
     /// It has neither a bracket nor a percent sign, and is no name of a format.
     Name,
-    /// It is wrong in the syntax of brackets.
+    /// It is wrong in the syntax of brackets, or there was no memory.
     Brackets(InvalidDescription),
-    /// It is wrong in the syntax of strftime.
+    /// It is wrong in the syntax of strftime, or there was no memory.
     Strftime(InvalidStrftime),
 }
 
-/// The description of a text: with a percent sign it is in the syntax of strftime, else with a bracket in
-/// that of brackets. Any other text is refused as a name.
-fn item_of(alloc: Global, text: &str) -> Result<OwnedFormatItem, Refusal>
+/// The plan of a text: with a percent sign it is in the syntax of strftime, else with a bracket in that of
+/// brackets. Any other text is refused as a name.
+pub fn plan_of(alloc: Global, text: &str) -> Result<Plan, Refusal>
     ensures { IfErr result (IsRefusalOf text.now) }
 {
     let bytes = text.as_bytes();
     if bytes.contains(&b'%') {
-        match parse_strftime_owned(alloc, bytes) {
-            Ok(item) => Ok(item),
+        match Plan::parse_strftime(alloc, bytes) {
+            Ok(plan) => Ok(plan),
             Err(fault) => Err(Refusal::Strftime(fault)),
         }
     } else if bytes.contains(&b'[') {
-        match parse_owned(alloc, bytes) {
-            Ok(item) => Ok(item),
+        match Plan::parse(alloc, bytes) {
+            Ok(plan) => Ok(plan),
             Err(fault) => Err(Refusal::Brackets(fault)),
         }
     } else {
         Err(Refusal::Name)
-    }
-}
-
-/// The plan of a text.
-pub fn plan_of(alloc: Global, text: &str) -> Result<Plan, Refusal>
-    ensures { IfErr result (IsRefusalOf text.now) }
-{
-    match item_of(alloc, text) {
-        Ok(item) => match Plan::of(alloc, &item) {
-            Ok(plan) => Ok(plan),
-            Err(_) => Err(Refusal::Memory),
-        },
-        Err(refusal) => Err(refusal),
     }
 }

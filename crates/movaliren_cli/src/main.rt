@@ -11,22 +11,22 @@ mod description;
 mod offset;
 mod place;
 mod say;
-mod texts;
 mod zone;
 
 use arguments::{Asked, Job, Task};
 use clock::FoundClock;
 use description::Format;
 use line_streams::{FilterError, LineJob, StandardStreams};
-use place::ZoneClock;
+use place::InZone;
 use say::{fail, refuse, say_passed};
 use std::default::Default;
 use std::env;
 use std::process::ExitCode;
-use texts::{ByDescription, Rfc3339ByDay, Texts};
+use time_fmt::Formattable;
 use time_fmt::parts::UNIX_TIMESTAMP;
+use time_jiff::ZoneClock;
 use time_known::{Iso8601, Rfc2822};
-use time_lines::{InUtc, NowJob, ReadJob, Shown, UnixJob};
+use time_lines::{InPlace, InUtc, NowJob, Place, ReadJob, Rfc3339InPlace, Shown, UnixJob, Utc};
 use time_read::LenientReader;
 
 /// Does the job for each line of standard input.
@@ -98,18 +98,31 @@ fn run<S: Shown + Drop>(rt: &HostRuntime, task: Task, shown: S) -> ExitCode {
     }
 }
 
-/// Runs by these texts at a clock.
-fn run_at<T: Texts + Drop>(rt: &HostRuntime, task: Task, clock: &FoundClock, texts: T) -> ExitCode {
-    match clock {
-        FoundClock::Utc => texts.run_in_utc(rt, task),
-        FoundClock::Zone(zone) => texts.run_in(rt, task, ZoneClock::new(zone.as_time_zone())),
+/// Runs by a description, at the clock that is asked for.
+fn run_by<F: Formattable + Drop>(rt: &HostRuntime, asked: &Asked, description: F) -> ExitCode {
+    match clock::find(rt, asked.clock) {
+        Ok(FoundClock::Utc) => run(rt, asked.task, InUtc { description }),
+        Ok(FoundClock::Zone(zone)) => {
+            let place = InZone(ZoneClock::new(zone.as_time_zone()));
+            run(rt, asked.task, InPlace { description, place })
+        }
+        Err(status) => status,
     }
 }
 
-/// Runs by these texts, at the clock that is asked for.
-fn run_by<T: Texts + Drop>(rt: &HostRuntime, asked: &Asked, texts: T) -> ExitCode {
+/// Runs by RFC 3339, for which the text of a day is kept, at the clock of a place.
+fn run_days<P: Place + Drop>(rt: &HostRuntime, task: Task, place: P) -> ExitCode {
+    run(rt, task, Rfc3339InPlace::new(place))
+}
+
+/// Runs by RFC 3339, at the clock that is asked for.
+fn run_rfc3339(rt: &HostRuntime, asked: &Asked) -> ExitCode {
     match clock::find(rt, asked.clock) {
-        Ok(clock) => run_at(rt, asked.task, &clock, texts),
+        Ok(FoundClock::Utc) => run_days(rt, asked.task, Utc),
+        Ok(FoundClock::Zone(zone)) => {
+            let clock = ZoneClock::new(zone.as_time_zone());
+            run_days(rt, asked.task, InZone(clock))
+        }
         Err(status) => status,
     }
 }
@@ -117,7 +130,7 @@ fn run_by<T: Texts + Drop>(rt: &HostRuntime, asked: &Asked, texts: T) -> ExitCod
 /// Runs by the description that a text is.
 fn run_text(rt: &HostRuntime, asked: &Asked) -> ExitCode {
     match description::plan_of(rt.alloc(), asked.description) {
-        Ok(plan) => run_by(rt, asked, ByDescription(plan)),
+        Ok(plan) => run_by(rt, asked, plan),
         Err(refusal) => say::refuse_description(rt, asked.description, refusal),
     }
 }
@@ -125,9 +138,9 @@ fn run_text(rt: &HostRuntime, asked: &Asked) -> ExitCode {
 /// Runs by the description that is asked for.
 fn run_described(rt: &HostRuntime, asked: &Asked) -> ExitCode {
     match Format::of_name(asked.description) {
-        Some(Format::Rfc3339) => run_by(rt, asked, Rfc3339ByDay),
-        Some(Format::Rfc2822) => run_by(rt, asked, ByDescription(Rfc2822)),
-        Some(Format::Iso8601) => run_by(rt, asked, ByDescription(Iso8601::default())),
+        Some(Format::Rfc3339) => run_rfc3339(rt, asked),
+        Some(Format::Rfc2822) => run_by(rt, asked, Rfc2822),
+        Some(Format::Iso8601) => run_by(rt, asked, Iso8601::default()),
         Some(Format::Stamp) => {
             let description = Iso8601::default();
             run(rt, asked.task, InUtc { description })

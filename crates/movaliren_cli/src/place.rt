@@ -1,139 +1,19 @@
-//! The clock of a zone.
-ghost use Rattle.std.specs.Prelude.{◌≡◌, ◌≤ℤ◌, ◌+ℤ◌, ◌*ℤ◌, pos, neg_ℤ};
-ghost use Rattle.jiff_tz.specs.Zone.{next_at, offset_at, previous_at};
-ghost use Rattle.time_below.specs.Offset.{offset_seconds};
-ghost use Rattle.movaliren_cli.specs.Clock.{HasOffset, IsNearest, IsSpan, nanosecond_of, since, until};
+//! Zones as places.
+ghost use Rattle.time_jiff.specs.Clock.{HasOffset};
 
-use jiff::tz::Offset as ZoneOffset;
-use jiff_core::Timestamp as Instant;
-use jiff_tz::TimeZone;
 use time_below::{Timestamp, UtcOffset};
+use time_jiff::ZoneClock;
 use time_lines::Place;
 
-/// The first second for which zones are asked, and the last one. Moments before and after these are shown
-/// at the offsets that these seconds have.
-const FIRST: i64 = -377_705_023_201;
-
-const LAST: i64 = 253_402_207_200;
-
-/// The nearest second for which zones are asked.
-fn nearest(second: i64) -> i64
-    ensures nearest { IsNearest second result }
-    ensures first { neg_ℤ (pos 377_705_023_201) ≤ℤ result }
-    ensures last { result ≤ℤ pos 253_402_207_200 }
-{
-    if second < FIRST {
-        FIRST
-    } else if second > LAST {
-        LAST
-    } else {
-        second
-    }
-}
-
-/// The instant so many nanoseconds after a second begins.
-fn instant(second: i64, nanosecond: u8) -> Instant
-    requires first { neg_ℤ (pos 377_705_023_201) ≤ℤ second }
-    requires last { second ≤ℤ pos 253_402_207_200 }
-    ensures { result.nanosecond ≡ nanosecond_of second +ℤ pos nanosecond }
-{
-    match Instant::from_nanosecond(1_000_000_000 * second as i128 + nanosecond as i128) {
-        Ok(instant) => instant,
-        Err(_) => unreachable!(),
-    }
-}
-
-/// The second of the last change up to this second, and the first of all where there is none.
-fn first_second(zone: TimeZone<'_>, asked: i64) -> i64
-    requires first { neg_ℤ (pos 377_705_023_201) ≤ℤ asked }
-    requires last { asked ≤ℤ pos 253_402_207_200 }
-    ensures { result ≡ since (previous_at zone.entry (nanosecond_of asked +ℤ pos 1)) }
-{
-    match zone.previous_transition(instant(asked, 1)) {
-        Some(change) => change.timestamp.floor_second(),
-        None => i64::MIN,
-    }
-}
-
-/// The second before the first change after this second, and the last of all where there is none.
-fn last_second(zone: TimeZone<'_>, asked: i64) -> i64
-    requires first { neg_ℤ (pos 377_705_023_201) ≤ℤ asked }
-    requires last { asked ≤ℤ pos 253_402_207_200 }
-    ensures { result ≡ until (next_at zone.entry (nanosecond_of asked)) }
-{
-    match zone.next_transition(instant(asked, 0)) {
-        Some(change) => change.timestamp.floor_second() - 1,
-        None => i64::MAX,
-    }
-}
-
-/// The offset of the zone at this second.
-fn offset_of(zone: TimeZone<'_>, asked: i64) -> UtcOffset
-    requires first { neg_ℤ (pos 377_705_023_201) ≤ℤ asked }
-    requires last { asked ≤ℤ pos 253_402_207_200 }
-    ensures { offset_seconds result ≡ offset_at zone.entry (nanosecond_of asked) }
-{
-    time_jiff::offset(ZoneOffset::from_plain(zone.to_offset(instant(asked, 0))))
-}
-
-/// The clock of a zone, with the offset that it has from one change to the next.
+/// The place whose clock is that of a zone.
 #[derive(Drop)]
-pub struct ZoneClock<'a> {
-    pub zone: TimeZone<'a>,
-    /// The second for which the zone was asked.
-    pub asked: i64,
-    /// The offset is that of the seconds from the first to the last, both counted in.
-    pub first: i64,
-    pub last: i64,
-    pub offset: UtcOffset,
-    ghost span: { IsSpan zone asked first last offset },
-}
+pub struct InZone<'a>(pub ZoneClock<'a>);
 
-impl<'a> ZoneClock<'a> {
-    /// The clock of the zone, as it is in 1970.
-    pub fn new(zone: TimeZone<'a>) -> ZoneClock<'a>
-        ensures { result.zone ≡ zone.entry }
-    {
-        ZoneClock::at(zone, 0)
-    }
-
-    /// The clock of the zone, as it is at this second.
-    #[inline(never)]
-    fn at(zone: TimeZone<'a>, second: i64) -> ZoneClock<'a>
-        ensures zone { result.zone ≡ zone.entry }
-        ensures asked { IsNearest second result.asked }
-    {
-        let asked = nearest(second);
-        ZoneClock {
-            zone,
-            asked,
-            first: first_second(zone, asked),
-            last: last_second(zone, asked),
-            offset: offset_of(zone, asked),
-        }
-    }
-
-    /// Asks the zone at this second. This is a call, so that a line without a change has no memory for the answer.
-    #[cold]
-    #[inline(never)]
-    fn ask(&mut self, second: i64)
-        ensures zone { self.new.zone ≡ self.old.zone }
-        ensures asked { IsNearest second self.new.asked }
-    {
-        *self = ZoneClock::at(self.zone, second);
-    }
-}
-
-impl Place for ZoneClock<'_> {
-    ghost has_offset = { λ clock m o. HasOffset clock.zone m.seconds o };
+impl Place for InZone<'_> {
+    ghost has_offset = { λ place m o. HasOffset place.0.zone m.seconds o };
 
     #[inline(always)]
     fn offset_at(&mut self, moment: &Timestamp) -> UtcOffset {
-        let second = moment.as_seconds();
-        if self.first <= second && second <= self.last {
-            return self.offset;
-        }
-        self.ask(second);
-        self.offset
+        self.0.offset_at(moment)
     }
 }

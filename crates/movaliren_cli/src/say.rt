@@ -7,7 +7,7 @@ use line_streams::FilterError;
 use std::fmt::{Display, Formatter, Write};
 use std::process::ExitCode;
 use std::{fmt, io};
-use time_describe::{InvalidDescription, InvalidStrftime};
+use time_plan::{InvalidDescription, InvalidStrftime};
 
 /// The status of a failure.
 const FAILURE: u8 = 1;

@@ -2,6 +2,8 @@
 //! times.
 #![tactic(auto)]
 
+mod clock;
+
 ghost use Rattle.std.specs.Prelude.{◌≡◌, ◌↔◌, ◌<◌, pos, neg_ℤ, ◌+ℤ◌, ◌*ℤ◌, IsOk, IfErr, IfOk};
 ghost use Rattle.jiff.specs.ZonedView.{plain_zoned, zoned_date, zoned_nanos, zoned_time};
 ghost use Rattle.jiff_core.specs.Calendar.{IsBetween, IsYear};
@@ -13,6 +15,7 @@ ghost use Rattle.time_below.specs.Offset.{offset_of_seconds, offset_seconds};
 ghost use Rattle.time_below.specs.TimeOfDay.{IsTimeOfDay};
 ghost use Rattle.time_jiff.specs.Same.{IsInFixedZone, local_nanoseconds, same_date, same_time};
 
+pub use clock::ZoneClock;
 use time_below::{Date, Month, OffsetDateTime, PlainDateTime, Time, UtcOffset};
 
 /// The second in which the moment lies, and its nanoseconds from there on.

@@ -13,5 +13,5 @@ pub use day::Rfc3339InPlace;
 pub use now::NowJob;
 pub use number::Unit;
 pub use read::ReadJob;
-pub use shown::{AtOffset, InPlace, InUtc, Place, Shown, Utc};
+pub use shown::{InPlace, InUtc, Place, Shown, Utc};
 pub use unix::UnixJob;

@@ -50,20 +50,6 @@ impl Place for Utc {
     }
 }
 
-/// A place with one offset.
-#[derive(Clone, Copy)]
-pub struct AtOffset {
-    pub offset: UtcOffset,
-}
-
-impl Place for AtOffset {
-    ghost has_offset = { λ place _ o. o ≡ place.offset };
-
-    fn offset_at(&mut self, _moment: &Timestamp) -> UtcOffset {
-        self.offset
-    }
-}
-
 /// Appends the text of a value, or nothing where the description refuses it, and says whether it has one.
 #[inline(always)]
 pub(crate) fn append_text<F: Formattable, V: ComponentProvider>(

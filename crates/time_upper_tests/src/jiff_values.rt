@@ -5,6 +5,7 @@ use jiff::tz::{Offset, TimeZone};
 use jiff::{Timestamp as Instant, civil};
 use std::process::Abort;
 use time_below::{Date, Month, OffsetDateTime, PlainDateTime, Time, Timestamp, UtcOffset};
+use time_jiff::ZoneClock;
 
 fn moment(rt: &impl Abort, seconds: i64, nanosecond: u32) -> Timestamp {
     match Timestamp::new(seconds, nanosecond) {
@@ -120,5 +121,28 @@ fn zoned_moments_outside_jiff_are_refused(rt: HostRuntime) {
         };
         let moment = OffsetDateTime::new_in_offset(date, time, offset);
         assert_that(&rt, time_jiff::jiff_zoned(moment).is_err() == (second == 1));
+    }
+}
+
+/// Seconds since 1970, and the hours that the clock of Berlin is ahead of UTC, as GNU `date` shows by the same
+/// rule: around changes, back in a span that was left, and outside of the moments of jiff.
+const SECONDS: &[(i64, i8)] = &[
+    (0, 1),
+    (1_774_745_999, 1),
+    (1_774_746_000, 2),
+    (1_792_889_999, 2),
+    (1_792_890_000, 1),
+    (1_774_746_000, 2),
+    (-400_000_000_000, 1),
+    (260_000_000_000, 1),
+];
+
+#[test]
+fn a_clock_has_the_offset_of_its_zone_at_each_moment(rt: HostRuntime) {
+    let zone = TimeZone::posix("CET-1CEST,M3.5.0,M10.5.0/3").expect(&rt, "no zone");
+    let mut clock = ZoneClock::new(zone.to_plain());
+    for (seconds, hours) in SECONDS {
+        let offset = clock.offset_at(&moment(&rt, *seconds, 0));
+        assert_that(&rt, offset.as_hms() == (*hours, 0, 0));
     }
 }

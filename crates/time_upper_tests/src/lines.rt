@@ -1,15 +1,17 @@
 //! Lines and what they become. The texts of moments are those of GNU `date -u`.
+ghost use Rattle.std.specs.Prelude.{◌≡◌};
+
 use crate::values::assert_that;
 use line_streams::LineJob;
 use std::alloc::Global;
 use std::io;
 use std::process::Abort;
 use std::time::{Clock, Duration};
-use time_below::UtcOffset;
+use time_below::{Timestamp, UtcOffset};
 use time_fmt::parts::UNIX_TIMESTAMP;
 use time_known::Rfc2822;
 use time_lines::{
-    AtOffset, InPlace, InUtc, NowJob, ReadJob, Rfc3339InPlace, Shown, Unit, UnixJob, Utc,
+    InPlace, InUtc, NowJob, Place, ReadJob, Rfc3339InPlace, Shown, Unit, UnixJob, Utc,
 };
 use time_read::LenientReader;
 
@@ -160,6 +162,20 @@ fn units_and_digits_are_as_asked_for(rt: HostRuntime) {
         job.unit = *unit;
         job.least = *least;
         assert_becomes(&rt, rt.alloc(), &mut job, line, wanted);
+    }
+}
+
+/// A place with one offset.
+#[derive(Clone, Copy)]
+struct AtOffset {
+    offset: UtcOffset,
+}
+
+impl Place for AtOffset {
+    ghost has_offset = { λ place _ o. o ≡ place.offset };
+
+    fn offset_at(&mut self, _moment: &Timestamp) -> UtcOffset {
+        self.offset
     }
 }
 

@@ -1,14 +1,10 @@
-use Rattle.std.proofs.Common.{◌≡◌, ◌∙◌, sym, subst, inr, to_z, of_z, w64}
+use Rattle.std.proofs.Common.{◌≡◌, ◌∙◌, subst, inr, to_z, of_z, w64, rules}
 use Rattle.std.proofs.lemmas.Int.{to_z-of_z}
-use Rattle.movaliren_cli.specs.Clock.{HasOffset, IsNearest, IsSpan}
-use Rattle.movaliren_cli.proofs.place.ZoneClockPlace.offset_at.Goals as goal
+use Rattle.time_jiff.specs.Clock.{IsNearest, IsSpan}
+use Rattle.time_jiff.proofs.clock.ZoneClock.offset_at.Goals as goal
 
-pub returns-clause-same : goal.returns-clause-same
-returns-clause-same c = λ m o.
-    subst
-    (λ z. (HasOffset c.args.self.now.zone m.seconds o → HasOffset z m.seconds o)
-    × (HasOffset z m.seconds o → HasOffset c.args.self.now.zone m.seconds o))
-    (sym c.ask.ensures.zone) (λ h. h, λ h. h)
+pub returns-then-second-self-clause-offset : goal.returns-then-second-self-clause-offset
+returns-then-second-self-clause-offset c = search rules
 
 pub returns-clause-offset : goal.returns-clause-offset
 returns-clause-offset c =

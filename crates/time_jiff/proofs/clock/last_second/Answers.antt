@@ -4,8 +4,8 @@ use Rattle.std.specs.Int.{int_div_euclid}
 use Rattle.jiff_core.specs.Timestamp.{IsTimestampNanos}
 use Rattle.jiff_tz.specs.PosixRule.{transition_view}
 use Rattle.jiff_tz.specs.Zone.{next_at}
-use Rattle.movaliren_cli.specs.Clock.{nanosecond_of, until}
-use Rattle.movaliren_cli.proofs.place.last_second.Goals as goal
+use Rattle.time_jiff.specs.Clock.{nanosecond_of, until}
+use Rattle.time_jiff.proofs.clock.last_second.Goals as goal
 
 -- a moment of jiff is in no second before its first
 first_is_least : (n s : ℤ) → IsTimestampNanos n → s ≡ int_div_euclid n (pos 1_000_000_000) → neg_ℤ (pos 377_705_023_201) ≤ℤ s

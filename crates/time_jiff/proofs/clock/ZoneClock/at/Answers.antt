@@ -1,7 +1,7 @@
 use Rattle.std.proofs.Common.{◌≡◌, subst, sym, to_z, of_z, w64}
 use Rattle.std.proofs.lemmas.Int.{to_z-of_z}
-use Rattle.movaliren_cli.specs.Clock.{IsNearest}
-use Rattle.movaliren_cli.proofs.place.ZoneClock.at.Goals as goal
+use Rattle.time_jiff.specs.Clock.{IsNearest}
+use Rattle.time_jiff.proofs.clock.ZoneClock.at.Goals as goal
 
 pub returns-clause-asked : goal.returns-clause-asked
 returns-clause-asked c =
