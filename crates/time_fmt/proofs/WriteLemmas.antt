@@ -2,10 +2,9 @@
 -- outcomes.
 use Rattle.std.proofs.Common.{◌≡◌, ℕ, ◌+◌, ◌-◌, ◌++◌, length-append, append_assoc, refl, arith, Option, Some, None}
 use Rattle.std.proofs.Common.{IsSomeAnd, Result, Ok, Err, Vec, vec_len}
-use Rattle.std.proofs.lemmas.List.{append-nil}
 use Rattle.std.specs.Global.{Global}
 use Rattle.time_fmt.specs.declared.error.Format.{Format}
-use Rattle.time_fmt.specs.Outcome.{Outcome, Refusal, Names, Appends, Adds, refused, join}
+use Rattle.time_fmt.specs.Outcome.{Outcome, Refusal, Appends, Adds, join}
 use Rattle.std.proofs.lemmas.Grind.{common_steps}
 
 -- an outcome is added if it is appended after a reservation
