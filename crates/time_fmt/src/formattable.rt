@@ -59,6 +59,14 @@ pub trait Formattable: ComputeMetadata {
             (outcome_of self.now (V.facts value.now)) }
         ensures agrees { V.agrees state.new value.now };
 
+    /// Returns `true` only if this many bytes are enough for each text, where that is told faster than the
+    /// width. `false` says nothing.
+    fn fits_plainly(&self, _room: usize) -> bool
+        ensures { IsTrue result → Self.width_of self.now ≤ _room }
+    {
+        false
+    }
+
     /// Appends the text of the value. Reserves once if the spare capacity is below the width: the capacity
     /// becomes what is needed, or twice what it was if that is more.
     ///
@@ -90,9 +98,11 @@ pub trait Formattable: ComputeMetadata {
             → Self.width_of self.now < usize.MAX
             → result ≢ Err Format.OutOfMemory }
     {
-        let width = self.compute_metadata().max_bytes_needed;
-        if width == usize::MAX || make_room(output, width).is_err() {
-            return Err(Format::OutOfMemory);
+        if !self.fits_plainly(output.capacity() - output.len()) {
+            let width = self.compute_metadata().max_bytes_needed;
+            if width == usize::MAX || make_room(output, width).is_err() {
+                return Err(Format::OutOfMemory);
+            }
         }
         self.write_into(output, value, state)
     }

@@ -148,4 +148,10 @@ impl Formattable for Plan {
         }
         self.write_into(output, value, state)
     }
+
+    #[inline]
+    fn fits_plainly(&self, room: usize) -> bool {
+        let width = self.metadata.max_bytes_needed;
+        width < usize::MAX && width <= room
+    }
 }

@@ -47,8 +47,7 @@ impl Formattable for BorrowedItems<'_> {
         }
     }
 
-    // This becomes part of the caller, so that no result lies in memory. Bounds that are quick to tell come before
-    // the width.
+    // This becomes part of the caller, so that no result lies in memory.
     #[inline(always)]
     fn format_into<V: ComponentProvider>(
         &self,
@@ -56,13 +55,18 @@ impl Formattable for BorrowedItems<'_> {
         value: &V,
         state: &mut V::State,
     ) -> Result<usize, Format> {
-        if !nodes_fit(self.0, output.capacity() - output.len()) {
+        if !self.fits_plainly(output.capacity() - output.len()) {
             let width = self.compute_metadata().max_bytes_needed;
             if width == usize::MAX || make_room(output, width).is_err() {
                 return Err(Format::OutOfMemory);
             }
         }
         self.write_into(output, value, state)
+    }
+
+    #[inline(always)]
+    fn fits_plainly(&self, room: usize) -> bool {
+        nodes_fit(self.0, room)
     }
 }
 
@@ -98,8 +102,7 @@ impl Formattable for OwnedItems<'_> {
         }
     }
 
-    // This becomes part of the caller, so that no result lies in memory. Bounds that are quick to tell come before
-    // the width.
+    // This becomes part of the caller, so that no result lies in memory.
     #[inline(always)]
     fn format_into<V: ComponentProvider>(
         &self,
@@ -107,12 +110,17 @@ impl Formattable for OwnedItems<'_> {
         value: &V,
         state: &mut V::State,
     ) -> Result<usize, Format> {
-        if !nodes_fit(self.0, output.capacity() - output.len()) {
+        if !self.fits_plainly(output.capacity() - output.len()) {
             let width = self.compute_metadata().max_bytes_needed;
             if width == usize::MAX || make_room(output, width).is_err() {
                 return Err(Format::OutOfMemory);
             }
         }
         self.write_into(output, value, state)
+    }
+
+    #[inline(always)]
+    fn fits_plainly(&self, room: usize) -> bool {
+        nodes_fit(self.0, room)
     }
 }
