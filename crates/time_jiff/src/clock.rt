@@ -9,10 +9,10 @@ use jiff_core::Timestamp as Instant;
 use jiff_tz::TimeZone;
 use time_below::{Timestamp, UtcOffset};
 
-/// The first second for which zones are asked, and the last one. Moments before and after these are shown
-/// at the offsets that these seconds have.
+/// The first second for which zones are asked, -9999-01-02T01:59:59Z. Moments before it have its offset.
 const FIRST: i64 = -377_705_023_201;
 
+/// The last second for which zones are asked, 9999-12-30T22:00:00Z. Moments after it have its offset.
 const LAST: i64 = 253_402_207_200;
 
 /// The nearest second for which zones are asked.
@@ -78,6 +78,7 @@ fn offset_of(zone: TimeZone<'_>, asked: i64) -> UtcOffset
 /// The clock of a zone, which keeps the offset that it has from one change to the next.
 #[derive(Drop)]
 pub struct ZoneClock<'a> {
+    /// The zone that is asked.
     pub zone: TimeZone<'a>,
     /// The second for which the zone was asked.
     asked: i64,
