@@ -3,6 +3,7 @@ pub mod DivisionLemmas
 pub mod FractionEndLemmas
 pub mod FractionLemmas
 pub mod LengthLemmas
+pub mod MagnitudeLemmas
 pub mod PieceLemmas
 pub mod SingleDigitLemmas
 pub mod SpacePaddedLemmas

@@ -2,7 +2,7 @@
 //!
 //! A text in several pieces is read by joining them, the first piece first. The bounds of a number
 //! are in its type; no call here tests them again.
-ghost use Rattle.std.specs.Prelude.{◌≡◌, ◌+◌, ◌-◌, ◌/◌, ◌%◌, ◌≤◌, [], ◌∷◌, ◌++◌, length, take, drop, min, decimal};
+ghost use Rattle.std.specs.Prelude.{◌≡◌, ◌+◌, ◌-◌, ◌/◌, ◌%◌, ◌≤◌, [], ◌∷◌, ◌++◌, length, take, drop, min, decimal, unsigned_abs};
 ghost use Rattle.std.specs.Int.{w64, to_le_bytes};
 ghost use Rattle.std.specs.Str.Parse.{AllDigits};
 ghost use Rattle.time_digits.specs.Digits.{fixed, zero_padded, space_padded};
@@ -10,9 +10,11 @@ ghost use Rattle.time_digits.specs.Fraction.{trimmed_fraction, last_zeros};
 ghost use Rattle.time_digits.specs.Pieces.{joined, piece_lengths};
 ghost use Rattle.time_digits.specs.Shown.{shown, shown_end};
 
-use crate::ranged::{ru8, ru16, ru32};
+use crate::ranged::{ri8, ru8, ru16, ru32};
 use crate::stack_str::{StackStr, StackTrailingStr};
-use crate::tables::{SINGLE_DIGITS, SPACE_PADDED_PAIRS, ZERO_PADDED_PAIRS, piece_of};
+use crate::tables::{
+    MAGNITUDE_PAIRS, SINGLE_DIGITS, SPACE_PADDED_PAIRS, ZERO_PADDED_PAIRS, piece_of,
+};
 
 /// The factor by which `div_100` multiplies: the least whole number above 2 ^ 19 / 100.
 pub const DIV_100_FACTOR: u32 = 5243;
@@ -92,6 +94,17 @@ pub fn two_digits_zero_padded(n: ru8<0, 99>) -> &'static str
     ensures len { length result.now ≡ 2 }
 {
     piece_of(ZERO_PADDED_PAIRS, 2 * n.get() as usize, 2)
+}
+
+/// The magnitude of `n` in two places, with a zero in front where it is below 10. It is read from a table by
+/// `n` itself, so that no sign is taken away first.
+#[inline]
+#[tactic(auto, using(crate::proofs::MagnitudeLemmas::magnitude_facts))]
+pub fn magnitude_zero_padded(n: ri8<59>) -> &'static str
+    ensures text { result.now ≡ zero_padded 2 (unsigned_abs n) }
+    ensures len { length result.now ≡ 2 }
+{
+    piece_of(MAGNITUDE_PAIRS, 2 * (n.get() + 59) as usize, 2)
 }
 
 /// `n` in two places, with a space in front where it is below 10.

@@ -23,6 +23,16 @@ pub const SPACE_PADDED_PAIRS: &str = " 0 1 2 3 4 5 6 7 8 9\
 6061626364656667686970717273747576777879\
 8081828384858687888990919293949596979899";
 
+/// The magnitudes of the numbers -59 to 59 in two places each, with a zero in front of those below 10, in
+/// 238 bytes; that of the number `n` is at the place `2 * (n + 59)`.
+pub const MAGNITUDE_PAIRS: &str = "\
+5958575655545352515049484746454443424140\
+3938373635343332313029282726252423222120\
+1918171615141312111009080706050403020100\
+0102030405060708091011121314151617181920\
+2122232425262728293031323334353637383940\
+41424344454647484950515253545556575859";
+
 /// The `len` bytes of an ASCII table from `start` on.
 #[inline]
 #[tactic(auto, using(crate::proofs::TableLemmas::ascii_boundary))]

@@ -66,10 +66,14 @@ pub fn format_two_digits<S: Sink>(output: &mut S, value: ru8<0, 99>, padding: Pa
     }
 }
 
-// Appends two places of rare padding to a sink that is taken out, since most numbers have zeros
-// in front.
+/// Appends two places of rare padding to a sink that is taken out, since most numbers have zeros
+/// in front.
 #[inline]
-fn write_two_rarely<S: Sink>(output: &mut S, value: ru8<0, 99>, padding: Padding) -> usize
+pub(super) fn write_two_rarely<S: Sink>(
+    output: &mut S,
+    value: ru8<0, 99>,
+    padding: Padding,
+) -> usize
     requires room { Fits (S.buffer output.old) (length (padded_text padding 2 value)) }
     ensures writes { Puts (S.buffer output.old) (S.buffer output.new) result (padded_text padding 2 value) }
 {

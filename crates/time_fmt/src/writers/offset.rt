@@ -11,8 +11,12 @@ ghost use Rattle.time_fmt.specs.Text.{padded_text};
 use crate::modifier::Modifier;
 use crate::refused::Refused;
 use crate::sink::Sink;
-use crate::writers::digits::{fmt_sign, format_two_digits};
+use crate::writers::digits::{fmt_sign, write_two_rarely};
+use crate::writers::plain::write_pair;
+use time_below::format_description::modifier::Padding;
 use time_below::format_description::{Group, modifier};
+use time_digits::num_fmt::magnitude_zero_padded;
+use time_digits::ri8;
 use time_provide::ComponentProvider;
 use time_provide::ranges::{OffsetHours, OffsetMinutes, OffsetSeconds};
 
@@ -36,7 +40,7 @@ pub fn fmt_offset_hour<S: Sink>(
 {
     let _room = output.room();
     let sign = fmt_sign(output, is_negative, modifier.sign_is_mandatory);
-    sign + format_two_digits(output, hour.abs().expand(), modifier.padding)
+    sign + format_magnitude(output, hour.expand(), modifier.padding)
 }
 
 impl Modifier for modifier::OffsetHour {
@@ -75,7 +79,7 @@ pub fn fmt_offset_minute<S: Sink>(
     ensures ends { EndsWhole 2 (S.buffer output.old) (S.buffer output.new)
         (padded_text modifier.padding 2 (unsigned_abs minute)) }
 {
-    format_two_digits(output, minute.abs().expand(), modifier.padding)
+    format_magnitude(output, minute, modifier.padding)
 }
 
 impl Modifier for modifier::OffsetMinute {
@@ -112,7 +116,7 @@ pub fn fmt_offset_second<S: Sink>(
     ensures ends { EndsWhole 2 (S.buffer output.old) (S.buffer output.new)
         (padded_text modifier.padding 2 (unsigned_abs second)) }
 {
-    format_two_digits(output, second.abs().expand(), modifier.padding)
+    format_magnitude(output, second, modifier.padding)
 }
 
 impl Modifier for modifier::OffsetSecond {
@@ -132,5 +136,21 @@ impl Modifier for modifier::OffsetSecond {
     ) -> Result<(), Refused> {
         fmt_offset_second(output, value.offset_second(state), self);
         Ok(())
+    }
+}
+
+// Appends the magnitude of a part of an offset, padded to two places as `padding` says. Mostly it has zeros
+// in front, and then no sign is taken away.
+#[inline(always)]
+fn format_magnitude<S: Sink>(output: &mut S, part: ri8<59>, padding: Padding) -> usize
+    requires room { Fits (S.buffer output.old) (length (padded_text padding 2 (unsigned_abs part))) }
+    ensures writes { Puts (S.buffer output.old) (S.buffer output.new) result
+        (padded_text padding 2 (unsigned_abs part)) }
+    ensures ends { EndsWhole 2 (S.buffer output.old) (S.buffer output.new)
+        (padded_text padding 2 (unsigned_abs part)) }
+{
+    match padding {
+        Padding::Zero => write_pair(output, magnitude_zero_padded(part)),
+        rare => write_two_rarely(output, part.abs().expand(), rare),
     }
 }

@@ -2,10 +2,11 @@
 use crate::texts::assert_same;
 use std::process::Abort;
 use time_digits::{
-    DIV_100_FACTOR, DIV_100_SHIFT, SINGLE_DIGITS, SPACE_PADDED_PAIRS, ZERO_PADDED_PAIRS, div_100,
-    five_digits_zero_padded, four_digits_space_padded, four_digits_zero_padded, four_to_six_digits,
+    DIV_100_FACTOR, DIV_100_SHIFT, MAGNITUDE_PAIRS, SINGLE_DIGITS, SPACE_PADDED_PAIRS,
+    ZERO_PADDED_PAIRS, div_100, five_digits_zero_padded, four_digits_space_padded,
+    four_digits_zero_padded, four_to_six_digits, magnitude_zero_padded,
     one_to_four_digits_no_padding, one_to_three_digits_no_padding, one_to_two_digits_no_padding,
-    ru8, ru16, ru32, single_digit, six_digits_zero_padded, subsecond_from_nanos,
+    ri8, ru8, ru16, ru32, single_digit, six_digits_zero_padded, subsecond_from_nanos,
     three_digits_space_padded, three_digits_zero_padded, truncated_subsecond_from_nanos,
     two_digits_space_padded, two_digits_zero_padded, u64_pad_none, write_one_digit,
     write_two_digits, zeros_to_drop,
@@ -44,6 +45,7 @@ fn each_pair_stands_in_its_table(rt: HostRuntime) {
     assert_same(&rt, SINGLE_DIGITS.len(), 10);
     assert_same(&rt, ZERO_PADDED_PAIRS.len(), 200);
     assert_same(&rt, SPACE_PADDED_PAIRS.len(), 200);
+    assert_same(&rt, MAGNITUDE_PAIRS.len(), 238);
     for n in 0..100u8 {
         let place = 2 * n as usize;
         let zeros = two_digits_zero_padded(byte(&rt, n));
@@ -81,6 +83,20 @@ fn one_and_two_digits_are_filled_as_asked_for(rt: HostRuntime) {
         assert_same(&rt, one_to_two_digits_no_padding(byte(&rt, n)), plain);
         assert_same(&rt, two_digits_zero_padded(byte(&rt, n)), zeros);
         assert_same(&rt, two_digits_space_padded(byte(&rt, n)), spaces);
+    }
+}
+
+#[test]
+fn a_magnitude_stands_in_two_places_without_its_sign(rt: HostRuntime) {
+    for (n, want) in [
+        (-59, "59"),
+        (-30, "30"),
+        (-1, "01"),
+        (0, "00"),
+        (9, "09"),
+        (59, "59"),
+    ] {
+        assert_same(&rt, magnitude_zero_padded(ri8::within(n)), want);
     }
 }
 

@@ -5,5 +5,5 @@ use Rattle.time_fmt.proofs.writers.offset.fmt_offset_hour.Goals as goal
 
 pub returns : goal.returns
 returns g c =
-    let writes = put_behind c.fmt_sign-sign.ensures.writes (rw (c.expand.ensures, c.abs.ensures) at c.format_two_digits.ensures.writes) refl in
+    let writes = put_behind c.fmt_sign-sign.ensures.writes (rw c.expand.ensures at c.format_magnitude.ensures.writes) refl in
     record { writes = writes; ends = whole_text writes (signed_two _ _ _ _ (omega arith)) }
