@@ -15,10 +15,11 @@ use crate::reason::{Reason, answer_number};
 use crate::source::local_value;
 use std::default::Default;
 use std::marker::Brand;
+use time_below::UtcOffset;
 use time_digits::ru32;
 use time_fmt::writers::{write, write_nine_digits, write_six_decimals, write_three_decimals};
 use time_fmt::{Before, RoomSink, Sink, write_over};
-use time_known::fields::{Fields, OffsetFields, accepted_fields};
+use time_known::fields::{Fields, accepted_fields};
 use time_known::put::{put_clock, put_date, put_offset};
 use time_known::sink::Text;
 use time_provide::DateState;
@@ -219,7 +220,7 @@ fn keep(kept: &mut Log, second: i64, offset: i64, fields: &Fields)
     }
     kept.second = second;
     kept.offset = offset;
-    kept.zone_len = put_at_start(&Zone(&fields.offset), &mut kept.zone) as u8;
+    kept.zone_len = put_at_start(&Zone(fields.offset), &mut kept.zone) as u8;
 }
 
 /// The date and the clock, up to the decimals.
@@ -241,12 +242,12 @@ impl Text for Head<'_> {
 
 /// The offset.
 #[derive(Drop)]
-struct Zone<'a>(&'a OffsetFields);
+struct Zone(UtcOffset);
 
-impl Text for Zone<'_> {
+impl Text for Zone {
     ghost width = { λ _. 6 };
 
-    ghost text = { λ zone. offset_text (codes ":") zone.0.now };
+    ghost text = { λ zone. offset_text (codes ":") zone.0 };
 
     fn put_into<S: Sink>(&self, output: &mut S) {
         put_offset(output, self.0, ":");

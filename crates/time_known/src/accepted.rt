@@ -1,9 +1,10 @@
 //! What of a value a format has no place for.
-ghost use Rattle.std.specs.Prelude.{◌≡◌, ℕ, List, IfOk, IfErr, unsigned_abs};
+ghost use Rattle.std.specs.Prelude.{◌≡◌, ◌≤◌, ℕ, List, IfOk, IfErr, unsigned_abs};
 ghost use Rattle.time_fmt.specs.Outcome.{done};
 ghost use Rattle.time_known.specs.Accepted.{checked_text, component_name, refused_for};
 
-use time_digits::{ru8, ru16};
+use time_below::UtcOffset;
+use time_digits::ru16;
 
 /// A component of a value that a format refuses.
 #[derive(Debug, Clone, Copy)]
@@ -40,24 +41,36 @@ pub fn accepted_year(
     first: u16,
     greatest_hour: u8,
     year: i32,
-    offset_hour: ru8<0, 25>,
-    offset_second: u8,
+    offset: UtcOffset,
 ) -> Result<ru16<0, 9_999>, OutOfRange>
     ensures accepted { IfOk result (λ _. (text : List ℕ)
-        → checked_text first greatest_hour year offset_hour offset_second text ≡ done text) }
+        → checked_text first greatest_hour year (unsigned_abs offset.hours) (unsigned_abs offset.seconds) text
+        ≡ done text) }
     ensures year { IfOk result (λ y. y ≡ unsigned_abs year) }
     ensures refused { IfErr result (λ out. (text : List ℕ)
-        → checked_text first greatest_hour year offset_hour offset_second text
+        → checked_text first greatest_hour year (unsigned_abs offset.hours) (unsigned_abs offset.seconds) text
         ≡ refused_for out) }
 {
     if year < first as i32 || year > 9_999 {
         return Err(OutOfRange::Year);
     }
-    if greatest_hour < 25 && offset_hour.get() > greatest_hour {
+    let (hour, second) = hour_and_second(offset);
+    if greatest_hour < 25 && hour > greatest_hour {
         return Err(OutOfRange::OffsetHour);
     }
-    if offset_second != 0 {
+    if second != 0 {
         return Err(OutOfRange::OffsetSecond);
     }
     Ok(ru16::within(year.unsigned_abs() as u16))
+}
+
+// The sizes of the hours and the seconds of an offset.
+#[inline(always)]
+fn hour_and_second(offset: UtcOffset) -> (u8, u8)
+    ensures hour { result.0 ≡ unsigned_abs offset.hours }
+    ensures second { result.1 ≡ unsigned_abs offset.seconds }
+    ensures most { result.0 ≤ 25 }
+{
+    let (hours, _, seconds) = offset.as_hms();
+    (hours.unsigned_abs(), seconds.unsigned_abs())
 }

@@ -1,7 +1,8 @@
 //! The pieces of texts, put into a sink. Each is inlined, so that it becomes a few stores.
 #![tactic(auto, using(crate::proofs::LengthLemmas::joined_lengths))]
 
-ghost use Rattle.std.specs.Prelude.{◌≡◌, ◌+◌, ◌*◌, ◌++◌, length};
+ghost use Rattle.std.specs.Prelude.{◌≡◌, ◌+◌, ◌*◌, ◌++◌, length, unsigned_abs};
+ghost use Rattle.time_digits.specs.Digits.{zero_padded};
 ghost use Rattle.time_fmt.specs.DateText.{month_name, short_name};
 ghost use Rattle.time_fmt.specs.Sink.{Fits, Puts};
 ghost use Rattle.time_known.specs.Days.{month_and_day};
@@ -10,9 +11,10 @@ ghost use Rattle.time_known.specs.Sink.{PutsUpTo};
 ghost use Rattle.time_known.specs.WellKnown.{clock_text, offset_hours_text, offset_text, signed_offset_text, date_text, month_and_day_text};
 
 use crate::days::CalendarDay;
-use crate::fields::{Fields, OffsetFields};
-use time_below::Time;
-use time_digits::ru8;
+use crate::fields::Fields;
+use time_below::{Time, UtcOffset};
+use time_digits::num_fmt::magnitude_zero_padded;
+use time_digits::{ri8, ru8};
 use time_fmt::Sink;
 use time_fmt::writers::{format_four_digits_pad_zero, format_two_digits_pad_zero, write};
 
@@ -83,37 +85,55 @@ pub fn put_clock<S: Sink>(output: &mut S, time: Time, separator: &str)
     format_two_digits_pad_zero(output, ru8::within(second));
 }
 
+// The hours of an offset in two places.
+#[inline(always)]
+fn offset_hours(offset: UtcOffset) -> &'static str
+    ensures text { result.now ≡ zero_padded 2 (unsigned_abs offset.hours) }
+    ensures length { length result.now ≡ 2 }
+{
+    magnitude_zero_padded(ri8::within(offset.as_hms().0))
+}
+
+// The minutes of an offset in two places.
+#[inline(always)]
+pub(crate) fn offset_minutes(offset: UtcOffset) -> &'static str
+    ensures text { result.now ≡ zero_padded 2 (unsigned_abs offset.minutes) }
+    ensures length { length result.now ≡ 2 }
+{
+    magnitude_zero_padded(ri8::within(offset.as_hms().1))
+}
+
 /// Puts the sign of the whole offset, and its hours.
 #[inline(always)]
-pub fn put_offset_hours<S: Sink>(output: &mut S, offset: &OffsetFields)
+pub fn put_offset_hours<S: Sink>(output: &mut S, offset: UtcOffset)
     requires room { Fits (S.buffer output.old) 3 }
     ensures puts { Puts (S.buffer output.old) (S.buffer output.new) 3
-        (offset_hours_text offset.now) }
+        (offset_hours_text offset) }
 {
     write(output, if offset.is_negative() { "-" } else { "+" });
-    format_two_digits_pad_zero(output, offset.hours().expand());
+    write(output, offset_hours(offset));
 }
 
 /// Puts the sign of the whole offset, and its hours and its minutes, and the separator between them.
 #[inline(always)]
-pub fn put_signed_offset<S: Sink>(output: &mut S, offset: &OffsetFields, separator: &str)
+pub fn put_signed_offset<S: Sink>(output: &mut S, offset: UtcOffset, separator: &str)
     requires room { Fits (S.buffer output.old) (5 + length separator.now) }
     ensures puts { PutsUpTo (5 + length separator.now)
         (S.buffer output.old) (S.buffer output.new)
-        (signed_offset_text separator.now offset.now) }
+        (signed_offset_text separator.now offset) }
 {
     put_offset_hours(output, offset);
     write(output, separator);
-    format_two_digits_pad_zero(output, offset.minutes().expand());
+    write(output, offset_minutes(offset));
 }
 
 /// Puts `Z` for UTC, else the sign of the whole offset, its hours and its minutes, and the separator between them.
 #[inline(always)]
-pub fn put_offset<S: Sink>(output: &mut S, offset: &OffsetFields, separator: &str)
+pub fn put_offset<S: Sink>(output: &mut S, offset: UtcOffset, separator: &str)
     requires room { Fits (S.buffer output.old) (5 + length separator.now) }
     ensures puts { PutsUpTo (5 + length separator.now)
         (S.buffer output.old) (S.buffer output.new)
-        (offset_text separator.now offset.now) }
+        (offset_text separator.now offset) }
 {
     if offset.is_utc() {
         write(output, "Z");

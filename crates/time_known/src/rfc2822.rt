@@ -93,7 +93,7 @@ impl Text for Rfc2822Text {
         write(output, " ");
         put_clock(output, self.fields.time, ":");
         write(output, " ");
-        put_signed_offset(output, &self.fields.offset, "");
+        put_signed_offset(output, self.fields.offset, "");
     }
 }
 

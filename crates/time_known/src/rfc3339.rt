@@ -88,7 +88,7 @@ impl Text for Rfc3339Text {
         write(output, "T");
         put_clock(output, self.fields.time, ":");
         put_time_secfrac(output, self.fields.time);
-        put_offset(output, &self.fields.offset, ":");
+        put_offset(output, self.fields.offset, ":");
     }
 }
 

@@ -18,7 +18,6 @@ use time_digits::ru32;
 use time_fmt::make_room;
 use time_fmt::writers::{put_back, take_out, write, write_fraction};
 use time_known::Rfc3339;
-use time_known::fields::OffsetFields;
 use time_known::put::{put_clock, put_offset};
 use time_provide::DateState;
 
@@ -91,7 +90,7 @@ impl DayText {
         }
         make_room(output, WIDTH)?;
         let time = time_of(passed, nanosecond);
-        put_text(output, &self.text, time, &OffsetFields::of(offset));
+        put_text(output, &self.text, time, offset);
         Ok(true)
     }
 
@@ -200,11 +199,11 @@ fn push_each(output: &mut Vec<u8>, bytes: [u8; LENGTH])
 /// Appends a text by the text of its day, its time of day and its offset.
 #[inline(always)]
 #[tactic(auto, using(time_known::proofs::LengthLemmas::fraction_lengths))]
-fn put_text(output: &mut Vec<u8>, day: &[u8; LENGTH], time: Time, offset: &OffsetFields)
+fn put_text(output: &mut Vec<u8>, day: &[u8; LENGTH], time: Time, offset: UtcOffset)
     requires day { length day.now ≡ LENGTH }
     requires room { HasRoom output.old WIDTH }
     ensures { output.new.items ≡ output.old.items ++ (day.now ++ clock_text (codes ":") time
-        ++ time_secfrac_text time.nanosecond ++ offset_text (codes ":") offset.now) }
+        ++ time_secfrac_text time.nanosecond ++ offset_text (codes ":") offset) }
 {
     let mut taken = take_out(output);
     push_each(&mut taken, *day);

@@ -2,6 +2,7 @@
 use Rattle.std.proofs.Common.{◌≡◌, ◌∙◌, ℕ, List, ◌++◌, ℤ, ap, refl}
 use Rattle.std.specs.Prelude.{codes}
 use Rattle.time_below.specs.Moment.{Moment, local_at}
+use Rattle.time_below.specs.Offset.{is_utc}
 use Rattle.time_fmt.specs.Decimals.{decimals}
 use Rattle.time_log.specs.declared.log_time.LogTime.TheInside.{Inside}
 use Rattle.time_log.specs.Kept.{IsKept, settings_of}
@@ -11,7 +12,7 @@ use Rattle.time_known.specs.WellKnown.{offset_text}
 -- what is kept is that of the second of this moment
 pub record IsFor (s : LogSettings) (m : Moment) (t : Inside) : Type 0 where
   pub settings : settings_of t ≡ s
-  pub fields : t.offset_fields ≡ s.offset
+  pub utc : t.is_utc ≡ is_utc t.offset
   pub year : IsFourDigits (local_at m s.offset).date.year
   pub head : t.head ≡ text_to_point (local_at m s.offset)
 
@@ -21,7 +22,7 @@ pub for_same : (s : LogSettings) (m : Moment) (t u : Inside) → IsKept t → se
 for_same s m t u kept settings second same =
     rw (same, ← settings) (record {
       settings = refl;
-      fields = kept.fields;
+      utc = kept.utc;
       year = rw second kept.year;
       head = rw second kept.head;
     })
@@ -31,7 +32,7 @@ pub for_new : (s : LogSettings) (m : Moment) (t u : Inside) (second : ℤ) (head
     → head ≡ text_to_point (local_at m t.offset) → IsFourDigits (local_at m t.offset).date.year
     → u ≡ record t { second = second; head = head } → IsFor s m u
 for_new s m t u second head kept settings text year same =
-    rw (same, ← settings) (record { settings = refl; fields = kept.fields; year = year; head = text })
+    rw (same, ← settings) (record { settings = refl; utc = kept.utc; year = year; head = text })
 
 -- and it is that of its second
 pub kept_new : (m : Moment) (t u : Inside) (second : ℤ) (head : List ℕ) → IsKept t → second ≡ m.seconds
@@ -39,14 +40,15 @@ pub kept_new : (m : Moment) (t u : Inside) (second : ℤ) (head : List ℕ) → 
     → u ≡ record t { second = second; head = head } → IsKept u
 kept_new m t u second head kept at text year same =
     rw (same, at)
-    (record { offset = kept.offset; fields = kept.fields; zone = kept.zone; length = kept.length; year = year; head = text })
+    (record { offset = kept.offset; utc = kept.utc; zone = kept.zone; length = kept.length; year = year; head = text })
 
 -- the text by what is kept
 pub text_for : (s : LogSettings) (m : Moment) (t : Inside) (old new : List ℕ) (nanosecond : ℕ) → IsFor s m t
     → nanosecond ≡ m.nanosecond
     → new ≡ old ++ (t.head ++ decimals nanosecond 1_000_000_000 (digits_of t.decimals)
-    ++ offset_text (codes ":") t.offset_fields)
+    ++ offset_text (codes ":") t.offset)
     → new ≡ old ++ log_text s m
 text_for s m t old new nanosecond h n e =
-    let settings : t.decimals ≡ s.decimals = ap (λ (x : LogSettings). x.decimals) h.settings in
-    e ∙ rw (h.head, h.fields, n, settings) refl
+    let decimals_of : t.decimals ≡ s.decimals = ap (λ (x : LogSettings). x.decimals) h.settings in
+    let offset_of : t.offset ≡ s.offset = ap (λ (x : LogSettings). x.offset) h.settings in
+    e ∙ rw (h.head, offset_of, n, decimals_of) refl

@@ -17,7 +17,7 @@ settings_of t = record { offset = t.offset; decimals = t.decimals }
 -- the offset has a text, and the bytes are those of the second that is kept
 pub record IsKept (t : Inside) : Type 0 where
   pub offset : IsLogOffset t.offset
-  pub fields : t.offset_fields ≡ t.offset
+  pub utc : t.is_utc ≡ is_utc t.offset
   pub zone : length (offset_text (codes ":") t.offset) ≡ zone_length (is_utc t.offset)
   pub length : t.length ≡ log_length (settings_of t)
   pub year : IsFourDigits (local_second t.second t.offset).date.year

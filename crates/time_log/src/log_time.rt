@@ -15,7 +15,6 @@ use time_below::{Timestamp, UtcOffset};
 use time_digits::ru32;
 use time_fmt::{Format, make_room};
 use time_known::accepted::OutOfRange;
-use time_known::fields::OffsetFields;
 
 /// The times of the lines of one log, at one offset and with as many decimals in each: texts of
 /// RFC 3339, section 5.6, as `1985-04-12T23:20:50.520Z`.
@@ -26,7 +25,8 @@ use time_known::fields::OffsetFields;
 pub struct LogTime {
     offset: UtcOffset,
     decimals: Decimals,
-    offset_fields: OffsetFields,
+    // Whether the offset is that of UTC.
+    is_utc: bool,
     // The bytes of each text.
     length: usize,
     // The second that is kept, and its text up to the decimals.
@@ -81,10 +81,11 @@ impl LogTime {
         requires { IsLogOffset offset }
         ensures { result ≡ record { offset = offset; decimals = decimals } }
     {
+        let _in_range = offset.as_hms();
         LogTime {
             offset,
             decimals,
-            offset_fields: OffsetFields::of(offset),
+            is_utc: offset.is_utc(),
             length: LENGTH + decimals.digits() + zone_len(offset),
             second: midnight_of_1970(offset),
             head: *b"1970-01-01T00:00:00.",
@@ -151,7 +152,8 @@ impl LogTime {
             &self.head,
             nanosecond,
             self.decimals,
-            &self.offset_fields,
+            self.offset,
+            self.is_utc,
         );
         Ok(self.length)
     }

@@ -10,8 +10,8 @@ ghost use Rattle.time_known.specs.WellKnown.{offset_text};
 use crate::decimals::{Decimals, put_decimals};
 use crate::head::LENGTH;
 use crate::zone::put_zone;
+use time_below::UtcOffset;
 use time_fmt::writers::{put_back, take_out};
-use time_known::fields::OffsetFields;
 use time_provide::ranges::Nanoseconds;
 
 /// Appends the text up to the decimals, these and the offset.
@@ -21,19 +21,21 @@ pub(crate) fn append_text(
     head: &[u8; LENGTH],
     nanosecond: Nanoseconds,
     decimals: Decimals,
-    offset: &OffsetFields,
+    offset: UtcOffset,
+    is_zero: bool,
 )
+    requires zero { is_zero ≡ is_utc offset }
     requires head { length head.now ≡ LENGTH }
-    requires room { HasRoom output.old (LENGTH + digits_of decimals + zone_length (is_utc offset.now)) }
+    requires room { HasRoom output.old (LENGTH + digits_of decimals + zone_length (is_utc offset)) }
     ensures writes { Puts (vec_buffer output.old) (vec_buffer output.new)
-        (LENGTH + digits_of decimals + length (offset_text (codes ":") offset.now))
+        (LENGTH + digits_of decimals + length (offset_text (codes ":") offset))
         (head.now ++ decimals_of nanosecond 1_000_000_000 (digits_of decimals)
-        ++ offset_text (codes ":") offset.now) }
+        ++ offset_text (codes ":") offset) }
 {
     let mut taken = take_out(output);
     push_each(&mut taken, *head);
     put_decimals(&mut taken, nanosecond, decimals);
-    put_zone(&mut taken, offset);
+    put_zone(&mut taken, offset, is_zero);
     put_back(output, taken);
 }
 

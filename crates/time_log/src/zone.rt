@@ -7,7 +7,6 @@ ghost use Rattle.time_log.specs.LogText.{zone_length};
 ghost use Rattle.time_known.specs.WellKnown.{offset_text};
 
 use time_below::UtcOffset;
-use time_known::fields::OffsetFields;
 use time_known::put::put_signed_offset;
 
 /// The bytes of the text of an offset: `Z`, or a sign, hours and minutes.
@@ -17,14 +16,15 @@ pub(crate) fn zone_len(offset: UtcOffset) -> usize
     if offset.is_utc() { 1 } else { 6 }
 }
 
-/// Appends the text of an offset.
+/// Appends the text of an offset, of which the caller knows whether it is that of UTC.
 #[inline(always)]
-pub(crate) fn put_zone(output: &mut Vec<u8>, offset: &OffsetFields)
-    requires room { HasRoom output.old (zone_length (is_utc offset.now)) }
-    ensures writes { Puts (vec_buffer output.old) (vec_buffer output.new) (length (offset_text (codes ":") offset.now))
-        (offset_text (codes ":") offset.now) }
+pub(crate) fn put_zone(output: &mut Vec<u8>, offset: UtcOffset, is_zero: bool)
+    requires zero { is_zero ≡ is_utc offset }
+    requires room { HasRoom output.old (zone_length (is_utc offset)) }
+    ensures writes { Puts (vec_buffer output.old) (vec_buffer output.new) (length (offset_text (codes ":") offset))
+        (offset_text (codes ":") offset) }
 {
-    if offset.is_utc() {
+    if is_zero {
         output.push_reserved(b'Z');
     } else {
         put_signed_offset(output, offset, ":");

@@ -12,10 +12,11 @@ ghost use Rattle.time_known.specs.Iso8601.{iso_offset, part_if};
 ghost use Rattle.time_known.specs.Iso8601Width.{iso_offset_width, width_if};
 
 use crate::accepted::OutOfRange;
-use crate::fields::{OffsetFields, offset_of};
+use crate::fields::offset_of;
 use crate::iso8601::config::{Config, OffsetPrecision};
-use crate::put::put_offset_hours;
-use time_fmt::writers::{format_two_digits_pad_zero, put_back, take_out, write};
+use crate::put::{offset_minutes, put_offset_hours};
+use time_below::UtcOffset;
+use time_fmt::writers::{put_back, take_out, write};
 use time_fmt::{Format, Sink};
 use time_provide::ComponentProvider;
 
@@ -41,7 +42,7 @@ pub fn format_offset<V: ComponentProvider>(
     let offset = offset_of(value);
     let mut taken = take_out(output);
     let begin = taken.len();
-    let answer = put_offset_by(&mut taken, config, &offset);
+    let answer = put_offset_by(&mut taken, config, offset);
     let count = taken.len() - begin;
     put_back(output, taken);
     match answer {
@@ -66,7 +67,7 @@ pub(super) fn put_offset_part<S: Sink, V: ComponentProvider>(
     ensures real { IsTrue (has_offset config.now.formatted_components) → IsOffset (the_offset (V.facts value.now)) }
 {
     if config.has_offset() {
-        put_offset_by(output, config, &offset_of(value))
+        put_offset_by(output, config, offset_of(value))
     } else {
         Ok(())
     }
@@ -79,17 +80,18 @@ pub(super) fn put_offset_part<S: Sink, V: ComponentProvider>(
 fn put_offset_by<S: Sink>(
     output: &mut S,
     config: &Config,
-    offset: &OffsetFields,
+    offset: UtcOffset,
 ) -> Result<(), OutOfRange>
     requires room { Fits (S.buffer output.old) (iso_offset_width config.now) }
     ensures puts { PutsOutcome (iso_offset_width config.now) (S.buffer output.old)
-        (S.buffer output.new) result (iso_offset config.now offset.now) }
+        (S.buffer output.new) result (iso_offset config.now offset) }
 {
     if config.has_time() && offset.is_utc() {
         write(output, "Z");
         return Ok(());
     }
-    if offset.seconds().get() != 0 {
+    let (_, minutes, seconds) = offset.as_hms();
+    if seconds != 0 {
         return Err(OutOfRange::OffsetSecond);
     }
     put_offset_hours(output, offset);
@@ -98,11 +100,11 @@ fn put_offset_by<S: Sink>(
             if config.use_separators() {
                 write(output, ":");
             }
-            format_two_digits_pad_zero(output, offset.minutes().expand());
+            write(output, offset_minutes(offset));
             Ok(())
         }
         OffsetPrecision::Hour => {
-            if offset.minutes().get() != 0 {
+            if minutes != 0 {
                 return Err(OutOfRange::OffsetMinute);
             }
             Ok(())

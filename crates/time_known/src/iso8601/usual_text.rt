@@ -23,13 +23,13 @@ ghost use Rattle.time_known.specs.Values.{utc};
 ghost use Rattle.time_below.specs.Weekday.{days_from_monday};
 
 use crate::accepted::{OutOfRange, accepted_year};
-use crate::fields::{Fields, OffsetFields, accepted_fields, offset_of, time_of};
+use crate::fields::{Fields, accepted_fields, offset_of, time_of};
 use crate::iso8601::config::{Config, DecimalSign, Usual};
 use crate::iso8601::date::put_week;
 use crate::iso8601::time::{NANOSECONDS_PER_SECOND, put_long_division, put_to_second};
 use crate::put::{put_date, put_offset};
 use crate::sink::{Text, append};
-use time_below::{Time, Weekday};
+use time_below::{Time, UtcOffset, Weekday};
 use time_digits::tables::piece_of;
 use time_digits::{ru8, ru16};
 use time_fmt::Sink;
@@ -92,7 +92,7 @@ pub(super) fn write_usual_week<V: ComponentProvider>(
 {
     let offset = offset_of(value);
     let number = value.iso_year(state).get();
-    match accepted_year(0, 25, number, offset.hours(), offset.seconds().get()) {
+    match accepted_year(0, 25, number, offset) {
         Ok(year) => {
             let text = WeekText {
                 usual: *usual,
@@ -139,7 +139,7 @@ struct WeekText {
     week: IsoWeekNumber,
     weekday: Weekday,
     time: Time,
-    offset: OffsetFields,
+    offset: UtcOffset,
 }
 
 impl Text for WeekText {
@@ -227,7 +227,7 @@ fn put_usual<S: Sink>(output: &mut S, usual: &Usual, fields: &Fields, dash: &str
 {
     put_date(output, fields, dash);
     put_usual_time(output, usual, fields.time, colon);
-    put_offset(output, &fields.offset, colon);
+    put_offset(output, fields.offset, colon);
 }
 
 // Puts the date by week and weekday, the time and the offset with these separators.
@@ -246,7 +246,7 @@ fn put_usual_week<S: Sink>(output: &mut S, text: &WeekText, dash: &str, colon: &
     let weekday = ru8::within(text.weekday.number_from_monday());
     put_week(output, dash, text.week.expand(), weekday);
     put_usual_time(output, &text.usual, text.time, colon);
-    put_offset(output, &text.offset, colon);
+    put_offset(output, text.offset, colon);
 }
 
 // Puts the time, and decimals of its second.

@@ -20,7 +20,6 @@ pub fn clones_of_configurations()
 pub fn clones_of_fields()
     ensures out_of_range { AreSame ⟦<accepted::OutOfRange as Clone>⟧.is_clone }
     ensures calendar_day { AreSame ⟦<days::CalendarDay as Clone>⟧.is_clone }
-    ensures offset_fields { AreSame ⟦<fields::OffsetFields as Clone>⟧.is_clone }
     ensures fields { AreSame ⟦<fields::Fields as Clone>⟧.is_clone }
 {}
 

@@ -11,8 +11,8 @@ invariant_of-result c =
     let midnight : second +ℤ offset_seconds c.args.offset ≡ pos 0 = omega (arith, ints, c.midnight_of_1970.ensures) in
     record {
       offset = c.requires;
-      fields = c.of.ensures.same;
-      zone = length-zone c.args.offset c.of.ensures.real;
+      utc = c.is_utc.ensures;
+      zone = length-zone c.args.offset c.as_hms-in_range.ensures.offset;
       length = omega (arith, c.digits.ensures, c.zone_len.ensures);
       year = begin_year second c.args.offset midnight;
       head = begin_text second c.args.offset midnight;
