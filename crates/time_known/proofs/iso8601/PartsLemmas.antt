@@ -9,23 +9,14 @@ use Rattle.time_known.specs.Accepted.{PutsOutcome}
 use Rattle.time_known.specs.Config.{Choices, DateKind, has_date, has_time, has_offset}
 use Rattle.time_known.specs.Groups.{AreAllSupplied, at_groups}
 use Rattle.time_known.specs.Iso8601.{iso8601_outcome, iso_of_groups, iso_date, iso_time, iso_offset, part_if}
-use Rattle.time_known.specs.Iso8601Parts.{SuppliesParts, date_of_parts, date_parts_width, AreOfDate}
+use Rattle.time_known.specs.Iso8601Parts.{SuppliesParts}
 use Rattle.time_known.specs.Iso8601Width.{iso8601_width, iso_date_width, iso_time_width, iso_offset_width, width_if}
 use Rattle.time_provide.specs.Laws.{Supplies}
 use Rattle.time_known.specs.UsualText.{choices_of}
-use Rattle.time_known.specs.Values.{Facts, DateFacts, the_date, the_time, the_offset}
+use Rattle.time_known.specs.Values.{Facts, the_date, the_time, the_offset}
 use Rattle.time_known.specs.declared.accepted.OutOfRange.{OutOfRange}
 use Rattle.time_known.specs.declared.iso8601.config.FormattedComponents.TheVariants as components
 use Rattle.time_known.specs.declared.iso8601.config.Usual.{Usual}
-use Rattle.time_known.specs.declared.iso8601.parts.DateParts.{DateParts}
-
--- ---- dates
-
--- the date's fields are put as the date
-pub by_date : {old new : Buffer} {answer : Result Unit OutOfRange} (c : Choices) (k : DateKind) (d : DateFacts) (p : DateParts)
-    → k ≡ c.date_kind → AreOfDate k d p → PutsOutcome (date_parts_width c p) old new answer (date_of_parts c p)
-    → PutsOutcome (iso_date_width c) old new answer (iso_date c d)
-by_date c k d p e parts h = grind arith
 
 -- ---- all parts
 

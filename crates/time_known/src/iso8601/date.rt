@@ -9,7 +9,7 @@ ghost use Rattle.time_provide.specs.Real.{AgreesOnDate};
 ghost use Rattle.time_known.specs.Accepted.{PutsOutcome};
 ghost use Rattle.time_known.specs.Days.{dash};
 ghost use Rattle.time_known.specs.Iso8601.{iso_date, iso_year, week_text};
-ghost use Rattle.time_known.specs.Iso8601Parts.{date_of_parts, date_parts_width, rest_width, rest_text};
+ghost use Rattle.time_known.specs.Iso8601Parts.{rest_width, rest_text};
 ghost use Rattle.time_known.specs.Iso8601Width.{iso_date_width, year_width};
 ghost use Rattle.time_known.specs.Sink.{PutsUpTo};
 
@@ -112,7 +112,7 @@ fn put_short<S: Sink>(output: &mut S, year: ru16<0, 9_999>, rest: &RestOfDate, h
 
 // Puts the value's date.
 #[inline(always)]
-#[tactic(auto, using(crate::proofs::iso8601::PartsLemmas::by_date))]
+#[tactic(auto, using(crate::proofs::LengthLemmas::joined_lengths))]
 pub(super) fn put_date<S: Sink, V: ComponentProvider>(
     output: &mut S,
     config: &Config,
@@ -127,20 +127,6 @@ pub(super) fn put_date<S: Sink, V: ComponentProvider>(
     ensures agrees { AgreesOnDate (V.agrees state.new value.now) (V.facts value.now) }
 {
     let date = date_of(config.date_kind(), value, state);
-    put_date_parts(output, config, &date)
-}
-
-// Puts the year, and what follows it.
-#[inline(always)]
-fn put_date_parts<S: Sink>(
-    output: &mut S,
-    config: &Config,
-    date: &DateParts,
-) -> Result<(), OutOfRange>
-    requires room { Fits (S.buffer output.old) (date_parts_width config.now date.now) }
-    ensures puts { PutsOutcome (date_parts_width config.now date.now)
-        (S.buffer output.old) (S.buffer output.new) result (date_of_parts config.now date.now) }
-{
     put_year(output, date.year, config.year_is_six_digits())?;
     if config.use_separators() {
         put_rest(output, &date.rest, true);

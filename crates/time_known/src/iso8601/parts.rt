@@ -13,8 +13,8 @@ ghost use Rattle.time_known.specs.Ways.{FitsUnusual, FitsWay};
 
 use crate::accepted::OutOfRange;
 use crate::days::CalendarDay;
-use crate::iso8601::config::{Config, DateKind, FormattedComponents, Unusual, Way};
 use crate::fields::{offset_of, time_of};
+use crate::iso8601::config::{Config, DateKind, FormattedComponents, Unusual, Way};
 use crate::iso8601::date::{put_date, write_date_by};
 use crate::iso8601::offset::put_offset;
 use crate::iso8601::time::{put_time, write_time};
