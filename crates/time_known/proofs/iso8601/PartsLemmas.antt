@@ -48,35 +48,30 @@ put_by_choice c f some supplied groups p q r = rw (parts_are c f some supplied g
 
 -- ---- some parts
 
--- what the choices give of a value, and the most bytes of it
-pub record Gives (c : Choices) (f : Facts) (most : ℕ) (o : Outcome) : Type 0 where
-  outcome : iso8601_outcome c f ≡ o
-  width : iso8601_width c ≡ most
-
--- what is appended of that, if anything, is appended of the whole text
-pub appended_whole : {k : ℕ} {o : Outcome} (found : Option ℕ) (old new : Vec ℕ Global) (c : Choices) (f : Facts) → Gives c f k o
-    → MatchOption found (new ≡ old) (λ n. AppendsUpTo k old new (Ok n) o)
-    → MatchOption found (new ≡ old) (λ n. AppendsUpTo (iso8601_width c) old new (Ok n) (iso8601_outcome c f))
-appended_whole found old new c f g h = rw (g.outcome, g.width) h
-
--- what is appended of a date alone is the whole text
+-- what is appended of a date alone, if anything, is the whole text
 pub date_alone : {date time offset moment : Bool} (found : Option ℕ) (old new : Vec ℕ Global) (c : Choices) (f : Facts)
     → c.formatted_components ≡ components.Date → SuppliesParts c date time offset → Supplies date time offset moment f
     → MatchOption found (new ≡ old) (λ n. AppendsUpTo (iso_date_width c) old new (Ok n) (iso_date c (the_date f)))
     → MatchOption found (new ≡ old) (λ n. AppendsUpTo (iso8601_width c) old new (Ok n) (iso8601_outcome c f))
-date_alone found old new c f e supplied groups =
-    appended_whole found old new c f (record { outcome = grind (arith, common_steps); width = grind arith })
+date_alone found old new c f e supplied groups h = grind (arith, common_steps)
 
--- a time alone
-pub time_alone : {date time offset moment : Bool} (c : Choices) (f : Facts) → c.formatted_components ≡ components.Time
-    → SuppliesParts c date time offset → Supplies date time offset moment f → Gives c f (iso_time_width c) (iso_time c (the_time f))
-time_alone c f e supplied groups = record { outcome = grind (arith, common_steps); width = grind arith }
+-- so is a time alone
+pub time_alone : {date time offset moment : Bool} (n : ℕ) (old new : Vec ℕ Global) (c : Choices) (f : Facts)
+    → c.formatted_components ≡ components.Time → SuppliesParts c date time offset → Supplies date time offset moment f
+    → AppendsUpTo (iso_time_width c) old new (Ok n) (iso_time c (the_time f))
+    → AppendsUpTo (iso8601_width c) old new (Ok n) (iso8601_outcome c f)
+time_alone n old new c f e supplied groups h = grind (arith, common_steps)
 
--- a date and a time
-pub date_and_time : {date time offset moment : Bool} (c : Choices) (f : Facts) → c.formatted_components ≡ components.DateTime
-    → SuppliesParts c date time offset → Supplies date time offset moment f
-    → Gives c f (iso_date_width c + iso_time_width c) (join (iso_date c (the_date f)) (iso_time c (the_time f)))
-date_and_time c f e supplied groups = record { outcome = grind (arith, common_steps, append-nil); width = grind arith }
+-- so are a date and a time
+pub date_and_time : {date time offset moment : Bool} (found : Option ℕ) (old new : Vec ℕ Global) (c : Choices) (f : Facts)
+    → c.formatted_components ≡ components.DateTime → SuppliesParts c date time offset → Supplies date time offset moment f
+    → MatchOption found (new ≡ old) (λ n. AppendsUpTo (iso_date_width c + iso_time_width c) old new (Ok n)
+        (join (iso_date c (the_date f)) (iso_time c (the_time f))))
+    → MatchOption found (new ≡ old) (λ n. AppendsUpTo (iso8601_width c) old new (Ok n) (iso8601_outcome c f))
+date_and_time found old new c f e supplied groups h = grind (arith, common_steps, append-nil)
+
+-- what some of the parts are as a whole
+pub ruleset some_parts = (date_alone, time_alone, date_and_time)
 
 -- all three, by the choices of a usual text
 pub all_parts : {date time offset moment : Bool} (c : Choices) (f : Facts) (k : DateKind) (u : Usual) → c ≡ choices_of k u

@@ -212,6 +212,7 @@ fn write_by_way<V: ComponentProvider>(
 // Appends an unusual text by the function that the configuration decided, where nothing of the value is refused; else it
 // appends nothing.
 #[inline(always)]
+#[tactic(auto, using(crate::proofs::iso8601::PartsLemmas::some_parts))]
 fn write_unusual<V: ComponentProvider>(
     config: &Config,
     unusual: &Unusual,
