@@ -108,9 +108,12 @@ pub fn put_parts<S: Sink, V: ComponentProvider>(
     ensures real { OnOk result (IsRealWhole config.now (V.facts value.now)) }
     ensures agrees { V.agrees state.new value.now }
 {
-    if config.has_date() {
-        put_date(output, config, value, state)?;
-    }
+    let date = if config.has_date() {
+        put_date(output, config, value, state)
+    } else {
+        Ok(())
+    };
+    date?;
     if config.has_time() {
         let time = time_of(value, state);
         put_time::<S, false>(output, config, config.has_time_letter(), time);
