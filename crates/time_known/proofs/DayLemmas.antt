@@ -71,11 +71,6 @@ table_length = refl
 pub table_ascii : is_ascii DAYS.now ≡ true
 table_ascii = refl
 
--- lemmas for the calls that borrow parts of a row
-pub ruleset digits_of_days = (month_digits, day_digits, table_length, table_ascii)
-
-pub ruleset names_of_days = (name_letters, table_length, table_ascii)
-
 -- ---- days of the year
 
 -- the digits of the day, and those after a dash
@@ -105,8 +100,6 @@ ordinals_length = refl
 pub ordinals_ascii : is_ascii ORDINALS.now ≡ true
 ordinals_ascii = refl
 
-pub ruleset digits_of_ordinals = (ordinal_row, dashed_row, ordinals_length, ordinals_ascii)
-
 -- ---- common years
 
 -- each day of a year has the month and day of its day in a leap year
@@ -115,5 +108,3 @@ pub same_month_and_day : (is_leap : Bool) (ordinal : ℕ) → IsInRange 1 (if is
 unfolding days_of_months last_begun
 same_month_and_day true ordinal h = refl
 same_month_and_day false ordinal h = grind (arith, common_steps, same_below)
-
-pub ruleset days_of_years = (same_month_and_day)

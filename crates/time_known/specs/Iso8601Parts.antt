@@ -23,16 +23,10 @@ rest_text separator (rest.MonthAndDay d) = month_and_day_text separator (month_a
 rest_text separator (rest.WeekAndWeekday week weekday) = week_text separator week weekday
 rest_text separator (rest.DayOfYear day) = separator ++ zero_padded 3 day
 
-abbrev pub date_of_parts : Choices → DateParts → Outcome
-date_of_parts c d = join (iso_year c.year_is_six_digits d.year) (done (rest_text (separator c (codes "-")) d.rest))
-
 abbrev pub rest_width : ℕ → RestOfDate → ℕ
 rest_width separator (rest.MonthAndDay d) = 4 + 2 * separator
 rest_width separator (rest.WeekAndWeekday week weekday) = 4 + 2 * separator
 rest_width separator (rest.DayOfYear day) = 3 + separator
-
-abbrev pub date_parts_width : Choices → DateParts → ℕ
-date_parts_width c d = year_width c.year_is_six_digits + rest_width (length (separator c (codes "-"))) d.rest
 
 -- they are those of a date of the kind
 pub record AreOfDate (k : DateKind) (d : DateFacts) (p : DateParts) : Type 0 where

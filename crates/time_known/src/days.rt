@@ -102,7 +102,7 @@ pub enum CalendarDay {
 impl CalendarDay {
     /// The month and the day of a day of this year. None of them is computed: the table has both.
     #[inline(always)]
-    #[tactic(auto, using(crate::proofs::DayLemmas::days_of_years))]
+    #[tactic(auto, using(crate::proofs::DayLemmas::same_month_and_day))]
     pub fn in_year(year: Year, ordinal: Ordinal) -> CalendarDay
         requires { IsInRange 1 (days_in_year year) ordinal }
         ensures { month_and_day result ≡ month_and_day_in (is_leap_year year) ordinal }

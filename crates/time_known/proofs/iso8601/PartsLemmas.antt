@@ -6,73 +6,72 @@ use Rattle.std.proofs.lemmas.List.{append-nil}
 use Rattle.time_fmt.specs.Outcome.{AppendsUpTo, Outcome, join}
 use Rattle.time_fmt.specs.Sink.{Buffer}
 use Rattle.time_known.specs.Accepted.{PutsOutcome}
-use Rattle.time_known.specs.Config.{Choices, DateKind}
+use Rattle.time_known.specs.Config.{Choices, DateKind, has_date, has_time, has_offset}
 use Rattle.time_known.specs.Groups.{AreAllSupplied, at_groups}
-use Rattle.time_known.specs.Iso8601.{iso8601_outcome, iso_of_groups, iso_date, iso_time}
-use Rattle.time_known.specs.Iso8601Parts.{SuppliesParts, date_of_parts, date_parts_width, AreOfDate}
-use Rattle.time_known.specs.Iso8601Width.{iso8601_width, iso_date_width, iso_time_width}
+use Rattle.time_known.specs.Iso8601.{iso8601_outcome, iso_of_groups, iso_date, iso_time, iso_offset, part_if}
+use Rattle.time_known.specs.Iso8601Parts.{SuppliesParts}
+use Rattle.time_known.specs.Iso8601Width.{iso8601_width, iso_date_width, iso_time_width, iso_offset_width, width_if}
 use Rattle.time_provide.specs.Laws.{Supplies}
 use Rattle.time_known.specs.UsualText.{choices_of}
-use Rattle.time_known.specs.Values.{Facts, DateFacts, the_date, the_time}
+use Rattle.time_known.specs.Values.{Facts, the_date, the_time, the_offset}
 use Rattle.time_known.specs.declared.accepted.OutOfRange.{OutOfRange}
 use Rattle.time_known.specs.declared.iso8601.config.FormattedComponents.TheVariants as components
 use Rattle.time_known.specs.declared.iso8601.config.Usual.{Usual}
-use Rattle.time_known.specs.declared.iso8601.parts.DateParts.{DateParts}
-
--- ---- dates
-
--- the date's fields are put as the date
-pub by_date : {old new : Buffer} {answer : Result Unit OutOfRange} (c : Choices) (k : DateKind) (d : DateFacts) (p : DateParts)
-    → k ≡ c.date_kind → AreOfDate k d p → PutsOutcome (date_parts_width c p) old new answer (date_of_parts c p)
-    → PutsOutcome (iso_date_width c) old new answer (iso_date c d)
-by_date c k d p e parts h = grind arith
 
 -- ---- all parts
 
--- parts that are written give the outcome, where their groups are supplied
-pub put_by_choice : {width : ℕ} {old new : Buffer} {answer : Result Unit OutOfRange} {date time offset moment : Bool}
-    (c : Choices) (f : Facts) → c.formatted_components ≢ components.None → SuppliesParts c date time offset
-    → Supplies date time offset moment f → PutsOutcome width old new answer (at_groups (iso_of_groups c.formatted_components c) f)
-    → PutsOutcome width old new answer (iso8601_outcome c f)
-put_by_choice c f some supplied groups h = grind (arith, common_steps)
-
 -- three parts that are put, one after another, of which the last alone may be refused
-pub puts_three : {i j k : ℕ} {old mid last new : Buffer} {answer : Result Unit OutOfRange} {d t o : Outcome}
+puts_three : {i j k : ℕ} {old mid last new : Buffer} {answer : Result Unit OutOfRange} {d t o : Outcome}
     → PutsOutcome i old mid (Ok tt) d → PutsOutcome j mid last (Ok tt) t → PutsOutcome k last new answer o
     → PutsOutcome (i + j + k) old new answer (join d (join t o))
 puts_three p q r = grind (arith, common_steps, append_assoc, length-append)
 
+-- a part is put, if it is written
+abbrev PutsPart : Bool → ℕ → Buffer → Buffer → Result Unit OutOfRange → Outcome → Type 0
+PutsPart is_written width old new answer o = PutsOutcome (width_if is_written width) old new answer (part_if is_written o)
+
+-- where their groups are supplied, the parts give the outcome
+parts_are : {date time offset moment : Bool} (c : Choices) (f : Facts) → c.formatted_components ≢ components.None
+    → SuppliesParts c date time offset → Supplies date time offset moment f
+    → iso8601_outcome c f ≡ at_groups (iso_of_groups c.formatted_components c) f
+parts_are c f some supplied groups = grind (arith, common_steps)
+
+-- parts that are put as they are written give the outcome
+pub put_by_choice : {old mid last new : Buffer} {answer : Result Unit OutOfRange} {date time offset moment : Bool}
+    (c : Choices) (f : Facts) → c.formatted_components ≢ components.None → SuppliesParts c date time offset
+    → Supplies date time offset moment f
+    → PutsPart (has_date c.formatted_components) (iso_date_width c) old mid (Ok tt) (iso_date c (the_date f))
+    → PutsPart (has_time c.formatted_components) (iso_time_width c) mid last (Ok tt) (iso_time c (the_time f))
+    → PutsPart (has_offset c.formatted_components) (iso_offset_width c) last new answer (iso_offset c (the_offset f))
+    → PutsOutcome (iso8601_width c) old new answer (iso8601_outcome c f)
+put_by_choice c f some supplied groups p q r = rw (parts_are c f some supplied groups) (puts_three p q r)
+
 -- ---- some parts
 
--- what the choices give of a value, and the most bytes of it
-pub record Gives (c : Choices) (f : Facts) (most : ℕ) (o : Outcome) : Type 0 where
-  outcome : iso8601_outcome c f ≡ o
-  width : iso8601_width c ≡ most
-
--- what is appended of that, if anything, is appended of the whole text
-pub appended_whole : {k : ℕ} {o : Outcome} (found : Option ℕ) (old new : Vec ℕ Global) (c : Choices) (f : Facts) → Gives c f k o
-    → MatchOption found (new ≡ old) (λ n. AppendsUpTo k old new (Ok n) o)
-    → MatchOption found (new ≡ old) (λ n. AppendsUpTo (iso8601_width c) old new (Ok n) (iso8601_outcome c f))
-appended_whole found old new c f g h = rw (g.outcome, g.width) h
-
--- what is appended of a date alone is the whole text
+-- what is appended of a date alone, if anything, is the whole text
 pub date_alone : {date time offset moment : Bool} (found : Option ℕ) (old new : Vec ℕ Global) (c : Choices) (f : Facts)
     → c.formatted_components ≡ components.Date → SuppliesParts c date time offset → Supplies date time offset moment f
     → MatchOption found (new ≡ old) (λ n. AppendsUpTo (iso_date_width c) old new (Ok n) (iso_date c (the_date f)))
     → MatchOption found (new ≡ old) (λ n. AppendsUpTo (iso8601_width c) old new (Ok n) (iso8601_outcome c f))
-date_alone found old new c f e supplied groups =
-    appended_whole found old new c f (record { outcome = grind (arith, common_steps); width = grind arith })
+date_alone found old new c f e supplied groups h = grind (arith, common_steps)
 
--- a time alone
-pub time_alone : {date time offset moment : Bool} (c : Choices) (f : Facts) → c.formatted_components ≡ components.Time
-    → SuppliesParts c date time offset → Supplies date time offset moment f → Gives c f (iso_time_width c) (iso_time c (the_time f))
-time_alone c f e supplied groups = record { outcome = grind (arith, common_steps); width = grind arith }
+-- so is a time alone
+pub time_alone : {date time offset moment : Bool} (n : ℕ) (old new : Vec ℕ Global) (c : Choices) (f : Facts)
+    → c.formatted_components ≡ components.Time → SuppliesParts c date time offset → Supplies date time offset moment f
+    → AppendsUpTo (iso_time_width c) old new (Ok n) (iso_time c (the_time f))
+    → AppendsUpTo (iso8601_width c) old new (Ok n) (iso8601_outcome c f)
+time_alone n old new c f e supplied groups h = grind (arith, common_steps)
 
--- a date and a time
-pub date_and_time : {date time offset moment : Bool} (c : Choices) (f : Facts) → c.formatted_components ≡ components.DateTime
-    → SuppliesParts c date time offset → Supplies date time offset moment f
-    → Gives c f (iso_date_width c + iso_time_width c) (join (iso_date c (the_date f)) (iso_time c (the_time f)))
-date_and_time c f e supplied groups = record { outcome = grind (arith, common_steps, append-nil); width = grind arith }
+-- so are a date and a time
+pub date_and_time : {date time offset moment : Bool} (found : Option ℕ) (old new : Vec ℕ Global) (c : Choices) (f : Facts)
+    → c.formatted_components ≡ components.DateTime → SuppliesParts c date time offset → Supplies date time offset moment f
+    → MatchOption found (new ≡ old) (λ n. AppendsUpTo (iso_date_width c + iso_time_width c) old new (Ok n)
+        (join (iso_date c (the_date f)) (iso_time c (the_time f))))
+    → MatchOption found (new ≡ old) (λ n. AppendsUpTo (iso8601_width c) old new (Ok n) (iso8601_outcome c f))
+date_and_time found old new c f e supplied groups h = grind (arith, common_steps, append-nil)
+
+-- what some of the parts are as a whole
+pub ruleset some_parts = (date_alone, time_alone, date_and_time)
 
 -- all three, by the choices of a usual text
 pub all_parts : {date time offset moment : Bool} (c : Choices) (f : Facts) (k : DateKind) (u : Usual) → c ≡ choices_of k u

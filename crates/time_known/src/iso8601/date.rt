@@ -1,17 +1,16 @@
 //! The date of a text of ISO 8601-1:2019, section 5.2.
-ghost use Rattle.std.specs.Prelude.{◌≡◌, MatchOption, Ok, false, ◌+◌, ◌*◌, ◌++◌, length, unsigned_abs, true, IsTrue, not, ◌||◌};
+ghost use Rattle.std.specs.Prelude.{◌≡◌, MatchOption, Ok, false, ◌+◌, ◌*◌, ◌++◌, length, unsigned_abs, true, IsTrue};
 ghost use Rattle.time_below.specs.Facts.{the_date};
 ghost use Rattle.time_digits.specs.Digits.{zero_padded};
 ghost use Rattle.time_fmt.specs.Outcome.{AppendsUpTo};
 ghost use Rattle.time_fmt.specs.Room.{HasRoom};
 ghost use Rattle.time_fmt.specs.Sink.{Fits};
-ghost use Rattle.time_provide.specs.Real.{AgreesOnDate, AreFactsOfDate};
+ghost use Rattle.time_provide.specs.Real.{AgreesOnDate};
 ghost use Rattle.time_known.specs.Accepted.{PutsOutcome};
-ghost use Rattle.time_known.specs.Config.{has_date};
 ghost use Rattle.time_known.specs.Days.{dash};
-ghost use Rattle.time_known.specs.Iso8601.{iso_date, iso_year, part_if, week_text};
-ghost use Rattle.time_known.specs.Iso8601Parts.{date_of_parts, date_parts_width, rest_width, rest_text};
-ghost use Rattle.time_known.specs.Iso8601Width.{iso_date_width, width_if, year_width};
+ghost use Rattle.time_known.specs.Iso8601.{iso_date, iso_year, week_text};
+ghost use Rattle.time_known.specs.Iso8601Parts.{rest_width, rest_text};
+ghost use Rattle.time_known.specs.Iso8601Width.{iso_date_width, year_width};
 ghost use Rattle.time_known.specs.Sink.{PutsUpTo};
 
 use crate::accepted::OutOfRange;
@@ -111,35 +110,10 @@ fn put_short<S: Sink>(output: &mut S, year: ru16<0, 9_999>, rest: &RestOfDate, h
     put_rest(output, rest, has_dash);
 }
 
-// Puts the date, if it is formatted.
-#[inline(always)]
-pub(super) fn put_date_part<S: Sink, V: ComponentProvider>(
-    output: &mut S,
-    config: &Config,
-    value: &V,
-    state: &mut V::State,
-) -> Result<(), OutOfRange>
-    requires supplied { IsTrue (V.SUPPLIES_DATE || not (has_date config.now.formatted_components)) }
-    requires room { Fits (S.buffer output.old)
-        (width_if (has_date config.now.formatted_components) (iso_date_width config.now)) }
-    requires agrees { V.agrees state.old value.now }
-    ensures puts { PutsOutcome (width_if (has_date config.now.formatted_components) (iso_date_width config.now))
-        (S.buffer output.old) (S.buffer output.new) result
-        (part_if (has_date config.now.formatted_components) (iso_date config.now (the_date (V.facts value.now)))) }
-    ensures real { IsTrue (has_date config.now.formatted_components) → AreFactsOfDate (the_date (V.facts value.now)) }
-    ensures agrees { V.agrees state.new value.now }
-{
-    if config.has_date() {
-        put_date(output, config, value, state)
-    } else {
-        Ok(())
-    }
-}
-
 // Puts the value's date.
 #[inline(always)]
-#[tactic(auto, using(crate::proofs::iso8601::PartsLemmas::by_date))]
-fn put_date<S: Sink, V: ComponentProvider>(
+#[tactic(auto, using(crate::proofs::LengthLemmas::joined_lengths))]
+pub(super) fn put_date<S: Sink, V: ComponentProvider>(
     output: &mut S,
     config: &Config,
     value: &V,
@@ -153,20 +127,6 @@ fn put_date<S: Sink, V: ComponentProvider>(
     ensures agrees { AgreesOnDate (V.agrees state.new value.now) (V.facts value.now) }
 {
     let date = date_of(config.date_kind(), value, state);
-    put_date_parts(output, config, &date)
-}
-
-// Puts the year, and what follows it.
-#[inline(always)]
-fn put_date_parts<S: Sink>(
-    output: &mut S,
-    config: &Config,
-    date: &DateParts,
-) -> Result<(), OutOfRange>
-    requires room { Fits (S.buffer output.old) (date_parts_width config.now date.now) }
-    ensures puts { PutsOutcome (date_parts_width config.now date.now)
-        (S.buffer output.old) (S.buffer output.new) result (date_of_parts config.now date.now) }
-{
     put_year(output, date.year, config.year_is_six_digits())?;
     if config.use_separators() {
         put_rest(output, &date.rest, true);

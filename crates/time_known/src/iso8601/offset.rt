@@ -1,15 +1,13 @@
 //! The offset from UTC of a text of ISO 8601-1:2019, sections 5.3.3 and 5.3.4.
-ghost use Rattle.std.specs.Prelude.{IsTrue, not, ◌||◌};
+ghost use Rattle.std.specs.Prelude.{IsTrue};
 ghost use Rattle.time_below.specs.Facts.{the_offset};
-ghost use Rattle.time_below.specs.Offset.{IsOffset};
 ghost use Rattle.time_fmt.specs.Outcome.{AppendsUpTo};
 ghost use Rattle.time_fmt.specs.Room.{HasRoom};
 ghost use Rattle.time_fmt.specs.Sink.{Fits};
 ghost use Rattle.time_provide.specs.Real.{AgreesOnOffset};
 ghost use Rattle.time_known.specs.Accepted.{PutsOutcome};
-ghost use Rattle.time_known.specs.Config.{has_offset};
-ghost use Rattle.time_known.specs.Iso8601.{iso_offset, part_if};
-ghost use Rattle.time_known.specs.Iso8601Width.{iso_offset_width, width_if};
+ghost use Rattle.time_known.specs.Iso8601.{iso_offset};
+ghost use Rattle.time_known.specs.Iso8601Width.{iso_offset_width};
 
 use crate::accepted::OutOfRange;
 use crate::fields::offset_of;
@@ -42,7 +40,7 @@ pub fn format_offset<V: ComponentProvider>(
     let offset = offset_of(value);
     let mut taken = take_out(output);
     let begin = taken.len();
-    let answer = put_offset_by(&mut taken, config, offset);
+    let answer = put_offset(&mut taken, config, offset);
     let count = taken.len() - begin;
     put_back(output, taken);
     match answer {
@@ -51,33 +49,11 @@ pub fn format_offset<V: ComponentProvider>(
     }
 }
 
-// Puts the offset, if it is formatted.
-#[inline(always)]
-pub(super) fn put_offset_part<S: Sink, V: ComponentProvider>(
-    output: &mut S,
-    config: &Config,
-    value: &V,
-) -> Result<(), OutOfRange>
-    requires supplied { IsTrue (V.SUPPLIES_OFFSET || not (has_offset config.now.formatted_components)) }
-    requires room { Fits (S.buffer output.old)
-        (width_if (has_offset config.now.formatted_components) (iso_offset_width config.now)) }
-    ensures puts { PutsOutcome (width_if (has_offset config.now.formatted_components) (iso_offset_width config.now))
-        (S.buffer output.old) (S.buffer output.new) result
-        (part_if (has_offset config.now.formatted_components) (iso_offset config.now (the_offset (V.facts value.now)))) }
-    ensures real { IsTrue (has_offset config.now.formatted_components) → IsOffset (the_offset (V.facts value.now)) }
-{
-    if config.has_offset() {
-        put_offset_by(output, config, offset_of(value))
-    } else {
-        Ok(())
-    }
-}
-
 // Puts `Z` for UTC where there is a time, else the sign, the hours and the minutes. Where the configuration has no
 // minutes, they are refused unless zero.
 #[inline(always)]
 #[tactic(auto, using(crate::proofs::LengthLemmas::joined_lengths))]
-fn put_offset_by<S: Sink>(
+pub(super) fn put_offset<S: Sink>(
     output: &mut S,
     config: &Config,
     offset: UtcOffset,

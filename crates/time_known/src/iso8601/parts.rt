@@ -13,10 +13,11 @@ ghost use Rattle.time_known.specs.Ways.{FitsUnusual, FitsWay};
 
 use crate::accepted::OutOfRange;
 use crate::days::CalendarDay;
+use crate::fields::{offset_of, time_of};
 use crate::iso8601::config::{Config, DateKind, FormattedComponents, Unusual, Way};
-use crate::iso8601::date::{put_date_part, write_date_by};
-use crate::iso8601::offset::put_offset_part;
-use crate::iso8601::time::{put_time_part, write_time};
+use crate::iso8601::date::{put_date, write_date_by};
+use crate::iso8601::offset::put_offset;
+use crate::iso8601::time::{put_time, write_time};
 use crate::iso8601::usual_text::{write_usual, write_usual_week};
 use time_digits::ru8;
 use time_fmt::writers::{put_back, take_out};
@@ -107,9 +108,21 @@ pub fn put_parts<S: Sink, V: ComponentProvider>(
     ensures real { OnOk result (IsRealWhole config.now (V.facts value.now)) }
     ensures agrees { V.agrees state.new value.now }
 {
-    put_date_part(output, config, value, state)?;
-    put_time_part(output, config, value, state);
-    put_offset_part(output, config, value)
+    let date = if config.has_date() {
+        put_date(output, config, value, state)
+    } else {
+        Ok(())
+    };
+    date?;
+    if config.has_time() {
+        let time = time_of(value, state);
+        put_time::<S, false>(output, config, config.has_time_letter(), time);
+    }
+    if config.has_offset() {
+        put_offset(output, config, offset_of(value))
+    } else {
+        Ok(())
+    }
 }
 
 // Appends the parts that are formatted, of a value that supplies their groups. A configuration that
@@ -202,6 +215,7 @@ fn write_by_way<V: ComponentProvider>(
 // Appends an unusual text by the function that the configuration decided, where nothing of the value is refused; else it
 // appends nothing.
 #[inline(always)]
+#[tactic(auto, using(crate::proofs::iso8601::PartsLemmas::some_parts))]
 fn write_unusual<V: ComponentProvider>(
     config: &Config,
     unusual: &Unusual,

@@ -1,18 +1,16 @@
 //! The time of day of a text of ISO 8601-1:2019, section 5.3.
 #![tactic(auto, using(crate::proofs::LengthLemmas::joined_lengths))]
 
-ghost use Rattle.std.specs.Prelude.{◌≡◌, Ok, ◌+◌, ◌*◌, ◌<◌, ◌≤◌, ◌++◌, length, IsTrue, not, ◌||◌};
+ghost use Rattle.std.specs.Prelude.{◌≡◌, Ok, ◌+◌, ◌*◌, ◌<◌, ◌≤◌, ◌++◌, length, IsTrue};
 ghost use Rattle.time_below.specs.Facts.{the_time};
-ghost use Rattle.time_below.specs.TimeOfDay.{IsTimeOfDay};
 ghost use Rattle.time_fmt.specs.Decimals.{decimals};
 ghost use Rattle.time_fmt.specs.Outcome.{AppendsUpTo};
 ghost use Rattle.time_fmt.specs.Room.{HasRoom};
 ghost use Rattle.time_fmt.specs.Sink.{Fits, Puts};
 ghost use Rattle.time_provide.specs.Real.{AgreesOnTime};
-ghost use Rattle.time_known.specs.Accepted.{PutsOutcome};
-ghost use Rattle.time_known.specs.Config.{has_time, has_time_letter, separator};
-ghost use Rattle.time_known.specs.Iso8601.{iso_time, iso_time_text, decimal_part, part_if, units_text, nanoseconds_of_hour, nanoseconds_of_minute};
-ghost use Rattle.time_known.specs.Iso8601Width.{iso_time_width, decimal_part_width, units_width, width_if};
+ghost use Rattle.time_known.specs.Config.{has_time_letter, separator};
+ghost use Rattle.time_known.specs.Iso8601.{iso_time, iso_time_text, decimal_part, units_text, nanoseconds_of_hour, nanoseconds_of_minute};
+ghost use Rattle.time_known.specs.Iso8601Width.{iso_time_width, decimal_part_width, units_width};
 ghost use Rattle.time_known.specs.Sink.{PutsUpTo};
 ghost use Rattle.time_known.specs.WellKnown.{clock_text};
 
@@ -79,34 +77,10 @@ pub(super) fn write_time<V: ComponentProvider>(
     count
 }
 
-// Puts the time, if it is formatted.
-#[inline(always)]
-pub(super) fn put_time_part<S: Sink, V: ComponentProvider>(
-    output: &mut S,
-    config: &Config,
-    value: &V,
-    state: &mut V::State,
-)
-    requires supplied { IsTrue (V.SUPPLIES_TIME || not (has_time config.now.formatted_components)) }
-    requires room { Fits (S.buffer output.old)
-        (width_if (has_time config.now.formatted_components) (iso_time_width config.now)) }
-    requires agrees { V.agrees state.old value.now }
-    ensures puts { PutsOutcome (width_if (has_time config.now.formatted_components) (iso_time_width config.now))
-        (S.buffer output.old) (S.buffer output.new) (Ok tt)
-        (part_if (has_time config.now.formatted_components) (iso_time config.now (the_time (V.facts value.now)))) }
-    ensures real { IsTrue (has_time config.now.formatted_components) → IsTimeOfDay (the_time (V.facts value.now)) }
-    ensures agrees { V.agrees state.new value.now }
-{
-    if config.has_time() {
-        let time = time_of(value, state);
-        put_time::<S, false>(output, config, config.has_time_letter(), time);
-    }
-}
-
 // Puts the letter, where there is one, and the units. A time alone has a function of its own, since the compiler
 // inlines so large a one only where it is called once.
 #[inline(always)]
-fn put_time<S: Sink, const IS_ALONE: bool>(
+pub(super) fn put_time<S: Sink, const IS_ALONE: bool>(
     output: &mut S,
     config: &Config,
     has_letter: bool,

@@ -1,8 +1,16 @@
-use Rattle.time_known.proofs.iso8601.PartsLemmas.{put_by_choice, puts_three}
+use Rattle.std.proofs.Common.{arith}
+use Rattle.std.proofs.lemmas.Grind.{common_steps}
+use Rattle.time_known.proofs.iso8601.PartsLemmas.{put_by_choice}
 use Rattle.time_known.proofs.iso8601.parts.put_parts.Goals as goal
 
-pub returns-clause-puts : goal.returns-clause-puts
-returns-clause-puts g c =
-    put_by_choice c.args.config.now (g.V.ComponentProvider.facts c.args.value.now) c.requires.some c.requires.supplied
-    (g.met.V.ComponentProvider.groups c.args.value.now)
-    (puts_three c.in_ok-put_date_part.ensures.puts c.put_time_part.ensures.puts c.put_offset_part.ensures.puts)
+pub returns-then-has_offset-clause-puts : goal.returns-then-has_offset-clause-puts
+returns-then-has_offset-clause-puts g c =
+    put_by_choice {mid = g.S.Sink.buffer c.if-has_date.output} {last = g.S.Sink.buffer c.if-has_time.output} c.args.config.now
+    (g.V.ComponentProvider.facts c.args.value.now) c.requires.some c.requires.supplied (g.met.V.ComponentProvider.groups c.args.value.now)
+    (grind (arith, common_steps)) (grind (arith, common_steps)) (grind (arith, common_steps))
+
+pub returns-else-has_offset-clause-puts : goal.returns-else-has_offset-clause-puts
+returns-else-has_offset-clause-puts g c =
+    put_by_choice {mid = g.S.Sink.buffer c.if-has_date.output} {last = g.S.Sink.buffer c.if-has_time.output} c.args.config.now
+    (g.V.ComponentProvider.facts c.args.value.now) c.requires.some c.requires.supplied (g.met.V.ComponentProvider.groups c.args.value.now)
+    (grind (arith, common_steps)) (grind (arith, common_steps)) (grind (arith, common_steps))
