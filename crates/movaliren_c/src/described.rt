@@ -125,14 +125,12 @@ pub extern "C" fn movaliren_width(items: &[Item], texts: &[u8]) -> isize
 /// array first, so that the buffer is as it was where there is no text. A longer text is written again,
 /// once it is known that it is complete and fits.
 #[inline(always)]
-pub fn write_described<V: FirstState + Drop>(
+pub fn write_described<V: FirstState>(
     items: &[Item],
     texts: &[u8],
     value: Result<V, Reason>,
     room: &mut [u8],
 ) -> Result<usize, Reason>
-where
-    V::State: Drop,
     ensures text { IsDescribed texts.now items.now value V.facts result room.old room.new }
     ensures fits { IfOk result (λ count. count ≤ length room.old) }
 {
@@ -173,8 +171,6 @@ fn write_if_alone<B: Before, V: FirstState>(
     value: &V,
     room: &mut [u8],
 ) -> Option<usize>
-where
-    V::State: Drop,
     requires before { room.old ≡ B.before }
     ensures shown { IfSome result (λ count. IsShown (trees_of texts.now items.now) (V.facts value.now) (Ok count)
         room.old room.new) }
@@ -197,8 +193,6 @@ fn write_alone<B: Before, V: FirstState>(
     value: &V,
     room: &mut [u8],
 ) -> Option<usize>
-where
-    V::State: Drop,
     requires before { room.old ≡ B.before }
     requires five { length items.now ≡ 5 }
     ensures shown { IfSome result (λ count. IsShown (trees_of texts.now items.now) (V.facts value.now) (Ok count)
@@ -223,8 +217,6 @@ fn put_alone<S: Sink, V: FirstState>(
     output: &mut S,
     value: &V,
 ) -> bool
-where
-    V::State: Drop,
     requires five { length items.now ≡ 5 }
     ensures puts { IsTrue result → IsPut (as_one (trees_of texts.now items.now)) (V.facts value.now)
         (S.buffer output.old) (S.buffer output.new) (Ok 0) }
@@ -245,8 +237,6 @@ pub fn write_long<B: Before, V: FirstState>(
     value: &V,
     room: &mut [u8],
 ) -> Result<usize, Reason>
-where
-    V::State: Drop,
     requires before { room.old ≡ B.before }
     ensures { IsShown (trees_of texts.now items.now) (V.facts value.now) result room.old room.new }
 {
@@ -262,8 +252,6 @@ fn write_chosen<B: Before, V: FirstState>(
     value: &V,
     room: &mut [u8],
 ) -> Result<usize, Reason>
-where
-    V::State: Drop,
     requires before { room.old ≡ B.before }
     ensures { IsShown (trees_of texts.now items.now) (V.facts value.now) result room.old room.new }
 {
@@ -284,8 +272,6 @@ fn write_items<B: Before, V: FirstState, const HAS_RUNS: bool>(
     value: &V,
     room: &mut [u8],
 ) -> Result<usize, Reason>
-where
-    V::State: Drop,
     requires before { room.old ≡ B.before }
     ensures { IsShown (trees_of texts.now items.now) (V.facts value.now) result room.old room.new }
 {
@@ -303,8 +289,6 @@ fn put_items<S: Sink, V: FirstState, const HAS_RUNS: bool>(
     output: &mut S,
     value: &V,
 ) -> Result<usize, Reason>
-where
-    V::State: Drop,
     ensures puts { IsPut (as_one (trees_of texts.now items.now)) (V.facts value.now)
         (S.buffer output.old) (S.buffer output.new) result }
     ensures lender { IfOk result (λ _. (S.buffer output.new).block.lender ≡ (S.buffer output.old).block.lender) }

@@ -15,7 +15,7 @@ mod config;
 use crate::batch::{Progress, write_lines};
 use crate::moment::{Moment, UtcMoment};
 use crate::moment_text::{Format, answer_at, put_at_start, texts_of};
-use crate::reason::{Reason, answer_number, reason_for};
+use crate::reason::{Reason, answer_number};
 use crate::room::copy_text;
 use crate::source::{AtOffset, ByParts, InUtc, Source};
 use crate::writer::Writer;
@@ -69,13 +69,8 @@ fn separated_text(usual: &Usual, value: &OffsetDateTime) -> Result<SeparatedText
     ensures refused { IfErr result (λ r. IsRefusedFor r
         (iso8601_of (separated usual.now) value.now)) }
 {
-    match accepted_fields(0, 25, value, &mut DateState::default()) {
-        Ok(fields) => {
-            let usual = *usual;
-            Ok(SeparatedText { usual, fields })
-        }
-        Err(component) => Err(reason_for(component)),
-    }
+    let (usual, fields) = (*usual, accepted_fields(0, 25, value, &mut DateState::default())?);
+    Ok(SeparatedText { usual, fields })
 }
 
 /// The text of ISO 8601 by the default configuration.
@@ -152,10 +147,9 @@ impl<S: Source> Writer for Iso8601By<S> {
     #[tactic(auto, unfolding(crate::specs::Chosen::iso8601_by))]
     fn write(&self, item: &S::Item, room: &mut [u8]) -> Result<usize, Reason> {
         match separated_config_at(&self.config) {
-            Some(usual) if room.len() >= usual.width() => match self.source.value(item) {
-                Ok(value) => self.put_usual(&usual, &value, room),
-                Err(reason) => Err(reason),
-            },
+            Some(usual) if room.len() >= usual.width() => {
+                self.put_usual(&usual, &self.source.value(item)?, room)
+            }
             _ => self.write_by(item, room),
         }
     }
@@ -285,10 +279,8 @@ fn write_parts(config: &Config, value: &OffsetDateTime, room: &mut [u8]) -> Resu
     }
     let mut line = [0u8; MOST_BYTES];
     let _width = config.width();
-    match put_at_once::<Brand>(config, value, &mut line) {
-        Ok(count) => copy_text(&line[..count], room),
-        Err(reason) => Err(reason),
-    }
+    let count = put_at_once::<Brand>(config, value, &mut line)?;
+    copy_text(&line[..count], room)
 }
 
 /// Puts the parts at the start of a buffer that holds them, up to what is refused.
@@ -307,8 +299,6 @@ fn put_at_once<B: Before>(
     ensures len { length room.new ≡ length room.old }
 {
     let mut sink = RoomSink::<B>::new(room);
-    match put_parts(&mut sink, config, value, &mut DateState::default()) {
-        Ok(()) => Ok(sink.len()),
-        Err(component) => Err(reason_for(component)),
-    }
+    put_parts(&mut sink, config, value, &mut DateState::default())?;
+    Ok(sink.len())
 }

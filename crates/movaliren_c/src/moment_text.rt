@@ -58,10 +58,7 @@ impl<F: Format, S: Source> Writer for Texts<F, S> {
         if room.len() < F::WIDTH {
             return self.copy(item, room);
         }
-        match self.source.value(item) {
-            Ok(value) => self.put(&value, room),
-            Err(reason) => Err(reason),
-        }
+        self.put(&self.source.value(item)?, room)
     }
 }
 
@@ -73,10 +70,7 @@ impl<F: Format, S: Source> Texts<F, S> {
         requires room { F.WIDTH ≤ length room.old }
         ensures { IsWritten result (F.outcome self.now.format value.now) room.old room.new }
     {
-        match self.format.text(value) {
-            Ok(text) => Ok(put_at_start(&text, room)),
-            Err(reason) => Err(reason),
-        }
+        Ok(put_at_start(&self.format.text(value)?, room))
     }
 
     /// Writes the text of the item to the start of a buffer that may be too small.
