@@ -138,7 +138,12 @@ pub fn write_described<V: FirstState>(
         Ok(value) => value,
         Err(reason) => return Err(first_reason(items, texts, reason)),
     };
-    if let Some(count) = write_if_alone::<Brand, V>(items, texts, &value, room) {
+    let alone = if items.len() == 5 {
+        write_alone::<Brand, V>(items, texts, &value, room)
+    } else {
+        None
+    };
+    if let Some(count) = alone {
         return Ok(count);
     }
     let mut line = [0u8; SHORT];
@@ -162,28 +167,6 @@ pub fn first_reason(items: &[Item], texts: &[u8], reason: Reason) -> Reason
     }
 }
 
-/// Writes a date or a time of day to the start of a buffer, if the items are one, as `write_alone` does. Other items
-/// cost two instructions more.
-#[inline(always)]
-fn write_if_alone<B: Before, V: FirstState>(
-    items: &[Item],
-    texts: &[u8],
-    value: &V,
-    room: &mut [u8],
-) -> Option<usize>
-    requires before { room.old ≡ B.before }
-    ensures shown { IfSome result (λ count. IsShown (trees_of texts.now items.now) (V.facts value.now) (Ok count)
-        room.old room.new) }
-    ensures fits { IfSome result (λ count. count ≤ length room.old) }
-    ensures nothing { IfNone result (room.new ≡ room.old) }
-{
-    if items.len() == 5 {
-        write_alone::<B, V>(items, texts, value, room)
-    } else {
-        None
-    }
-}
-
 /// Writes a date or a time of day to the start of a buffer, if five items are one, the value has it and the longest
 /// fits. Returns the number of bytes, if it was written. Nothing of it is refused, so that it needs no array.
 #[inline(never)]
@@ -201,30 +184,12 @@ fn write_alone<B: Before, V: FirstState>(
     ensures nothing { IfNone result (room.new ≡ room.old) }
 {
     let mut output = RoomSink::<B>::new(room);
-    if put_alone::<RoomSink<'_, B>, V>(items, texts, &mut output, value) {
+    let mut state = value.first_state();
+    if write_run::<RoomSink<'_, B>, V, true>(items, texts, &mut output, value, &mut state) {
         Some(output.len())
     } else {
         None
     }
-}
-
-/// Writes a date or a time of day into a sink, if the items are one, the value has it and the longest fits.
-/// Returns whether it was written.
-#[inline(always)]
-fn put_alone<S: Sink, V: FirstState>(
-    items: &[Item],
-    texts: &[u8],
-    output: &mut S,
-    value: &V,
-) -> bool
-    requires five { length items.now ≡ 5 }
-    ensures puts { IsTrue result → IsPut (as_one (trees_of texts.now items.now)) (V.facts value.now)
-        (S.buffer output.old) (S.buffer output.new) (Ok 0) }
-    ensures lender { (S.buffer output.new).block.lender ≡ (S.buffer output.old).block.lender }
-    ensures nothing { IsFalse result → S.buffer output.new ≡ S.buffer output.old }
-{
-    let mut state = value.first_state();
-    write_run::<S, V, true>(items, texts, output, value, &mut state)
 }
 
 /// Writes the text of the items to the start of a buffer, or as much of it as fits, as `write_items` does, for

@@ -147,9 +147,10 @@ impl<S: Source> Writer for Iso8601By<S> {
     #[tactic(auto, unfolding(crate::specs::Chosen::iso8601_by))]
     fn write(&self, item: &S::Item, room: &mut [u8]) -> Result<usize, Reason> {
         match separated_config_at(&self.config) {
-            Some(usual) if room.len() >= usual.width() => {
-                self.put_usual(&usual, &self.source.value(item)?, room)
-            }
+            Some(usual) if room.len() >= usual.width() => match self.source.value(item) {
+                Ok(value) => self.put_usual(&usual, &value, room),
+                Err(reason) => Err(reason),
+            },
             _ => self.write_by(item, room),
         }
     }
@@ -279,8 +280,10 @@ fn write_parts(config: &Config, value: &OffsetDateTime, room: &mut [u8]) -> Resu
     }
     let mut line = [0u8; MOST_BYTES];
     let _width = config.width();
-    let count = put_at_once::<Brand>(config, value, &mut line)?;
-    copy_text(&line[..count], room)
+    match put_at_once::<Brand>(config, value, &mut line) {
+        Ok(count) => copy_text(&line[..count], room),
+        Err(reason) => Err(reason),
+    }
 }
 
 /// Puts the parts at the start of a buffer that holds them, up to what is refused.

@@ -134,7 +134,10 @@ pub fn local_parts_of(moment: &Moment) -> Result<LocalParts, Reason>
 pub fn local_parts_at(seconds: i64, nanosecond: u32, east: i64) -> Result<LocalParts, Reason>
     ensures { result ≡ local_value seconds nanosecond east }
 {
-    Ok(LocalParts::new(local_value(seconds, nanosecond, east)?))
+    match local_value(seconds, nanosecond, east) {
+        Ok(value) => Ok(LocalParts::new(value)),
+        Err(reason) => Err(reason),
+    }
 }
 
 /// The month and the day, if they are known, and what is kept of the week calendar.

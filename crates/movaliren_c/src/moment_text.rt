@@ -58,7 +58,10 @@ impl<F: Format, S: Source> Writer for Texts<F, S> {
         if room.len() < F::WIDTH {
             return self.copy(item, room);
         }
-        self.put(&self.source.value(item)?, room)
+        match self.source.value(item) {
+            Ok(value) => self.put(&value, room),
+            Err(reason) => Err(reason),
+        }
     }
 }
 
@@ -70,7 +73,10 @@ impl<F: Format, S: Source> Texts<F, S> {
         requires room { F.WIDTH ≤ length room.old }
         ensures { IsWritten result (F.outcome self.now.format value.now) room.old room.new }
     {
-        Ok(put_at_start(&self.format.text(value)?, room))
+        match self.format.text(value) {
+            Ok(text) => Ok(put_at_start(&text, room)),
+            Err(reason) => Err(reason),
+        }
     }
 
     /// Writes the text of the item to the start of a buffer that may be too small.

@@ -10,5 +10,5 @@ copied_whole : (answer : Result ℕ Reason) (o : Outcome) (bytes before after : 
     → o.refusal ≡ None → IsWritten answer (done bytes) before after → IsWritten answer o before after
 copied_whole answer o bytes before after same completed written = grind arith
 
-pub returns : goal.returns
-returns c = grind (arith, copied_whole, take_at)
+pub returns-in-Ok : goal.returns-in-Ok
+returns-in-Ok c = grind (arith, copied_whole, take_at)
