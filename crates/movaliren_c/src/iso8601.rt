@@ -69,7 +69,8 @@ fn separated_text(usual: &Usual, value: &OffsetDateTime) -> Result<SeparatedText
     ensures refused { IfErr result (λ r. IsRefusedFor r
         (iso8601_of (separated usual.now) value.now)) }
 {
-    let (usual, fields) = (*usual, accepted_fields(0, 25, value, &mut DateState::default())?);
+    let fields = accepted_fields(0, 25, value, &mut DateState::default())?;
+    let usual = *usual;
     Ok(SeparatedText { usual, fields })
 }
 
