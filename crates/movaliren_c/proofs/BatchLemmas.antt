@@ -4,26 +4,16 @@ use Rattle.std.proofs.Common.{Ok, Err, sym, ap, ◌∙◌, arith, length-append}
 use Rattle.std.proofs.lemmas.List.{take-append-drop}
 use Rattle.std.proofs.lemmas.Grind.{common_steps}
 use Rattle.std.proofs.lemmas.Option.{slice_get-get_or}
-use Rattle.movaliren_c.specs.Answer.{Explains, IsRefusedFor, IsText}
-use Rattle.movaliren_c.specs.Batch.{ended, Stand, Stops, StopsAt}
+use Rattle.movaliren_c.specs.Answer.{IsRefusedFor, IsText}
+use Rattle.movaliren_c.specs.Batch.{ended, Stand, StopsAt}
 use Rattle.movaliren_c.specs.declared.reason.Reason.{Reason}
-use Rattle.time_fmt.specs.Outcome.{Outcome, join, done}
+use Rattle.time_fmt.specs.Outcome.{Outcome, join}
 use Rattle.time_fmt.proofs.WriteLemmas.{join_done, join_refused, some_of}
-
--- what a reason says of it
-stopped_line : (v : Result Outcome Reason) (r : Reason) (before after : List ℕ)
-    → IsText v (Err r) before after → Stops r v (length before) × (after ≡ before)
-stopped_line v r before after h = grind (arith, common_steps)
 
 -- a buffer is unchanged if its front and the rest are
 same_room : (room later : List ℕ) (b : ℕ) → take b later ≡ take b room → drop b later ≡ drop b room → later ≡ room
 same_room room later b et ed = sym (take-append-drop b later) ∙ ap (λ x. x ++ drop b later) et ∙ ap
     (λ x. take b room ++ x) ed ∙ take-append-drop b room
-
--- the bytes after the lines are unchanged
-bytes_after_front : (front init room : List ℕ) (b : ℕ) → b ≡ length front → room ≡ front ++ drop b init
-    → drop b room ≡ drop b init
-bytes_after_front front init room b eb er = grind (arith, common_steps)
 
 -- the next item stops
 pub stops_at_item : {A : Type 0} (n : ℕ) (items : List A) (line : A → Result Outcome Reason) (bytes : ℕ)
@@ -32,7 +22,7 @@ pub stops_at_item : {A : Type 0} (n : ℕ) (items : List A) (line : A → Result
     → take bytes later ≡ take bytes room
     → Stand n items line bytes before later × StopsAt r n items line (length (drop bytes before))
 stops_at_item n items line bytes before room later item r inside is s h same =
-    grind (arith, stopped_line, same_room, bytes_after_front, slice_get-get_or)
+    grind (arith, common_steps, same_room, slice_get-get_or)
 
 -- ---- the byte that ends a text
 
@@ -61,13 +51,9 @@ ended_text asked n e most room mid h k l p = grind (arith, common_steps, in_fron
 pub refused_first : (a b : Outcome) (r : Reason) → IsRefusedFor r a → IsRefusedFor r (join a b)
 refused_first a b r h = grind (arith, some_of, join_refused)
 
--- the reason for no text is the reason for no text with an end, in a buffer of one byte more
-explains_ended : (r : Reason) (o : Outcome) (e room : ℕ) → Explains r o (room - 1)
-    → Explains r (join o (done (e ∷ []))) room
-explains_ended r o e room h = grind (arith, join_done, length-append, refused_first)
-
 -- a reason, and no end
 pub ended_stops : (asked : Result Outcome Reason) (r : Reason) (e most : ℕ) (room mid : List ℕ)
     → most ≡ length room - 1 → IsText asked (Err r) (take most room) (take most mid)
     → drop most mid ≡ drop most room → IsText (ended e asked) (Err r) room mid
-ended_stops asked r e most room mid h k l = grind (arith, common_steps, same_room, explains_ended)
+ended_stops asked r e most room mid h k l =
+    grind (arith, common_steps, same_room, join_done, length-append, refused_first)

@@ -5,7 +5,7 @@ use Rattle.std.specs.Prelude.{ℤ, pos, int_lt, is_some, unsigned_abs}
 use Rattle.std.proofs.Math.Seq.{take-append_seam}
 use Rattle.std.proofs.lemmas.Grind.{common_steps}
 use Rattle.std.proofs.lemmas.List.{append-nil, at_drop_more, at_drop_all, length-drop}
-use Rattle.movaliren_c.specs.Answer.{IsReasonFor, IsRefusedFor, IsText, Refuses}
+use Rattle.movaliren_c.specs.Answer.{IsReasonFor, IsRefusedFor, IsText}
 use Rattle.movaliren_c.specs.Items.{EndsItem, EndsRun, IsPut, IsShown, IsWithinWidth, PutsOrLoses, as_one, described, list_of, reason_before}
 use Rattle.movaliren_c.specs.Items.{first_part, run_before, second_part, third_part}
 use Rattle.movaliren_c.specs.Value.{with_value}
@@ -54,18 +54,12 @@ pub record Summed (greatest left : ℕ) (all others : Result (List Tree) Reason)
   pub same : with_value all (λ ts. Ok (min (trees_width (trees ts)) greatest)) ≡ with_value others (λ
       ts. Ok (greatest - (left - trees_width (trees ts))))
 
-summed_rest : (greatest left : ℕ) (t : Tree) (rest : Result (List Tree) Reason)
-    → with_value (with_value rest (λ others. Ok (t ∷ others))) (λ ts. Ok (greatest - (left - trees_width (trees ts))))
-    ≡ with_value rest (λ ts. Ok (greatest - (left - tree_width t - trees_width (trees ts))))
-summed_rest greatest left t rest = grind (arith, common_steps)
-
 -- one item more
 pub summed_more : {I : Type 0} (f : I → Result Tree Reason) (items : List I) (i : ℕ) (d : I) (t : Tree)
     (greatest left next : ℕ) (all : Result (List Tree) Reason) → i < length items → f (get_or items i d) ≡ Ok t
     → next ≡ left - tree_width t → Summed greatest left all (list_of (map f (drop i items)))
     → Summed greatest next all (list_of (map f (drop (i + 1) items)))
-summed_more f items i d t greatest left next all inside there is summed =
-    grind (arith, common_steps, next_there, summed_rest)
+summed_more f items i d t greatest left next all inside there is summed = grind (arith, common_steps, next_there)
 
 -- ---- texts
 
@@ -89,13 +83,9 @@ ended next f now new h = grind (arith, put_once)
 
 -- ---- texts, one after another
 
-longer_both : (old now new : Buffer) (lost more : ℕ) (a b : List ℕ) → PutsOrLoses old now lost a
-    → PutsOrLoses now new more b → 0 < lost + more → old.block.capacity < old.len + length a + length b
-longer_both old now new lost more a b h k l = grind arith
-
 put_both : (old now new : Buffer) (lost more total : ℕ) (a b : List ℕ) → PutsOrLoses old now lost a
     → PutsOrLoses now new more b → total ≡ min (lost + more) 0xffff_ffff_ffff_ffff → PutsOrLoses old new total (a ++ b)
-put_both old now new lost more total a b first second sum = grind (arith, common_steps, longer_both)
+put_both old now new lost more total a b first second sum = grind (arith, common_steps)
 
 width_joined : (a b : List Tree) → trees_width (trees (a ++ b)) ≡ trees_width (trees a) + trees_width (trees b)
 width_joined [] b = omega arith
@@ -123,13 +113,10 @@ pub record SoFar (agrees : Type 0) (old now : Buffer) (lost : ℕ) (f : Facts)
   pub begin : all ≡ with_value left (λ others. Ok (front ++ others))
   pub put : IsPut (Ok (all_of (trees front))) f old now (Ok lost)
 
-none_in_front : (all : Result (List Tree) Reason) → all ≡ with_value all (λ others. Ok ([] ++ others))
-none_in_front all = grind arith
-
 -- nothing was put before the first item
 pub nothing_so_far : {agrees : Type 0} (now : Buffer) (f : Facts) (all : Result (List Tree) Reason) → agrees
     → SoFar agrees now now 0 f all all
-nothing_so_far now f all state = grind (arith, none_in_front, put_once, append-nil)
+nothing_so_far now f all state = grind (arith, put_once, append-nil)
 
 further : (front next : List Tree) (behind : Result (List Tree) Reason)
     → with_value (with_value behind (λ others. Ok (next ++ others))) (λ others. Ok (front ++ others))
@@ -234,21 +221,11 @@ pub stops_here : {agrees : Type 0} {I : Type 0} (g : I → Result Tree Reason) (
 stops_here g items d next old now mid new lost f all r h k l p =
     grind (arith, common_steps, refused_of, next_there, next_not_there)
 
-reason_of_refused : (refused : Refused) (e : Format) (r : Reason) → Names e (refusal_of refused) → IsReasonFor r e
-    → Refuses r (refusal_of refused)
-reason_of_refused refused e r h k = grind (arith, common_steps)
-
 -- a refusal that is named ends an item
 pub ended_refused : (next : Result Tree Reason) (f : Facts) (now new : Buffer) (answer : Result Unit Refused)
     (refused : Refused) (e : Format) (r : Reason) → answer ≡ Err refused → EndsItem next f now new answer
     → Names e (refusal_of refused) → IsReasonFor r e → IsPut next f now new (Err r)
-ended_refused next f now new answer refused e r h k l p = grind (arith, reason_of_refused)
-
--- all items are there
-pub all_put : {agrees : Type 0} {I : Type 0} (g : I → Result Tree Reason) (items : List I) (old now : Buffer)
-    (lost : ℕ) (f : Facts) (all : Result (List Tree) Reason)
-    → length items < 1 → SoFar agrees old now lost f all (list_of (map g items)) → IsPut (as_one all) f old now (Ok lost)
-all_put g items old now lost f all none so_far = grind (arith, common_steps, at_drop_all, append-nil)
+ended_refused next f now new answer refused e r h k l p = grind (arith, common_steps)
 
 -- a date or a time of day that ended is all that the items are
 pub run_alone : {agrees : Type 0} {I : Type 0} (g : I → Result Tree Reason) (items : List I) (r : Run) (x y : ℕ)
@@ -256,19 +233,14 @@ pub run_alone : {agrees : Type 0} {I : Type 0} (g : I → Result Tree Reason) (i
     → list_of (map g items) ≡ with_value (list_of (map g (drop 5 items))) (λ others. Ok (run_before r x y others))
     → EndsRun r x y f old new → IsPut (as_one (list_of (map g items))) f old new (Ok 0)
 run_alone {agrees = agrees} g items r x y old new f state five begin ends =
-    grind (arith, common_steps, length-drop, all_put, run_more, nothing_so_far)
-
-written_whole : (lost : ℕ) (old new : Buffer) (text before after : List ℕ) → PutsOrLoses old new lost text
-    → old.bytes ≡ [] → old.len ≡ 0 → length before ≤ old.block.capacity → after ≡ new.bytes ++ drop (length new.bytes) before
-    → length text ≤ length before → after ≡ text ++ drop (length text) before
-written_whole lost old new text before after h k l p q r = grind arith
+    grind (arith, common_steps, length-drop, at_drop_all, append-nil, run_more, nothing_so_far)
 
 -- so they are shown at the start of the buffer
 pub put_shown : (all : Result (List Tree) Reason) (f : Facts) (lost count : ℕ) (old new : Buffer) (before after : List ℕ)
     → IsPut (as_one all) f old new (Ok lost) → count ≡ min (new.len + lost) 0xffff_ffff_ffff_ffff → old.bytes ≡ []
     → old.len ≡ 0 → length before ≤ old.block.capacity → after ≡ new.bytes ++ drop (length new.bytes) before
     → IsShown all f (Ok count) before after
-put_shown all f lost count old new before after h k l p q r = grind (arith, written_whole)
+put_shown all f lost count old new before after h k l p q r = grind arith
 
 -- ---- no text
 

@@ -1,6 +1,6 @@
 -- Lists in one another, one after the other.
 use Rattle.std.proofs.Common.{◌≡◌, ◌<◌, ◌+◌, ◌++◌, ℕ, Bool, true, List, [], ◌∷◌, length, Option, Some, None, Ok, refl, sym, ap, ◌∙◌, append_assoc, arith}
-use Rattle.std.specs.Prelude.{◌&&◌, IsTrue, nat_eq}
+use Rattle.std.specs.Prelude.{◌&&◌, IsTrue}
 use Rattle.std.proofs.lemmas.Bool.{eqb-true}
 use Rattle.std.proofs.lemmas.List.{append-nil}
 use Rattle.std.specs.Str.{is_utf8}
@@ -99,13 +99,10 @@ shown_more (f ∷ fs) a b is =
     let w = visible_by (hidden_at fs) (is_nil f.lists) (length fs) is in
     more_step fs f.lists f.items a b w.1 (λ x. shown_more fs x b w.0)
 
-outer_hidden : (o : Option ℕ) (here d : ℕ) → or_at o true here ≡ Some d → o ≡ Some d
-outer_hidden o here d h = grind (arith, common_steps)
-
 hidden_step : (fs : List Frame) (lists items a b : List Tree) (d : ℕ) → or_at (hidden_at fs) (is_nil lists) (length fs) ≡ Some d
     → ((x y : List Tree) → hidden_at fs ≡ Some d → shown_in fs x ≡ shown_in fs y)
     → shown_in fs (flat_items items ++ first_shown lists a) ≡ shown_in fs (flat_items items ++ first_shown lists b)
-hidden_step fs lists items a b d h k = grind (arith, common_steps, outer_hidden)
+hidden_step fs lists items a b d h k = grind (arith, common_steps)
 
 -- where one is not, they are not
 pub shown_hidden : (fs : List Frame) (a b : List Tree) (d : ℕ) → hidden_at fs ≡ Some d → shown_in fs a ≡ shown_in fs b
@@ -127,15 +124,9 @@ pub opened_hidden : (hidden : Option ℕ) (fs : List Frame) (f : Frame) (is_firs
     → or_at hidden is_first depth ≡ hidden_at (f ∷ fs)
 opened_hidden hidden fs f is_first depth same deep first = grind arith
 
-closed_place : (same : Bool) (d here : ℕ) → nat_eq d here ≡ same → (Some d ≡ Some here → ⊥) → closed_at (Some d) here ≡ Some d
-closed_place same d here h k = grind (arith, common_steps, eqb-true)
-
-closed_by : (o : Option ℕ) (first : Bool) (here : ℕ) → (o ≡ Some here → ⊥) → closed_at (or_at o first here) here ≡ o
-closed_by o first here h = grind (arith, common_steps, closed_place)
-
 pub closed_hidden : (fs : List Frame) (f : Frame) (hidden : Option ℕ) (depth : ℕ) → hidden ≡ hidden_at (f ∷ fs) → depth ≡ length fs
     → closed_at hidden depth ≡ hidden_at fs
-closed_hidden fs f hidden depth same deep = grind (arith, closed_by, hidden_below)
+closed_hidden fs f hidden depth same deep = grind (arith, common_steps, eqb-true, hidden_below)
 
 list_closed : (fs : List Frame) (lists items inner : List Tree)
     → shown_in fs (flat_items items ++ first_shown lists (flat_items inner))
@@ -146,13 +137,9 @@ pub closed_shown : (fs : List Frame) (f : Frame) (inner : List Tree)
     → shown_in (f ∷ fs) (flat_items inner) ≡ shown_in fs (flat_items f.items ++ first_shown (f.lists ++ all_of (trees inner) ∷ []) [])
 closed_shown fs f inner = list_closed fs f.lists f.items inner
 
--- the item that brackets are
-item_shown : (nest : Nest) (lists : List Tree) (left : ℕ) (item : Tree) → nested nest lists left ≡ Ok item → first_shown lists [] ≡ flat item
-item_shown nest lists left item h = grind (arith, common_steps)
-
 pub ended_shown : (fs : List Frame) (nest : Nest) (items lists : List Tree) (left : ℕ) (item : Tree) → nested nest lists left ≡ Ok item
     → shown_in fs (flat_items items ++ first_shown lists []) ≡ shown_in fs (flat_items (items ++ item ∷ []))
-ended_shown fs nest items lists left item is = grind (arith, item_shown, append-nil, flat_more)
+ended_shown fs nest items lists left item is = grind (arith, common_steps, append-nil, flat_more)
 
 pub begun_shown : (fs : List Frame) (items : List Tree) → shown_in fs (flat_items items) ≡ shown_in fs (flat_items items ++ first_shown [] [])
 begun_shown fs items = ap (shown_in fs) (sym (append-nil (flat_items items)))

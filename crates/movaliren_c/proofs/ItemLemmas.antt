@@ -1,6 +1,6 @@
 -- Items of a text, in an array and in what they show.
 use Rattle.std.proofs.Common.{◌≡◌, ◌<◌, ◌≤◌, ◌+◌, ◌++◌, ℕ, min, Bool, true, false, List, [], ◌∷◌, length, take, set, Option, None, is_some, Result, Ok, Err, refl, sym, ap, ◌∙◌, subst, arith, ne_eqb}
-use Rattle.std.specs.Prelude.{IsTrue, nat_le, slice_range, ◌==◌, ◌≢◌}
+use Rattle.std.specs.Prelude.{IsTrue, slice_range, ◌==◌, ◌≢◌}
 use Rattle.std.specs.Str.{is_utf8}
 use Rattle.std.proofs.lemmas.Bool.{le-leb, leb-true, leb-false}
 use Rattle.std.proofs.lemmas.List.{append-nil, length-append, take_more_set}
@@ -154,14 +154,11 @@ brackets_faulty text reason index says = grind arith
 
 -- ---- items in open lists
 
-none_there : (o : Option ℕ) → is_some o ≡ false → o ≡ None
-none_there o h = grind (arith, common_steps)
-
 -- one item more is shown where each list is the first in its brackets
 pub put_shown : (text : List ℕ) (fs : List Frame) (new : List Item) (total : ℕ) (hidden : Option ℕ) (items : List Tree) (t : Tree) → is_some hidden ≡ false → flat t ≡ t ∷ []
     → hidden ≡ hidden_at fs → HoldsItems text new total (shown_in fs (flat_items items) ++ t ∷ []) → HoldsIn text fs new total hidden (items ++ t ∷ [])
 put_shown text fs new total hidden items t some leaf kept more =
-    grind (arith, flat_more, append-nil, shown_more, none_there)
+    grind (arith, common_steps, flat_more, append-nil, shown_more)
 
 -- and makes no difference where one is not
 pub put_hidden : (text : List ℕ) (fs : List Frame) (array : List Item) (count : ℕ) (hidden : Option ℕ) (items : List Tree) (t : Tree) → is_some hidden ≡ true
@@ -192,13 +189,9 @@ counted_leaves text array count hidden all leaves holds = grind (arith, leaves_f
 
 -- ---- what a call leaves
 
-complete_by : (fits : Bool) (text : List ℕ) (all : List Tree) (array : List Item) (count : ℕ) (old : Fault) → nat_le (length all) (length array) ≡ fits
-    → count ≡ length all → count ≤ length array → AreItems text (take (length all) array) all → LeavesItems fits text all (Ok count) array old old
-complete_by fits text all array count old h k l p = grind (arith, common_steps, describes, leb-false)
-
 pub left_complete : (text : List ℕ) (d : Result (List Tree) Fault) (array : List Item) (count : ℕ) (old : Fault) → IsHeld text d array count
     → count ≤ length array → length array < 0xffff_ffff_ffff_ffff → Leaves text d (Ok count) array old old
-left_complete text d array count old held le bound = grind (arith, complete_by)
+left_complete text d array count old held le bound = grind (arith, common_steps, describes, leb-false)
 
 -- ---- a text that is formatted at once
 
@@ -208,37 +201,23 @@ same_by : {A : Type 0} (description all : List Tree) (value : Result A Reason) (
 same_by description all (Ok v) facts same = ap Ok (sym (same (facts v)))
 same_by description all (Err r) facts same = refl
 
-given_by : {A : Type 0} (fits : Bool) (text : List ℕ) (all : List Tree) (count room most : ℕ) (items : List Item) (old new : Fault) (value : Result A Reason)
-    (facts : A → Facts) → room ≤ most → nat_le (length all) room ≡ fits → LeavesItems fits text all (Ok count) items old new
-    → described (few_in most (Ok all)) value facts ≡ described (trees_of text (take count items)) value facts
-given_by fits text all count room most items old new value facts h k l = grind (arith, common_steps, leb-true, le-leb, same_by)
-
--- the items give what the text does, of which there may be more than the array has room for
-text_given : {A : Type 0} (text : List ℕ) (d : Result (List Tree) Fault) (count most : ℕ) (items : List Item) (old new : Fault) (value : Result A Reason)
-    (facts : A → Facts) → length items ≤ most → Leaves text d (Ok count) items old new
-    → described (few_in most d) value facts ≡ described (trees_of text (take count items)) value facts
-text_given text d count most items old new value facts h k = grind (arith, given_by)
-
 -- so a text of the items is one of the text
 pub text_shown : {A : Type 0} (text : List ℕ) (d : Result (List Tree) Fault) (count most : ℕ) (items : List Item) (old new : Fault)
     (value : Result A Reason) (facts : A → Facts) (answer : Result ℕ Reason) (before after : List ℕ) → length items ≤ most
     → Leaves text d (Ok count) items old new
     → IsText (described (trees_of text (take count items)) value facts) answer before after
     → IsText (described (few_in most d) value facts) answer before after
-text_shown text d count most items old new value facts answer before after small h = grind (arith, text_given)
+text_shown text d count most items old new value facts answer before after small h =
+    grind (arith, common_steps, leb-true, le-leb, same_by)
 
 many_only : (fits : Bool) (text : List ℕ) (all : List Tree) (r : Reason) (items : List Item) (old new : Fault)
     → LeavesItems fits text all (Err r) items old new → r ≡ reason.ManyItems
 many_only fits text all r items old new h = grind (arith, common_steps)
 
-refused_by : (fits : Bool) (text : List ℕ) (all : List Tree) (r : Reason) (room : ℕ) (items : List Item) (old new : Fault) → nat_le (length all) room ≡ fits
-    → LeavesItems fits text all (Err r) items old new → few_in room (Ok all) ≡ Err r
-refused_by fits text all r room items old new h k = grind (arith, common_steps, many_only)
-
 -- or there is the same reason for none
 pub text_refused : (text : List ℕ) (d : Result (List Tree) Fault) (r : Reason) (items : List Item) (old new : Fault) → Leaves text d (Err r) items old new
     → few_in (length items) d ≡ Err r
-text_refused text d r items old new h = grind (arith, common_steps, refused_by)
+text_refused text d r items old new h = grind (arith, common_steps, many_only)
 
 -- a fault is the same, however many items there may be
 pub text_faulty : (text : List ℕ) (d : Result (List Tree) Fault) (r : Reason) (most : ℕ) (items : List Item) (old new : Fault)

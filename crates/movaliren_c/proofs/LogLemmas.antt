@@ -7,11 +7,11 @@ use Rattle.std.proofs.lemmas.Int.{to_z-of_z}
 use Rattle.std.proofs.Math.ListN.{length-take}
 use Rattle.std.proofs.lemmas.List.{append-nil, drop-drop, drop_all, drop_at, take-append-drop, take_all, take_at}
 use Rattle.std.specs.Prelude.{codes}
-use Rattle.movaliren_c.specs.Answer.{IsAnswer, IsWritten, answer_number, gives}
+use Rattle.movaliren_c.specs.Answer.{IsAnswer, IsWritten, answer_number}
 use Rattle.movaliren_c.specs.Chosen.{iso8601_by}
 use Rattle.movaliren_c.specs.Log.{Remembers, head_of, log_choices, log_config}
-use Rattle.movaliren_c.specs.Utc.{local_there, local_value}
-use Rattle.movaliren_c.specs.Value.{checked, timestamp_value, with_value}
+use Rattle.movaliren_c.specs.Utc.{local_value}
+use Rattle.movaliren_c.specs.Value.{checked, timestamp_value}
 use Rattle.movaliren_c.specs.declared.reason.Reason.{Reason}
 use Rattle.movaliren_c.specs.declared.reason.Reason.TheVariants as reason
 use Rattle.time_below.specs.Facts.{date_facts}
@@ -39,21 +39,11 @@ there : (b : Bool) (s : ℤ) (m n : ℕ) (o : Offset) (v : OffsetDateAndTime)
     → checked b reason.NoPlaceForYear (Ok (local_at (record { seconds = s; nanosecond = n }) o)) ≡ Ok (at n v)
 there b s m n o v h = grind (arith, common_steps)
 
-at_offset : (e : Result Offset Reason) (s : ℤ) (m n : ℕ) (v : OffsetDateAndTime)
-    → with_value e (λ o. local_there (record { seconds = s; nanosecond = m }) o) ≡ Ok v
-    → with_value e (λ o. local_there (record { seconds = s; nanosecond = n }) o) ≡ Ok (at n v)
-at_offset e s m n v h = grind (arith, common_steps, there)
-
-in_years : (b : Bool) (e : Result Offset Reason) (s : ℤ) (m n : ℕ) (v : OffsetDateAndTime)
-    → with_value (checked b reason.MomentSeconds (Ok (record { seconds = s; nanosecond = m }))) (λ i. with_value e (λ o. local_there i o)) ≡ Ok v
-    → with_value (checked b reason.MomentSeconds (Ok (record { seconds = s; nanosecond = n }))) (λ i. with_value e (λ o. local_there i o)) ≡ Ok (at n v)
-in_years b e s m n v h = grind (arith, common_steps, at_offset)
-
 -- the value of each moment of a second that has one
 later : (s east : ℤ) (n : ℕ) (v : OffsetDateAndTime) → local_value s 0 east ≡ Ok v → n < 1_000_000_000
     → local_value s n east ≡ Ok (at n v)
 unfolding local_value timestamp_value
-later s east n v h small = grind (arith, lt-ltb, in_years)
+later s east n v h small = grind (arith, common_steps, lt-ltb, there)
 
 -- ---- texts of one second
 
@@ -85,20 +75,15 @@ kept_bytes s o before after head zone n k small low remembers long first last = 
 
 -- ---- what is written
 
--- the configurations of three, six and nine decimals
-chosen : (d : ℕ) (value : Result OffsetDateAndTime Reason) → (d ≡ 3) ⊎ ((d ≡ 6) ⊎ (d ≡ 9))
-    → iso8601_by (log_config d) value ≡ gives value (iso8601_of (log_choices d))
-unfolding iso8601_by
-chosen d value h = grind (arith, common_steps)
-
 -- what is kept is the text of a moment of its second
 pub kept_text : (d n : ℕ) (second seconds kept offset : ℤ) (before after bytes : List ℕ) (answer : Result ℕ Reason)
     (number : ℤ) (old new : List ℕ) → Remembers second kept before after → second ≡ seconds → kept ≡ offset → n < 1_000_000_000
     → (d ≡ 3) ⊎ ((d ≡ 6) ⊎ (d ≡ 9)) → number ≡ answer_number answer → bytes ≡ decimals n 1_000_000_000 d
     → IsWritten answer (done (before ++ bytes ++ after)) old new
     → IsAnswer (iso8601_by (log_config d) (local_value seconds n offset)) number old new
+unfolding iso8601_by
 kept_text d n second seconds kept offset before after bytes answer number old new remembers same there small few is digits written =
-    grind (arith, chosen, there)
+    grind (arith, common_steps, there)
 
 -- a piece is all of its bytes
 pub whole_piece : (n : ℕ) (xs : List ℕ) → length xs ≡ n → take n xs ≡ xs

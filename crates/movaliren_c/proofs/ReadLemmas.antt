@@ -1,14 +1,13 @@
 -- The parts of a value give that value.
-use Rattle.std.proofs.Common.{T, ◌≡◌, ℕ, suc, ℤ, pos, Bool, true, false, refl, subst, ◌≤◌, Result, Ok, arith}
-use Rattle.std.specs.Prelude.{◌&&◌, ◌<ℤ◌, ◌≤ℤ◌, unsigned_abs}
+use Rattle.std.proofs.Common.{◌≡◌, ℕ, ℤ, pos, Bool, true, refl, subst, Result, Ok, arith}
+use Rattle.std.specs.Prelude.{◌&&◌}
 use Rattle.std.proofs.lemmas.Bool.Decides.{nat_tests}
-use Rattle.std.specs.Int.{IsInRange}
 use Rattle.std.proofs.lemmas.Bool.{and_parts, le-leb, leb-true, lt-ltb}
 use Rattle.movaliren_c.specs.Known.{IsDayOf, offset_of_parts, time_of_parts}
-use Rattle.movaliren_c.specs.Value.{checked, date_value, is_alike, is_offset_part, moment_value, offset_value, time_value}
+use Rattle.movaliren_c.specs.Value.{checked, date_value, moment_value, offset_value, time_value}
 use Rattle.movaliren_c.specs.declared.moment.Moment.{Moment}
 use Rattle.movaliren_c.specs.declared.reason.Reason.{Reason}
-use Rattle.time_below.specs.Calendar.{IsDate, IsDayOfMonth, IsYear, OrdinalDate, date_of, day_of, month_of}
+use Rattle.time_below.specs.Calendar.{IsDate, OrdinalDate, day_of, month_of}
 use Rattle.time_below.specs.Moment.{OffsetDateAndTime}
 use Rattle.time_below.specs.Offset.{HasNoOtherSign, IsOffset, Offset}
 use Rattle.time_below.specs.TimeOfDay.{IsTimeOfDay, TimeOfDay}
@@ -22,52 +21,20 @@ go test r rest h = rw h refl
 both : (a b : Bool) → a ≡ true → b ≡ true → (a && b) ≡ true
 both a b x y = rw (x, y) refl
 
--- ---- dates and times
-
-date_given : (y : ℤ) (m d : ℕ) → IsYear y → IsInRange 1 12 m → IsDayOfMonth y m d → date_value y m d ≡ Ok (date_of y m d)
-unfolding date_value
-date_given y m d year month day = grind (arith, go, le-leb, both)
-
-date_by_parts : (d : OrdinalDate) → IsDate d → date_value d.year (month_of d) (day_of d) ≡ Ok d
-date_by_parts d real = grind (arith, date_given, month_of_date, day_of_date, date_of-month_and_day)
-
-time_given : (m : Moment) (t : TimeOfDay) → time_of_parts m ≡ t → IsTimeOfDay t → time_value m ≡ Ok t
-time_given m t is real = grind (arith, go, lt-ltb)
-
--- ---- offsets
-
-not_below : (n m : ℕ) → is_alike (pos (suc n)) (pos m) ≡ true
-not_below n m = grind (arith, nat_tests)
-
-is_above : (n : ℕ) → pos 0 <ℤ pos (suc n)
-is_above n = grind (arith, nat_tests)
-
-false_from_T : (b : Bool) → b ≡ false → T b → ⊥
-false_from_T b h k = grind (arith, common_steps)
-
-not_under : (m : ℕ) → pos (suc m) ≤ℤ pos 0 → ⊥
-not_under m h = grind (arith, nat_tests, false_from_T)
-
-alike : (a b : ℤ) → HasNoOtherSign a b → is_alike a b ≡ true
-alike a b h = grind (arith, common_steps, not_below, is_above, not_under)
-
-part_given : (greatest : ℕ) (a b part : ℤ) → unsigned_abs part ≤ greatest → HasNoOtherSign a part → HasNoOtherSign b part
-    → is_offset_part greatest a b part ≡ true
-part_given greatest a b part size first second = grind (arith, both, le-leb, alike)
+-- ---- a value of parts
 
 of_zero : (x : ℤ) → HasNoOtherSign (pos 0) x
 of_zero x = (λ above. absurd above.lt, λ below. absurd below.lt)
 
 pub offset_given : (m : Moment) (o : Offset) → offset_of_parts m ≡ o → IsOffset o → offset_value m ≡ Ok o
-offset_given m o is real = grind (arith, common_steps, part_given, of_zero, go)
-
--- ---- values
+offset_given m o is real = grind (arith, common_steps, both, le-leb, nat_tests, of_zero, go)
 
 pub value_of_parts : (m : Moment) (v : OffsetDateAndTime) → m.year ≡ v.date.year → m.month ≡ month_of v.date
     → m.day ≡ day_of v.date → time_of_parts m ≡ v.time → offset_of_parts m ≡ v.offset → IsDate v.date
     → IsTimeOfDay v.time → IsOffset v.offset → moment_value m ≡ Ok v
-unfolding moment_value
-value_of_parts m v p q r time offset is_date is_time is_offset = grind (arith, date_by_parts, time_given, offset_given)
+unfolding moment_value date_value
+value_of_parts m v p q r time offset is_date is_time is_offset =
+    grind (arith, le-leb, both, month_of_date, day_of_date, date_of-month_and_day, go, lt-ltb, offset_given)
 
 -- ---- the parts of a local date and time
 

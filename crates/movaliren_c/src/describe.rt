@@ -130,13 +130,11 @@ fn describe<S: Syntax>(text: &[u8], items: &mut [Item], fault: &mut Fault) -> Re
 
 /// Writes the text of the value by the description that another text is.
 #[tactic(auto, using(crate::proofs::ItemLemmas::text_shown, crate::proofs::ItemLemmas::text_faulty, std::proofs::lemmas::Grind::common_steps))]
-fn write_text<S: Syntax, V: FirstState + Drop>(
+fn write_text<S: Syntax, V: FirstState>(
     text: &[u8],
     value: Result<V, Reason>,
     room: &mut [u8],
 ) -> Result<usize, Reason>
-where
-    V::State: Drop,
     ensures text { IsText (described (few (S.described text.now)) value V.facts) result room.old room.new }
     ensures fits { IfOk result (λ count. count ≤ length room.old) }
 {
@@ -153,20 +151,16 @@ where
 #[cold]
 #[inline(never)]
 #[tactic(auto, using(crate::proofs::ItemLemmas::text_shown, crate::proofs::ItemLemmas::text_refused, std::proofs::lemmas::Grind::common_steps))]
-fn write_many<S: Syntax, V: FirstState + Drop>(
+fn write_many<S: Syntax, V: FirstState>(
     text: &[u8],
     value: Result<V, Reason>,
     room: &mut [u8],
 ) -> Result<usize, Reason>
-where
-    V::State: Drop,
     ensures text { IsText (described (few (S.described text.now)) value V.facts) result room.old room.new }
     ensures fits { IfOk result (λ count. count ≤ length room.old) }
 {
     let mut all = [NO_ITEM; FEW];
     let mut fault = Fault::many(0);
-    match describe::<S>(text, &mut all, &mut fault) {
-        Ok(count) => write_described(&all[..count], text, value, room),
-        Err(reason) => Err(reason),
-    }
+    let count = describe::<S>(text, &mut all, &mut fault)?;
+    write_described(&all[..count], text, value, room)
 }

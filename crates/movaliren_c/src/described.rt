@@ -125,14 +125,12 @@ pub extern "C" fn movaliren_width(items: &[Item], texts: &[u8]) -> isize
 /// array first, so that the buffer is as it was where there is no text. A longer text is written again,
 /// once it is known that it is complete and fits.
 #[inline(always)]
-pub fn write_described<V: FirstState + Drop>(
+pub fn write_described<V: FirstState>(
     items: &[Item],
     texts: &[u8],
     value: Result<V, Reason>,
     room: &mut [u8],
 ) -> Result<usize, Reason>
-where
-    V::State: Drop,
     ensures text { IsDescribed texts.now items.now value V.facts result room.old room.new }
     ensures fits { IfOk result (λ count. count ≤ length room.old) }
 {
@@ -140,7 +138,12 @@ where
         Ok(value) => value,
         Err(reason) => return Err(first_reason(items, texts, reason)),
     };
-    if let Some(count) = write_if_alone::<Brand, V>(items, texts, &value, room) {
+    let alone = if items.len() == 5 {
+        write_alone::<Brand, V>(items, texts, &value, room)
+    } else {
+        None
+    };
+    if let Some(count) = alone {
         return Ok(count);
     }
     let mut line = [0u8; SHORT];
@@ -164,30 +167,6 @@ pub fn first_reason(items: &[Item], texts: &[u8], reason: Reason) -> Reason
     }
 }
 
-/// Writes a date or a time of day to the start of a buffer, if the items are one, as `write_alone` does. Other items
-/// cost two instructions more.
-#[inline(always)]
-fn write_if_alone<B: Before, V: FirstState>(
-    items: &[Item],
-    texts: &[u8],
-    value: &V,
-    room: &mut [u8],
-) -> Option<usize>
-where
-    V::State: Drop,
-    requires before { room.old ≡ B.before }
-    ensures shown { IfSome result (λ count. IsShown (trees_of texts.now items.now) (V.facts value.now) (Ok count)
-        room.old room.new) }
-    ensures fits { IfSome result (λ count. count ≤ length room.old) }
-    ensures nothing { IfNone result (room.new ≡ room.old) }
-{
-    if items.len() == 5 {
-        write_alone::<B, V>(items, texts, value, room)
-    } else {
-        None
-    }
-}
-
 /// Writes a date or a time of day to the start of a buffer, if five items are one, the value has it and the longest
 /// fits. Returns the number of bytes, if it was written. Nothing of it is refused, so that it needs no array.
 #[inline(never)]
@@ -197,8 +176,6 @@ fn write_alone<B: Before, V: FirstState>(
     value: &V,
     room: &mut [u8],
 ) -> Option<usize>
-where
-    V::State: Drop,
     requires before { room.old ≡ B.before }
     requires five { length items.now ≡ 5 }
     ensures shown { IfSome result (λ count. IsShown (trees_of texts.now items.now) (V.facts value.now) (Ok count)
@@ -207,32 +184,12 @@ where
     ensures nothing { IfNone result (room.new ≡ room.old) }
 {
     let mut output = RoomSink::<B>::new(room);
-    if put_alone::<RoomSink<'_, B>, V>(items, texts, &mut output, value) {
+    let mut state = value.first_state();
+    if write_run::<RoomSink<'_, B>, V, true>(items, texts, &mut output, value, &mut state) {
         Some(output.len())
     } else {
         None
     }
-}
-
-/// Writes a date or a time of day into a sink, if the items are one, the value has it and the longest fits.
-/// Returns whether it was written.
-#[inline(always)]
-fn put_alone<S: Sink, V: FirstState>(
-    items: &[Item],
-    texts: &[u8],
-    output: &mut S,
-    value: &V,
-) -> bool
-where
-    V::State: Drop,
-    requires five { length items.now ≡ 5 }
-    ensures puts { IsTrue result → IsPut (as_one (trees_of texts.now items.now)) (V.facts value.now)
-        (S.buffer output.old) (S.buffer output.new) (Ok 0) }
-    ensures lender { (S.buffer output.new).block.lender ≡ (S.buffer output.old).block.lender }
-    ensures nothing { IsFalse result → S.buffer output.new ≡ S.buffer output.old }
-{
-    let mut state = value.first_state();
-    write_run::<S, V, true>(items, texts, output, value, &mut state)
 }
 
 /// Writes the text of the items to the start of a buffer, or as much of it as fits, as `write_items` does, for
@@ -245,8 +202,6 @@ pub fn write_long<B: Before, V: FirstState>(
     value: &V,
     room: &mut [u8],
 ) -> Result<usize, Reason>
-where
-    V::State: Drop,
     requires before { room.old ≡ B.before }
     ensures { IsShown (trees_of texts.now items.now) (V.facts value.now) result room.old room.new }
 {
@@ -262,8 +217,6 @@ fn write_chosen<B: Before, V: FirstState>(
     value: &V,
     room: &mut [u8],
 ) -> Result<usize, Reason>
-where
-    V::State: Drop,
     requires before { room.old ≡ B.before }
     ensures { IsShown (trees_of texts.now items.now) (V.facts value.now) result room.old room.new }
 {
@@ -284,8 +237,6 @@ fn write_items<B: Before, V: FirstState, const HAS_RUNS: bool>(
     value: &V,
     room: &mut [u8],
 ) -> Result<usize, Reason>
-where
-    V::State: Drop,
     requires before { room.old ≡ B.before }
     ensures { IsShown (trees_of texts.now items.now) (V.facts value.now) result room.old room.new }
 {
@@ -303,8 +254,6 @@ fn put_items<S: Sink, V: FirstState, const HAS_RUNS: bool>(
     output: &mut S,
     value: &V,
 ) -> Result<usize, Reason>
-where
-    V::State: Drop,
     ensures puts { IsPut (as_one (trees_of texts.now items.now)) (V.facts value.now)
         (S.buffer output.old) (S.buffer output.new) result }
     ensures lender { IfOk result (λ _. (S.buffer output.new).block.lender ≡ (S.buffer output.old).block.lender) }

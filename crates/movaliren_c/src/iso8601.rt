@@ -15,7 +15,7 @@ mod config;
 use crate::batch::{Progress, write_lines};
 use crate::moment::{Moment, UtcMoment};
 use crate::moment_text::{Format, answer_at, put_at_start, texts_of};
-use crate::reason::{Reason, answer_number, reason_for};
+use crate::reason::{Reason, answer_number};
 use crate::room::copy_text;
 use crate::source::{AtOffset, ByParts, InUtc, Source};
 use crate::writer::Writer;
@@ -69,13 +69,9 @@ fn separated_text(usual: &Usual, value: &OffsetDateTime) -> Result<SeparatedText
     ensures refused { IfErr result (λ r. IsRefusedFor r
         (iso8601_of (separated usual.now) value.now)) }
 {
-    match accepted_fields(0, 25, value, &mut DateState::default()) {
-        Ok(fields) => {
-            let usual = *usual;
-            Ok(SeparatedText { usual, fields })
-        }
-        Err(component) => Err(reason_for(component)),
-    }
+    let fields = accepted_fields(0, 25, value, &mut DateState::default())?;
+    let usual = *usual;
+    Ok(SeparatedText { usual, fields })
 }
 
 /// The text of ISO 8601 by the default configuration.
@@ -307,8 +303,6 @@ fn put_at_once<B: Before>(
     ensures len { length room.new ≡ length room.old }
 {
     let mut sink = RoomSink::<B>::new(room);
-    match put_parts(&mut sink, config, value, &mut DateState::default()) {
-        Ok(()) => Ok(sink.len()),
-        Err(component) => Err(reason_for(component)),
-    }
+    put_parts(&mut sink, config, value, &mut DateState::default())?;
+    Ok(sink.len())
 }

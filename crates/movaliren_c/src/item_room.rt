@@ -1,6 +1,6 @@
 //! Items at the start of an array.
 ghost use Rattle.std.specs.Prelude.{◌≡◌, ◌+◌, ◌<◌, ◌≤◌, ◌∷◌, [], List, ℕ, Option, None, length, min, nat_le, slice_set};
-ghost use Rattle.movaliren_c.specs.Described.{DescribeNothing, HoldsIn, HoldsItems, HoldsListsIn, IsItem};
+ghost use Rattle.movaliren_c.specs.Described.{DescribeNothing, HoldsIn, HoldsListsIn, IsItem};
 ghost use Rattle.movaliren_c.specs.Flat.{closed_at, flat, or_at};
 ghost use Rattle.time_below.specs.Tree.{Tree};
 ghost use Rattle.time_describe.specs.Items.{Adds};
@@ -62,20 +62,7 @@ impl<'a> ItemRoom<'a> {
         store(self.array, 0, NO_ITEM);
     }
 
-    /// Adds an item behind all others.
-    #[inline(always)]
-    fn push(&mut self, item: Item)
-        ensures put { (text : List ℕ) (tree : Tree) → IsItem text item tree
-            → Adds (λ room all. HoldsItems text room.array.now room.count all) self.old self.new (tree ∷ []) }
-        ensures hidden { self.new.hidden_at ≡ self.old.hidden_at }
-        ensures same_reference { self.new.array.ghost_name ≡ self.old.array.ghost_name }
-    {
-        let (at, room) = (self.count, self.array.len());
-        store(self.array, at, item);
-        self.count = one_more(at, room);
-    }
-
-    /// Adds an item, unless it is left out.
+    /// Adds an item behind all others, unless it is left out.
     #[inline(always)]
     fn put(&mut self, item: Item)
         ensures put { (text : List ℕ) (fs : List Frame) (tree : Tree) → IsItem text item tree → flat tree ≡ tree ∷ []
@@ -85,7 +72,9 @@ impl<'a> ItemRoom<'a> {
         if self.hidden_at.is_some() {
             return;
         }
-        self.push(item);
+        let (at, room) = (self.count, self.array.len());
+        store(self.array, at, item);
+        self.count = one_more(at, room);
     }
 }
 

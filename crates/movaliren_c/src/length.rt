@@ -68,13 +68,11 @@ pub extern "C" fn movaliren_format_date_length(
 }
 
 /// The number of bytes of the text of the value by the description, up to the greatest `isize`, if there are both.
-fn text_length<V: FirstState + Drop>(
+fn text_length<V: FirstState>(
     items: &[Item],
     texts: &[u8],
     value: Result<V, Reason>,
 ) -> Result<usize, Reason>
-where
-    V::State: Drop,
     ensures length { IsLength (described (trees_of texts.now items.now) value V.facts) result }
     ensures small { IfOk result (λ count. count < 0x8000_0000_0000_0000) }
 {

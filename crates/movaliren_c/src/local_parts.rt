@@ -17,13 +17,17 @@ use std::marker::Model;
 use time_below::{Date, Month, OffsetDateTime, Time, Timestamp, UtcOffset};
 use time_digits::{ru8, ru32};
 use time_provide::ranges::{Day, IsoWeekNumber, Nanoseconds, Year};
-use time_provide::{ComponentProvider, DateState, Kept, TimestampState};
+use time_provide::{ComponentProvider, DateState, Kept};
 
 /// A value that is written by a description, with the state to begin with.
-pub trait FirstState: ComponentProvider {
-    /// A state that holds what is known of the value.
+pub trait FirstState: ComponentProvider<State: Drop> + Drop {
+    /// A state that holds what is known of the value, or nothing.
+    #[inline(always)]
     fn first_state(&self) -> Self::State
-        ensures { Self.agrees result self.now };
+        ensures { Self.agrees result self.now }
+    {
+        Default::default()
+    }
 }
 
 /// A local date and time with its offset, by the parts that a caller gives, and its date. The month and the day of the
@@ -122,10 +126,7 @@ impl LocalParts {
 pub fn local_parts_of(moment: &Moment) -> Result<LocalParts, Reason>
     ensures { result ≡ moment_value moment.now }
 {
-    match moment_value(moment) {
-        Ok(value) => Ok(LocalParts::by_parts(value, moment)),
-        Err(reason) => Err(reason),
-    }
+    Ok(LocalParts::by_parts(moment_value(moment)?, moment))
 }
 
 /// The local date and time this long after 1970, at an offset of so many seconds east of UTC.
@@ -265,16 +266,6 @@ impl FirstState for LocalParts {
     }
 }
 
-impl FirstState for Timestamp {
-    #[inline(always)]
-    fn first_state(&self) -> TimestampState {
-        Default::default()
-    }
-}
+impl FirstState for Timestamp {}
 
-impl FirstState for Date {
-    #[inline(always)]
-    fn first_state(&self) -> DateState {
-        Default::default()
-    }
-}
+impl FirstState for Date {}

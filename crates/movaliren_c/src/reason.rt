@@ -111,13 +111,15 @@ pub fn reason_of(error: Format) -> Reason
 }
 
 /// The reason of a component that a format refuses.
-pub fn reason_for(component: OutOfRange) -> Reason
-    ensures { Refuses result (invalid_component (component_name component)) }
-{
-    match component {
-        OutOfRange::Year => Reason::NoPlaceForYear,
-        OutOfRange::OffsetHour => Reason::NoPlaceForOffsetHour,
-        OutOfRange::OffsetMinute => Reason::NoPlaceForOffsetMinute,
-        OutOfRange::OffsetSecond => Reason::NoPlaceForOffsetSecond,
+impl From<OutOfRange> for Reason {
+    ghost from_gives = { λ component reason. Refuses reason (invalid_component (component_name component)) };
+
+    fn from(component: OutOfRange) -> Reason {
+        match component {
+            OutOfRange::Year => Reason::NoPlaceForYear,
+            OutOfRange::OffsetHour => Reason::NoPlaceForOffsetHour,
+            OutOfRange::OffsetMinute => Reason::NoPlaceForOffsetMinute,
+            OutOfRange::OffsetSecond => Reason::NoPlaceForOffsetSecond,
+        }
     }
 }

@@ -8,7 +8,7 @@ ghost use Rattle.time_known.specs.Rfc2822.{rfc2822_of};
 use crate::batch::{Progress, write_lines};
 use crate::moment::{Moment, UtcMoment};
 use crate::moment_text::{Format, answer_at, texts_of};
-use crate::reason::{Reason, answer_number, reason_for};
+use crate::reason::{Reason, answer_number};
 use crate::source::{AtOffset, ByParts, InUtc};
 use crate::writer::Writer;
 use std::default::Default;
@@ -38,7 +38,7 @@ impl Format for Rfc2822 {
                 let weekday = value.date().weekday();
                 Ok(Rfc2822Text { weekday, fields })
             }
-            Err(component) => Err(reason_for(component)),
+            Err(component) => Err(component.into()),
         }
     }
 }

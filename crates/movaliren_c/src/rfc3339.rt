@@ -8,7 +8,7 @@ ghost use Rattle.time_known.specs.Rfc3339.{rfc3339_of};
 use crate::batch::{Progress, write_lines};
 use crate::moment::{Moment, UtcMoment};
 use crate::moment_text::{Format, answer_at, texts_of};
-use crate::reason::{Reason, answer_number, reason_for};
+use crate::reason::{Reason, answer_number};
 use crate::source::{AtOffset, ByParts, InUtc};
 use crate::writer::Writer;
 use std::default::Default;
@@ -32,10 +32,8 @@ impl Format for Rfc3339 {
 
     #[inline(always)]
     fn text(self, value: &OffsetDateTime) -> Result<Rfc3339Text, Reason> {
-        match accepted_fields(0, 23, value, &mut DateState::default()) {
-            Ok(fields) => Ok(Rfc3339Text { fields }),
-            Err(component) => Err(reason_for(component)),
-        }
+        let fields = accepted_fields(0, 23, value, &mut DateState::default())?;
+        Ok(Rfc3339Text { fields })
     }
 }
 

@@ -1,5 +1,5 @@
 //! Dates and times of day at the front of a list of items.
-ghost use Rattle.std.specs.Prelude.{◌≡◌, ◌≤◌, ◌<◌, ◌^◌, ◌∷◌, [], ℕ, List, IfSome, IsTrue, Ok, drop, length};
+ghost use Rattle.std.specs.Prelude.{◌≡◌, ◌≤◌, ◌<◌, ◌^◌, ◌∷◌, [], ℕ, List, IfSome, Ok, drop, length};
 ghost use Rattle.movaliren_c.specs.Items.{first_part, item_tree, run_before, second_part, third_part, trees_of};
 ghost use Rattle.movaliren_c.specs.Value.{with_value};
 ghost use Rattle.time_below.specs.Tree.{byte_literal, of_component};
@@ -64,9 +64,9 @@ fn run_between(first: &Item, second: &Item, third: &Item) -> Option<Run>
         → item_tree texts third.now ≡ Ok (of_component (third_part run))) }
 {
     match head_of(first) {
-        13 if is_plain_of(second, 4) && is_plain_of(third, 1) => Some(Run::Date),
-        14 if is_plain_of(second, 4) && is_plain_of(third, 1) => Some(Run::StandardDate),
-        24 if is_plain_of(second, 25) && is_plain_of(third, 27) => Some(Run::Time),
+        13 if head_of(second) == 4 && head_of(third) == 1 => Some(Run::Date),
+        14 if head_of(second) == 4 && head_of(third) == 1 => Some(Run::StandardDate),
+        24 if head_of(second) == 25 && head_of(third) == 27 => Some(Run::Time),
         _ => None,
     }
 }
@@ -82,17 +82,6 @@ pub fn head_of(item: &Item) -> u64
     let choices = item.padding as u64 + item.flag as u64 * 0x100 + item.digits as u64 * 0x1_0000;
     let whole = choices + item.byte as u64 * 0x100_0000;
     item.kind as u64 + whole * 0x1_0000_0000
-}
-
-/// Whether an item has this kind, and its choices and its byte are zeros.
-#[inline(always)]
-fn is_plain_of(item: &Item, kind: u32) -> bool
-    ensures kind { IsTrue result → item.now.kind ≡ kind }
-    ensures padding { IsTrue result → item.now.padding ≡ 0 }
-    ensures flag { IsTrue result → item.now.flag ≡ 0 }
-    ensures digits { IsTrue result → item.now.digits ≡ 0 }
-{
-    head_of(item) == kind as u64
 }
 
 /// The byte that an item is, if it is a text of one.

@@ -101,8 +101,7 @@ fn offset_east(east: i64) -> Result<UtcOffset, Reason>
 fn local_there(moment: Timestamp, offset: UtcOffset) -> Result<OffsetDateTime, Reason>
     ensures { result ≡ local_there moment offset }
 {
-    match moment.checked_to_offset(offset) {
-        Some(local) => Ok(local),
-        None => Err(Reason::NoPlaceForYear),
-    }
+    moment
+        .checked_to_offset(offset)
+        .ok_or(Reason::NoPlaceForYear)
 }

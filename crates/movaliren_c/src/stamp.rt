@@ -7,7 +7,7 @@ ghost use Rattle.time_known.specs.Stamps.{stamp_length};
 use crate::batch::{Progress, write_lines};
 use crate::moment::UtcMoment;
 use crate::moment_text::{Format, answer_at, texts_of};
-use crate::reason::{Reason, reason_for};
+use crate::reason::Reason;
 use crate::source::InUtc;
 use crate::writer::Writer;
 use std::default::Default;
@@ -32,10 +32,8 @@ impl Format for Stamp {
     #[inline(always)]
     fn text(self, value: &OffsetDateTime) -> Result<StampText, Reason> {
         let value = UtcDateTime::new(value.date(), value.time());
-        match accepted_fields(0, 25, &value, &mut DateState::default()) {
-            Ok(fields) => Ok(StampText { fields }),
-            Err(component) => Err(reason_for(component)),
-        }
+        let fields = accepted_fields(0, 25, &value, &mut DateState::default())?;
+        Ok(StampText { fields })
     }
 }
 

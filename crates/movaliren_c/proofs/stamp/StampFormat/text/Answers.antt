@@ -10,14 +10,14 @@ use Rattle.time_known.specs.declared.iso8601.config.DecimalSign.TheVariants as s
 use Rattle.time_known.proofs.AcceptedLemmas.{usual_accepted, usual_refused}
 use Rattle.movaliren_c.proofs.stamp.StampFormat.text.Goals as goal
 
-pub returns-in-Ok-clause-text : goal.returns-in-Ok-clause-text
-returns-in-Ok-clause-text c =
+pub returns-clause-text : goal.returns-clause-text
+returns-clause-text c =
     let v = c.args.value.now in
     let is : c.new-value.result ≡ record { date = v.date; time = v.time } =
     c.new-value.ensures ∙ rw (c.date.ensures, c.time.ensures) refl in
     usual_accepted default_choices kind.Calendar true (Some 9) sign.Point (date_facts v.date) v.time utc [] refl
-    (rw is at c.in-Ok.ensures.accepted [])
-    ∙ ap (λ (s : Shown). done (usual_text default_choices (Some 9) s.date s.time utc)) (sym (rw is at c.in-Ok.ensures.fields))
+    (rw is at c.in_ok-fields.ensures.accepted [])
+    ∙ ap (λ (s : Shown). done (usual_text default_choices (Some 9) s.date s.time utc)) (sym (rw is at c.in_ok-fields.ensures.fields))
 
-pub returns-in-Err-clause-refused : goal.returns-in-Err-clause-refused
-returns-in-Err-clause-refused c = grind (arith, usual_refused)
+pub returns-in_err-fields-clause-refused : goal.returns-in_err-fields-clause-refused
+returns-in_err-fields-clause-refused c = grind (arith, usual_refused)
