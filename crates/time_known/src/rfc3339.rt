@@ -92,10 +92,10 @@ impl Text for Rfc3339Text {
     }
 }
 
-// Puts `time-secfrac`, if there is a fraction of a second.
+/// Puts `time-secfrac` (RFC 3339, section 5.6), if there is a fraction of a second.
 #[inline(always)]
 #[tactic(auto, using(crate::proofs::LengthLemmas::fraction_lengths))]
-fn put_time_secfrac<S: Sink>(output: &mut S, time: Time)
+pub fn put_time_secfrac<S: Sink>(output: &mut S, time: Time)
     requires room { Fits (S.buffer output.old) time_secfrac_width }
     ensures puts { PutsUpTo time_secfrac_width (S.buffer output.old) (S.buffer output.new)
         (time_secfrac_text time.nanosecond) }

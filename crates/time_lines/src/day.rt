@@ -14,11 +14,11 @@ use crate::shown::{Place, Shown, append_text};
 use std::alloc::AllocError;
 use std::default::Default;
 use time_below::{Time, Timestamp, UtcOffset};
-use time_digits::ru32;
 use time_fmt::make_room;
-use time_fmt::writers::{put_back, take_out, write, write_fraction};
+use time_fmt::writers::{put_back, take_out};
 use time_known::Rfc3339;
 use time_known::put::{put_clock, put_offset};
+use time_known::rfc3339::put_time_secfrac;
 use time_provide::DateState;
 
 /// The bytes of a date and the letter `T`.
@@ -198,7 +198,6 @@ fn push_each(output: &mut Vec<u8>, bytes: [u8; LENGTH])
 
 /// Appends a text by the text of its day, its time of day and its offset.
 #[inline(always)]
-#[tactic(auto, using(time_known::proofs::LengthLemmas::fraction_lengths))]
 fn put_text(output: &mut Vec<u8>, day: &[u8; LENGTH], time: Time, offset: UtcOffset)
     requires day { length day.now ≡ LENGTH }
     requires room { HasRoom output.old WIDTH }
@@ -208,11 +207,7 @@ fn put_text(output: &mut Vec<u8>, day: &[u8; LENGTH], time: Time, offset: UtcOff
     let mut taken = take_out(output);
     push_each(&mut taken, *day);
     put_clock(&mut taken, time, ":");
-    let (_, _, _, nanosecond) = time.as_hms_nano();
-    if nanosecond != 0 {
-        write(&mut taken, ".");
-        write_fraction(&mut taken, ru32::within(nanosecond));
-    }
+    put_time_secfrac(&mut taken, time);
     put_offset(&mut taken, offset, ":");
     put_back(output, taken);
 }

@@ -1,8 +1,7 @@
 -- What is kept is the text of a moment of its second.
 use Rattle.std.proofs.Common.{◌≡◌, ◌∙◌, ℕ, List, ◌++◌, ℤ, ap, refl}
-use Rattle.std.specs.Prelude.{codes}
+use Rattle.std.specs.Prelude.{codes, if◌then◌else◌}
 use Rattle.time_below.specs.Moment.{Moment, local_at}
-use Rattle.time_below.specs.Offset.{is_utc}
 use Rattle.time_fmt.specs.Decimals.{decimals}
 use Rattle.time_log.specs.declared.log_time.LogTime.TheInside.{Inside}
 use Rattle.time_log.specs.Kept.{IsKept, settings_of}
@@ -12,7 +11,7 @@ use Rattle.time_known.specs.WellKnown.{offset_text}
 -- what is kept is that of the second of this moment
 pub record IsFor (s : LogSettings) (m : Moment) (t : Inside) : Type 0 where
   pub settings : settings_of t ≡ s
-  pub utc : t.is_utc ≡ is_utc t.offset
+  pub zone : (if t.is_utc then codes "Z" else t.zone) ≡ offset_text (codes ":") t.offset
   pub year : IsFourDigits (local_at m s.offset).date.year
   pub head : t.head ≡ text_to_point (local_at m s.offset)
 
@@ -22,7 +21,7 @@ pub for_same : (s : LogSettings) (m : Moment) (t u : Inside) → IsKept t → se
 for_same s m t u kept settings second same =
     rw (same, ← settings) (record {
       settings = refl;
-      utc = kept.utc;
+      zone = rw (kept.utc, kept.zone) refl;
       year = rw second kept.year;
       head = rw second kept.head;
     })
@@ -32,7 +31,7 @@ pub for_new : (s : LogSettings) (m : Moment) (t u : Inside) (second : ℤ) (head
     → head ≡ text_to_point (local_at m t.offset) → IsFourDigits (local_at m t.offset).date.year
     → u ≡ record t { second = second; head = head } → IsFor s m u
 for_new s m t u second head kept settings text year same =
-    rw (same, ← settings) (record { settings = refl; utc = kept.utc; year = year; head = text })
+    rw (same, ← settings) (record { settings = refl; zone = rw (kept.utc, kept.zone) refl; year = year; head = text })
 
 -- and it is that of its second
 pub kept_new : (m : Moment) (t u : Inside) (second : ℤ) (head : List ℕ) → IsKept t → second ≡ m.seconds
@@ -46,9 +45,9 @@ kept_new m t u second head kept at text year same =
 pub text_for : (s : LogSettings) (m : Moment) (t : Inside) (old new : List ℕ) (nanosecond : ℕ) → IsFor s m t
     → nanosecond ≡ m.nanosecond
     → new ≡ old ++ (t.head ++ decimals nanosecond 1_000_000_000 (digits_of t.decimals)
-    ++ offset_text (codes ":") t.offset)
+    ++ (if t.is_utc then codes "Z" else t.zone))
     → new ≡ old ++ log_text s m
 text_for s m t old new nanosecond h n e =
     let decimals_of : t.decimals ≡ s.decimals = ap (λ (x : LogSettings). x.decimals) h.settings in
     let offset_of : t.offset ≡ s.offset = ap (λ (x : LogSettings). x.offset) h.settings in
-    e ∙ rw (h.head, offset_of, n, decimals_of) refl
+    e ∙ rw (h.head, h.zone, offset_of, n, decimals_of) refl

@@ -63,7 +63,7 @@ fn head_of(date: Date, time: Time) -> [u8; LENGTH]
 
 /// The two digits of a number.
 #[inline]
-fn pair(number: u8) -> [u8; 2]
+pub(crate) fn pair(number: u8) -> [u8; 2]
     requires { number < 100 }
     ensures digits { result ≡ zero_padded 2 number }
     ensures length { length result ≡ 2 }

@@ -8,7 +8,7 @@ ghost use Rattle.time_log.specs.LogText.{HasLogText, IsLogOffset, log_length, lo
 use crate::decimals::Decimals;
 use crate::head::{LENGTH, head_at};
 use crate::text::append_text;
-use crate::zone::zone_len;
+use crate::zone::{zone_len, zone_of};
 use std::fmt::{self, Debug};
 use std::marker::Model;
 use time_below::{Timestamp, UtcOffset};
@@ -25,7 +25,8 @@ use time_known::accepted::OutOfRange;
 pub struct LogTime {
     offset: UtcOffset,
     decimals: Decimals,
-    // Whether the offset is that of UTC.
+    // The text of the offset, and whether it is that of UTC, whose text is `Z`.
+    zone: [u8; 6],
     is_utc: bool,
     // The bytes of each text.
     length: usize,
@@ -81,10 +82,10 @@ impl LogTime {
         requires { IsLogOffset offset }
         ensures { result ≡ record { offset = offset; decimals = decimals } }
     {
-        let _in_range = offset.as_hms();
         LogTime {
             offset,
             decimals,
+            zone: zone_of(offset),
             is_utc: offset.is_utc(),
             length: LENGTH + decimals.digits() + zone_len(offset),
             second: midnight_of_1970(offset),
@@ -152,7 +153,7 @@ impl LogTime {
             &self.head,
             nanosecond,
             self.decimals,
-            self.offset,
+            &self.zone,
             self.is_utc,
         );
         Ok(self.length)

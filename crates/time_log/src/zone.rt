@@ -4,10 +4,11 @@ ghost use Rattle.time_below.specs.Offset.{is_utc};
 ghost use Rattle.time_fmt.specs.Room.{HasRoom};
 ghost use Rattle.time_fmt.specs.Sink.{Puts, vec_buffer};
 ghost use Rattle.time_log.specs.LogText.{zone_length};
-ghost use Rattle.time_known.specs.WellKnown.{offset_text};
+ghost use Rattle.time_known.specs.WellKnown.{signed_offset_text};
 
+use crate::head::pair;
+use crate::text::push_each;
 use time_below::UtcOffset;
-use time_known::put::put_signed_offset;
 
 /// The bytes of the text of an offset: `Z`, or a sign, hours and minutes.
 pub(crate) fn zone_len(offset: UtcOffset) -> usize
@@ -16,17 +17,28 @@ pub(crate) fn zone_len(offset: UtcOffset) -> usize
     if offset.is_utc() { 1 } else { 6 }
 }
 
-/// Appends the text of an offset, of which the caller knows whether it is that of UTC.
-#[inline(always)]
-pub(crate) fn put_zone(output: &mut Vec<u8>, offset: UtcOffset, is_zero: bool)
-    requires zero { is_zero ≡ is_utc offset }
-    requires room { HasRoom output.old (zone_length (is_utc offset)) }
-    ensures writes { Puts (vec_buffer output.old) (vec_buffer output.new) (length (offset_text (codes ":") offset))
-        (offset_text (codes ":") offset) }
+/// The text of an offset by its sign, its hours and its minutes.
+pub(crate) fn zone_of(offset: UtcOffset) -> [u8; 6]
+    ensures { result ≡ signed_offset_text (codes ":") offset }
 {
-    if is_zero {
+    let (hours, minutes, _) = offset.as_hms();
+    let [h, o] = pair(hours.unsigned_abs());
+    let [m, i] = pair(minutes.unsigned_abs());
+    let sign = if offset.is_negative() { b'-' } else { b'+' };
+    [sign, h, o, b':', m, i]
+}
+
+/// Appends `Z` for UTC, else these bytes.
+#[inline(always)]
+pub(crate) fn put_zone(output: &mut Vec<u8>, zone: &[u8; 6], is_utc: bool)
+    requires six { length zone.now ≡ 6 }
+    requires room { HasRoom output.old (zone_length is_utc) }
+    ensures writes { Puts (vec_buffer output.old) (vec_buffer output.new) (zone_length is_utc)
+        (if is_utc then codes "Z" else zone.now) }
+{
+    if is_utc {
         output.push_reserved(b'Z');
     } else {
-        put_signed_offset(output, offset, ":");
+        push_each(output, *zone);
     }
 }

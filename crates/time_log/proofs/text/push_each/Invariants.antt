@@ -3,7 +3,7 @@ use Rattle.time_log.proofs.text.push_each.Given as goal
 
 -- what is pushed so far, and then the bytes that are left, are all bytes
 abbrev pub invariant-loop-byte : goal.invariant-loop-byte
-invariant-loop-byte l =
+invariant-loop-byte g l =
     let left = drop l.byte-index l.byte-items in
     record {
       bytes : l.output.items ++ left ≡ l.fn.output.items ++ l.byte-items;

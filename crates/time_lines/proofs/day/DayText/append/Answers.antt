@@ -33,4 +33,4 @@ returns c =
     omega (arith, ints, after, same, there, c.args.self.now.kept.range, c.seconds_since-passed.ensures, c.local_second.ensures.second) in
     shown_by_day m o c.args.self.now.midnight c.args.self.now.text (unsigned_abs z) c.time_of-time.result c.args.output.now.items
     c.put_text.new.output.items c.local_second.ensures.moment c.args.self.now.kept zone second (omega (arith, ints, after, before)) time
-    (c.put_text.ensures ∙ rw (c.make_room.ensures.items, c.of.ensures.same) refl)
+    (c.put_text.ensures ∙ rw c.make_room.ensures.items refl)

@@ -1,7 +1,6 @@
 use Rattle.std.proofs.Common.{◌≡◌, pos, ◌+ℤ◌, to_z, of_z, w64, arith}
 use Rattle.std.proofs.lemmas.Int.{ints}
 use Rattle.time_below.specs.Offset.{offset_seconds}
-use Rattle.time_known.proofs.WidthLemmas.{length-zone}
 use Rattle.time_log.proofs.BeginLemmas.{begin_text, begin_year}
 use Rattle.time_log.proofs.log_time.LogTime.at.Goals as goal
 
@@ -12,7 +11,7 @@ invariant_of-result c =
     record {
       offset = c.requires;
       utc = c.is_utc.ensures;
-      zone = length-zone c.args.offset c.as_hms-in_range.ensures.offset;
+      zone = c.zone_of.ensures;
       length = omega (arith, c.digits.ensures, c.zone_len.ensures);
       year = begin_year second c.args.offset midnight;
       head = begin_text second c.args.offset midnight;
