@@ -66,7 +66,7 @@ time_alone n old new c f e supplied groups h = grind (arith, common_steps)
 pub date_and_time : {date time offset moment : Bool} (found : Option ℕ) (old new : Vec ℕ Global) (c : Choices) (f : Facts)
     → c.formatted_components ≡ components.DateTime → SuppliesParts c date time offset → Supplies date time offset moment f
     → MatchOption found (new ≡ old) (λ n. AppendsUpTo (iso_date_width c + iso_time_width c) old new (Ok n)
-        (join (iso_date c (the_date f)) (iso_time c (the_time f))))
+    (join (iso_date c (the_date f)) (iso_time c (the_time f))))
     → MatchOption found (new ≡ old) (λ n. AppendsUpTo (iso8601_width c) old new (Ok n) (iso8601_outcome c f))
 date_and_time found old new c f e supplied groups h = grind (arith, common_steps, append-nil)
 
