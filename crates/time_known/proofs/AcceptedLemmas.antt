@@ -26,21 +26,13 @@ pub any_hour : (first : ℕ) (year : ℤ) (hour second : ℕ) (text : List ℕ) 
     (refused_if (nat_lt 0 second) (codes "offset_second") (done text))
 any_hour first year hour second text h = rw (above_not 25 hour h) refl
 
--- the text of these choices, where both tests pass
-usual_passes : (c : Choices) (k : DateKind) (has_separators : Bool) (digits : Option ℕ) (sign : DecimalSign) (d : DateFacts)
-    (t : TimeOfDay) (o : Offset) → c ≡ record (usual_choices has_separators digits sign) { date_kind = k }
-    → is_outside 0 9_999 (year_of_kind k d) ≡ false → nat_lt 0 (unsigned_abs o.seconds) ≡ false
-    → iso_of_groups components.DateTimeOffset c d t o ≡ done (usual_text c digits d t o)
-usual_passes c k has_separators digits sign d t o e year seconds = grind (arith, common_steps)
-
 -- an accepted year and offset complete the text of these choices, with a date of this kind
 pub usual_accepted : (c : Choices) (k : DateKind) (has_separators : Bool) (digits : Option ℕ) (sign : DecimalSign)
     (d : DateFacts) (t : TimeOfDay) (o : Offset) (text : List ℕ)
     → c ≡ record (usual_choices has_separators digits sign) { date_kind = k }
     → checked_text 0 25 (year_of_kind k d) (unsigned_abs o.hours) (unsigned_abs o.seconds) text ≡ done text
     → iso_of_groups components.DateTimeOffset c d t o ≡ done (usual_text c digits d t o)
-usual_accepted c k has_separators digits sign d t o text e accepted =
-    grind (arith, common_steps, test_is_passed, usual_passes)
+usual_accepted c k has_separators digits sign d t o text e accepted = grind (arith, common_steps, test_is_passed)
 
 -- a year that is refused is refused by the text of these choices
 pub usual_year_refused : (c : Choices) (k : DateKind) (u : Usual) (d : DateFacts) (t : TimeOfDay) (o : Offset) (text : List ℕ)
