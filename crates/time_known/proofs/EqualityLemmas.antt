@@ -16,13 +16,9 @@ use Rattle.std.proofs.lemmas.Grind.{common_steps}
 
 -- ---- precisions of a time
 
--- the decimals are read in the same way at each unit
-same_decimals : (d e : Option ℕ) → of_time_precision.ghosts.eq (precision.Hour d) (precision.Hour e) ≡ true → d ≡ e
-same_decimals d e h = grind (arith, common_steps, eqb-true)
-
 -- precisions that are found equal have the same unit and decimals
 same_precision : (a b : TimePrecision) → of_time_precision.ghosts.eq a b ≡ true → a ≡ b
-same_precision a b h = grind (arith, common_steps, same_decimals)
+same_precision a b h = grind (arith, common_steps, eqb-true)
 
 -- ---- configurations
 

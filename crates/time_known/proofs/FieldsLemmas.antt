@@ -11,15 +11,10 @@ use Rattle.std.proofs.lemmas.Grind.{common_steps}
 below : (y : ℤ) → y ≤ℤ pos 0 → signed true (unsigned_abs y) ≡ y
 below y h = grind (arith, common_steps, ints)
 
-by_sizes : (h m s : ℤ) → HasNoOtherSign h m → HasNoOtherSign h s → HasNoOtherSign m s
-    → offset_by (int_lt h (pos 0) || int_lt m (pos 0) || int_lt s (pos 0)) (unsigned_abs h) (unsigned_abs m) (unsigned_abs s)
-    ≡ record { hours = h; minutes = m; seconds = s }
-by_sizes h m s k l p = grind (arith, common_steps, nat_tests, below, ints)
-
 pub fields_are : (o : Offset) (is_below_zero : Bool) (hours minutes seconds : ℕ) → IsOffset o → is_below_zero ≡ is_negative o
     → hours ≡ unsigned_abs o.hours → minutes ≡ unsigned_abs o.minutes → seconds ≡ unsigned_abs o.seconds
     → offset_by is_below_zero hours minutes seconds ≡ o
-fields_are o is_below_zero hours minutes seconds real negative h m s = grind (arith, by_sizes)
+fields_are o is_below_zero hours minutes seconds real negative h m s = grind (arith, common_steps, nat_tests, below, ints)
 
 -- the tests of its parts are those of the offset
 pub tests_are : (o : Offset) (hours minutes seconds : ℕ) (is_zero is_below_zero : Bool) → IsOffset o
