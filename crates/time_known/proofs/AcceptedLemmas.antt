@@ -41,10 +41,6 @@ pub usual_year_refused : (c : Choices) (k : DateKind) (u : Usual) (d : DateFacts
     → iso_of_groups components.DateTimeOffset c d t o ≡ refused_for out.Year
 usual_year_refused c k u d t o text e refused = grind (arith, common_steps, any_hour)
 
--- UTC has no seconds
-no_seconds : (o : Offset) → is_utc o ≡ true → nat_lt 0 (unsigned_abs o.seconds) ≡ false
-no_seconds o h = grind (arith, nat_tests, common_steps)
-
 -- the refusals of a text by these choices are those of its year and of the seconds of its offset
 refusal_is : (outside zed seconds : Bool) (year after time zero hours minutes text name : List ℕ)
     → (zed ≡ true → seconds ≡ false)
@@ -62,7 +58,7 @@ pub usual_refused : (digits : Option ℕ) (sign : DecimalSign) (d : DateFacts) (
     → checked_text 0 25 d.year (unsigned_abs o.hours) (unsigned_abs o.seconds) text ≡ refused_for component
     → (iso_of_groups components.DateTimeOffset (usual_choices true digits sign) d t o).refusal
     ≡ Some (invalid_component (component_name component))
-usual_refused digits sign d t o text component hour e = grind (arith, refusal_is, no_seconds, any_hour)
+usual_refused digits sign d t o text component hour e = grind (arith, common_steps, nat_tests, refusal_is, any_hour)
 
 -- what is appended by one value is appended by any that is equal
 pub appended_as : {A : Type 0} {a b : A} {width : ℕ} {old new : Vec ℕ Global} {answer : Result ℕ Format}

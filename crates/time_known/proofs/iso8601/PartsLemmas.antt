@@ -28,7 +28,8 @@ puts_three p q r = grind (arith, common_steps, append_assoc, length-append)
 
 -- a part is put, if it is written
 abbrev PutsPart : Bool → ℕ → Buffer → Buffer → Result Unit OutOfRange → Outcome → Type 0
-PutsPart is_written width old new answer o = PutsOutcome (width_if is_written width) old new answer (part_if is_written o)
+PutsPart is_written width old new answer o =
+    PutsOutcome (width_if is_written width) old new answer (part_if is_written o)
 
 -- where their groups are supplied, the parts give the outcome
 parts_are : {date time offset moment : Bool} (c : Choices) (f : Facts) → c.formatted_components ≢ components.None
