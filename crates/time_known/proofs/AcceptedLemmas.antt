@@ -5,7 +5,6 @@ use Rattle.time_fmt.specs.declared.error.Format.{Format}
 use Rattle.std.proofs.lemmas.Bool.Decides.{nat_tests}
 use Rattle.std.proofs.lemmas.Grind.{common_steps}
 use Rattle.std.specs.Prelude.{codes, if◌then◌else◌}
-use Rattle.time_below.specs.Offset.{is_utc}
 use Rattle.time_fmt.specs.Outcome.{AppendsUpTo, done, refused, join, invalid_component}
 use Rattle.time_known.specs.Accepted.{checked_text, component_name, refused_for}
 use Rattle.time_known.specs.Config.{Choices, DecimalSign, DateKind}

@@ -1,9 +1,9 @@
 -- An offset is its sign and the sizes of its parts.
-use Rattle.std.proofs.Common.{◌≡◌, ℕ, ◌||◌, Bool, ℤ, pos, true, arith, unsigned_abs}
+use Rattle.std.proofs.Common.{◌≡◌, ℕ, Bool, ℤ, pos, true, arith, unsigned_abs}
 use Rattle.std.proofs.lemmas.Bool.Decides.{nat_tests}
 use Rattle.std.proofs.lemmas.Int.{ints}
-use Rattle.std.specs.Prelude.{◌≤ℤ◌, int_lt}
-use Rattle.time_below.specs.Offset.{HasNoOtherSign, IsOffset, Offset, is_negative, is_utc, signed}
+use Rattle.std.specs.Prelude.{◌≤ℤ◌}
+use Rattle.time_below.specs.Offset.{IsOffset, Offset, is_negative, is_utc, signed}
 use Rattle.time_known.specs.WellKnown.{offset_by}
 use Rattle.std.proofs.lemmas.Grind.{common_steps}
 
