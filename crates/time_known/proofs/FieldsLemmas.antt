@@ -7,14 +7,10 @@ use Rattle.time_below.specs.Offset.{IsOffset, Offset, is_negative, is_utc, signe
 use Rattle.time_known.specs.WellKnown.{offset_by}
 use Rattle.std.proofs.lemmas.Grind.{common_steps}
 
--- a part that is not above zero is its size below zero
-below : (y : ℤ) → y ≤ℤ pos 0 → signed true (unsigned_abs y) ≡ y
-below y h = grind (arith, common_steps, ints)
-
 pub fields_are : (o : Offset) (is_below_zero : Bool) (hours minutes seconds : ℕ) → IsOffset o → is_below_zero ≡ is_negative o
     → hours ≡ unsigned_abs o.hours → minutes ≡ unsigned_abs o.minutes → seconds ≡ unsigned_abs o.seconds
     → offset_by is_below_zero hours minutes seconds ≡ o
-fields_are o is_below_zero hours minutes seconds real negative h m s = grind (arith, common_steps, nat_tests, below, ints)
+fields_are o is_below_zero hours minutes seconds real negative h m s = grind (arith, common_steps, nat_tests, ints)
 
 -- the tests of its parts are those of the offset
 pub tests_are : (o : Offset) (hours minutes seconds : ℕ) (is_zero is_below_zero : Bool) → IsOffset o
