@@ -5,7 +5,6 @@ use Rattle.time_fmt.specs.declared.error.Format.{Format}
 use Rattle.std.proofs.lemmas.Bool.Decides.{nat_tests}
 use Rattle.std.proofs.lemmas.Grind.{common_steps}
 use Rattle.std.specs.Prelude.{codes, if◌then◌else◌}
-use Rattle.time_below.specs.Offset.{is_utc}
 use Rattle.time_fmt.specs.Outcome.{AppendsUpTo, done, refused, join, invalid_component}
 use Rattle.time_known.specs.Accepted.{checked_text, component_name, refused_for}
 use Rattle.time_known.specs.Config.{Choices, DecimalSign, DateKind}
@@ -26,21 +25,13 @@ pub any_hour : (first : ℕ) (year : ℤ) (hour second : ℕ) (text : List ℕ) 
     (refused_if (nat_lt 0 second) (codes "offset_second") (done text))
 any_hour first year hour second text h = rw (above_not 25 hour h) refl
 
--- the text of these choices, where both tests pass
-usual_passes : (c : Choices) (k : DateKind) (has_separators : Bool) (digits : Option ℕ) (sign : DecimalSign) (d : DateFacts)
-    (t : TimeOfDay) (o : Offset) → c ≡ record (usual_choices has_separators digits sign) { date_kind = k }
-    → is_outside 0 9_999 (year_of_kind k d) ≡ false → nat_lt 0 (unsigned_abs o.seconds) ≡ false
-    → iso_of_groups components.DateTimeOffset c d t o ≡ done (usual_text c digits d t o)
-usual_passes c k has_separators digits sign d t o e year seconds = grind (arith, common_steps)
-
 -- an accepted year and offset complete the text of these choices, with a date of this kind
 pub usual_accepted : (c : Choices) (k : DateKind) (has_separators : Bool) (digits : Option ℕ) (sign : DecimalSign)
     (d : DateFacts) (t : TimeOfDay) (o : Offset) (text : List ℕ)
     → c ≡ record (usual_choices has_separators digits sign) { date_kind = k }
     → checked_text 0 25 (year_of_kind k d) (unsigned_abs o.hours) (unsigned_abs o.seconds) text ≡ done text
     → iso_of_groups components.DateTimeOffset c d t o ≡ done (usual_text c digits d t o)
-usual_accepted c k has_separators digits sign d t o text e accepted =
-    grind (arith, common_steps, test_is_passed, usual_passes)
+usual_accepted c k has_separators digits sign d t o text e accepted = grind (arith, common_steps, test_is_passed)
 
 -- a year that is refused is refused by the text of these choices
 pub usual_year_refused : (c : Choices) (k : DateKind) (u : Usual) (d : DateFacts) (t : TimeOfDay) (o : Offset) (text : List ℕ)
@@ -48,10 +39,6 @@ pub usual_year_refused : (c : Choices) (k : DateKind) (u : Usual) (d : DateFacts
     → checked_text 0 25 (year_of_kind k d) (unsigned_abs o.hours) (unsigned_abs o.seconds) text ≡ refused_for out.Year
     → iso_of_groups components.DateTimeOffset c d t o ≡ refused_for out.Year
 usual_year_refused c k u d t o text e refused = grind (arith, common_steps, any_hour)
-
--- UTC has no seconds
-no_seconds : (o : Offset) → is_utc o ≡ true → nat_lt 0 (unsigned_abs o.seconds) ≡ false
-no_seconds o h = grind (arith, nat_tests, common_steps)
 
 -- the refusals of a text by these choices are those of its year and of the seconds of its offset
 refusal_is : (outside zed seconds : Bool) (year after time zero hours minutes text name : List ℕ)
@@ -70,7 +57,7 @@ pub usual_refused : (digits : Option ℕ) (sign : DecimalSign) (d : DateFacts) (
     → checked_text 0 25 d.year (unsigned_abs o.hours) (unsigned_abs o.seconds) text ≡ refused_for component
     → (iso_of_groups components.DateTimeOffset (usual_choices true digits sign) d t o).refusal
     ≡ Some (invalid_component (component_name component))
-usual_refused digits sign d t o text component hour e = grind (arith, refusal_is, no_seconds, any_hour)
+usual_refused digits sign d t o text component hour e = grind (arith, common_steps, nat_tests, refusal_is, any_hour)
 
 -- what is appended by one value is appended by any that is equal
 pub appended_as : {A : Type 0} {a b : A} {width : ℕ} {old new : Vec ℕ Global} {answer : Result ℕ Format}

@@ -1,5 +1,5 @@
 -- Configurations of ISO 8601 are equal exactly if all their fields are.
-use Rattle.std.proofs.Common.{◌≡◌, ℕ, true, subst, Option, arith}
+use Rattle.std.proofs.Common.{◌≡◌, true, subst, arith}
 use Rattle.std.specs.Cmp.{booleans_Decides}
 use Rattle.std.proofs.lemmas.Bool.{and_parts, eqb-true}
 use denote.Enum.Bare.{same_true}
@@ -11,18 +11,13 @@ use Rattle.time_known.specs.contracts.iso8601.config.DecimalSign as decimal_sign
 use Rattle.time_known.specs.contracts.iso8601.config.FormattedComponents as formatted_components
 use Rattle.time_known.specs.contracts.iso8601.config.OffsetPrecision as offset_precision
 use Rattle.time_known.specs.contracts.iso8601.config.TimePrecisionPartialEq.TheImpl as of_time_precision
-use Rattle.time_known.specs.declared.iso8601.config.TimePrecision.TheVariants as precision
 use Rattle.std.proofs.lemmas.Grind.{common_steps}
 
 -- ---- precisions of a time
 
--- the decimals are read in the same way at each unit
-same_decimals : (d e : Option ℕ) → of_time_precision.ghosts.eq (precision.Hour d) (precision.Hour e) ≡ true → d ≡ e
-same_decimals d e h = grind (arith, common_steps, eqb-true)
-
 -- precisions that are found equal have the same unit and decimals
 same_precision : (a b : TimePrecision) → of_time_precision.ghosts.eq a b ≡ true → a ≡ b
-same_precision a b h = grind (arith, common_steps, same_decimals)
+same_precision a b h = grind (arith, common_steps, eqb-true)
 
 -- ---- configurations
 

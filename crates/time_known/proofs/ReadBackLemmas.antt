@@ -12,19 +12,9 @@ use Rattle.time_known.specs.Values.{Facts, DateFacts, date_facts, the_date, the_
 use Rattle.time_known.specs.Values.{Offset, TimeOfDay}
 use Rattle.time_known.proofs.OutcomeLemmas.{completed_by_bytes}
 
--- a date, a time and an offset are there
-record HasAll (f : Facts) : Type 0 where
-  date : f.date ≡ Some (the_date f)
-  time : f.time ≡ Some (the_time f)
-  offset : f.offset ≡ Some (the_offset f)
-
 -- all three are supplied, where all are needed and none is missing
 pub are_all : (date time offset : Bool) → are_supplied all_groups date time offset ≡ true → AreAllSupplied date time offset
 are_all date time offset h = grind (arith, common_steps, and_parts)
-
--- they are, where all are needed and none is missing
-has_all : (f : Facts) → has_groups all_groups f ≡ true → HasAll f
-has_all f h = grind (arith, common_steps, and_parts)
 
 -- the groups of a value that is real are those of a local date, a time and an offset, and a completed
 -- text spells them
@@ -34,7 +24,7 @@ pub reads_as : {kept : OffsetDateAndTime → OffsetDateAndTime} {Spells Canonica
     → (f : Facts) → has_groups all_groups f ≡ true → AreReal f → (at_groups of_groups f).refusal ≡ None
     → ReadsAs kept Spells Canonical f (at_groups of_groups f).bytes
 reads_as of_groups law f there real complete =
-    let all = has_all f there in
+    let date : f.date ≡ Some (the_date f) = grind (arith, common_steps, and_parts) in
     let outcome = at_groups of_groups f in
     let value : OffsetDateAndTime = record { date = date_in (the_date f); time = the_time f; offset = the_offset f } in
     let fits : IsValue value = record { date = real.date.date; time = real.time; offset = real.offset } in
@@ -44,9 +34,9 @@ reads_as of_groups law f there real complete =
     record {
       value = value;
       fits = fits;
-      date = all.date ∙ ap Some real.date.components;
-      time = all.time;
-      offset = all.offset;
+      date = date ∙ ap Some real.date.components;
+      time = grind (arith, common_steps, and_parts);
+      offset = grind (arith, common_steps, and_parts);
       spelled = read.0;
       canonical = read.1;
     }

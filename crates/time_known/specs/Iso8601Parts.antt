@@ -1,11 +1,10 @@
 -- What the parts of a text of ISO 8601 are made of.
 use Rattle.std.specs.Prelude.{◌≡◌, ℕ, ◌+◌, ◌*◌, ◌++◌, Bool, IsTrue, List, length, codes}
-use Rattle.time_fmt.specs.Outcome.{Outcome, done, join}
 use Rattle.time_known.specs.Config.{Choices, groups_of, separator, DateKind}
 use Rattle.time_known.specs.Days.{month_and_day}
 use Rattle.time_known.specs.Groups.{are_supplied}
-use Rattle.time_known.specs.Iso8601.{iso_year, year_of_kind, text_after_year, week_text}
-use Rattle.time_known.specs.Iso8601Width.{year_width, width_after_year}
+use Rattle.time_known.specs.Iso8601.{year_of_kind, text_after_year, week_text}
+use Rattle.time_known.specs.Iso8601Width.{width_after_year}
 use Rattle.time_known.specs.Values.{Facts, DateFacts}
 use Rattle.time_known.specs.WellKnown.{month_and_day_text}
 use Rattle.time_digits.specs.Digits.{zero_padded}

@@ -28,7 +28,8 @@ puts_three p q r = grind (arith, common_steps, append_assoc, length-append)
 
 -- a part is put, if it is written
 abbrev PutsPart : Bool → ℕ → Buffer → Buffer → Result Unit OutOfRange → Outcome → Type 0
-PutsPart is_written width old new answer o = PutsOutcome (width_if is_written width) old new answer (part_if is_written o)
+PutsPart is_written width old new answer o =
+    PutsOutcome (width_if is_written width) old new answer (part_if is_written o)
 
 -- where their groups are supplied, the parts give the outcome
 parts_are : {date time offset moment : Bool} (c : Choices) (f : Facts) → c.formatted_components ≢ components.None
@@ -66,7 +67,7 @@ time_alone n old new c f e supplied groups h = grind (arith, common_steps)
 pub date_and_time : {date time offset moment : Bool} (found : Option ℕ) (old new : Vec ℕ Global) (c : Choices) (f : Facts)
     → c.formatted_components ≡ components.DateTime → SuppliesParts c date time offset → Supplies date time offset moment f
     → MatchOption found (new ≡ old) (λ n. AppendsUpTo (iso_date_width c + iso_time_width c) old new (Ok n)
-        (join (iso_date c (the_date f)) (iso_time c (the_time f))))
+    (join (iso_date c (the_date f)) (iso_time c (the_time f))))
     → MatchOption found (new ≡ old) (λ n. AppendsUpTo (iso8601_width c) old new (Ok n) (iso8601_outcome c f))
 date_and_time found old new c f e supplied groups h = grind (arith, common_steps, append-nil)
 
