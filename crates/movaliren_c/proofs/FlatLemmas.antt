@@ -62,12 +62,9 @@ pub flat_more : (a b : List Tree) → flat_items (a ++ b) ≡ flat_items a ++ fl
 flat_more [] b = refl
 flat_more (t ∷ ts) b = ap (λ (v : List Tree). flat t ++ v) (flat_more ts b) ∙ sym (append_assoc (flat t) (flat_items ts) (flat_items b))
 
-literal_by : (b : Bool) (bytes : List ℕ) → is_utf8 bytes ≡ b → flat (literal_of bytes) ≡ literal_of bytes ∷ []
-unfolding literal_of
-literal_by b bytes h = grind (arith, common_steps)
-
 pub flat_literal : (bytes : List ℕ) → flat (literal_of bytes) ≡ literal_of bytes ∷ []
-flat_literal bytes = literal_by (is_utf8 bytes) bytes refl
+unfolding literal_of
+flat_literal bytes = grind (arith, common_steps)
 
 both : (x y : Bool) → x && y ≡ true → (x ≡ true) × (y ≡ true)
 both x y h = grind (arith, common_steps)
@@ -119,11 +116,6 @@ hidden_below (f ∷ fs) d is = omega (arith, below_by (hidden_at fs) (is_nil f.l
 
 -- ---- lists that are opened and closed
 
--- the list that is opened is the outermost one that is not shown, if there was none and it is not the first
-pub opened_hidden : (hidden : Option ℕ) (fs : List Frame) (f : Frame) (is_first : Bool) (depth : ℕ) → hidden ≡ hidden_at fs → depth ≡ length fs → is_first ≡ is_nil f.lists
-    → or_at hidden is_first depth ≡ hidden_at (f ∷ fs)
-opened_hidden hidden fs f is_first depth same deep first = grind arith
-
 pub closed_hidden : (fs : List Frame) (f : Frame) (hidden : Option ℕ) (depth : ℕ) → hidden ≡ hidden_at (f ∷ fs) → depth ≡ length fs
     → closed_at hidden depth ≡ hidden_at fs
 closed_hidden fs f hidden depth same deep = grind (arith, common_steps, eqb-true, hidden_below)
@@ -136,10 +128,3 @@ list_closed fs lists items inner = grind (arith, common_steps)
 pub closed_shown : (fs : List Frame) (f : Frame) (inner : List Tree)
     → shown_in (f ∷ fs) (flat_items inner) ≡ shown_in fs (flat_items f.items ++ first_shown (f.lists ++ all_of (trees inner) ∷ []) [])
 closed_shown fs f inner = list_closed fs f.lists f.items inner
-
-pub ended_shown : (fs : List Frame) (nest : Nest) (items lists : List Tree) (left : ℕ) (item : Tree) → nested nest lists left ≡ Ok item
-    → shown_in fs (flat_items items ++ first_shown lists []) ≡ shown_in fs (flat_items (items ++ item ∷ []))
-ended_shown fs nest items lists left item is = grind (arith, common_steps, append-nil, flat_more)
-
-pub begun_shown : (fs : List Frame) (items : List Tree) → shown_in fs (flat_items items) ≡ shown_in fs (flat_items items ++ first_shown [] [])
-begun_shown fs items = ap (shown_in fs) (sym (append-nil (flat_items items)))

@@ -31,7 +31,7 @@ use Rattle.time_describe.specs.declared.strftime.InvalidStrftime.TheVariants as 
 use Rattle.time_describe.specs.declared.strftime.fault.StrftimeReason.{StrftimeReason}
 use Rattle.time_fmt.specs.Description.{current_outcome, tree_outcome, trees_outcome}
 use Rattle.time_fmt.specs.Outcome.{Outcome, done, join}
-use Rattle.movaliren_c.proofs.FlatLemmas.{begun_shown, closed_hidden, closed_shown, ended_shown, flat_more, leaves_flat, opened_hidden, shown_hidden, shown_more}
+use Rattle.movaliren_c.proofs.FlatLemmas.{closed_hidden, closed_shown, flat_more, leaves_flat, shown_hidden, shown_more}
 use Rattle.std.proofs.lemmas.Grind.{common_steps}
 
 -- ---- one item
@@ -58,12 +58,9 @@ item_is_of text c i current is =
 abbrev pub text_of : ℕ → ℕ → Item
 text_of start len = record { kind = 255; padding = 0; flag = 0; digits = 0; byte = 0; start = start; len = len }
 
-literal_by : (b : Bool) (bytes : List ℕ) (f : Facts) → is_utf8 bytes ≡ b → done bytes ≡ tree_outcome (literal_of bytes) f
-unfolding literal_of
-literal_by b bytes f h = grind (arith, common_steps)
-
 literal_outcome : (bytes : List ℕ) (f : Facts) → done bytes ≡ tree_outcome (literal_of bytes) f
-literal_outcome bytes f = literal_by (is_utf8 bytes) bytes f refl
+unfolding literal_of
+literal_outcome bytes f = grind (arith, common_steps)
 
 text_there : (text : List ℕ) (start len : ℕ) → start + len ≤ length text → item_tree text (text_of start len) ≡ Ok (byte_literal (slice_range text start (start + len)))
 text_there text start len fits = grind (arith, le-leb)
@@ -167,11 +164,11 @@ put_hidden text fs array count hidden items t h k = grind (arith, common_steps, 
 
 pub begun : (text : List ℕ) (fs : List Frame) (array : List Item) (count : ℕ) (hidden : Option ℕ) (items : List Tree) → HoldsIn text fs array count hidden items
     → HoldsListsIn text fs items array count hidden []
-begun text fs array count hidden items holds = grind (arith, begun_shown)
+begun text fs array count hidden items holds = grind (arith, append-nil)
 
 pub opened : (text : List ℕ) (f : Frame) (fs : List Frame) (array : List Item) (count depth : ℕ) (hidden new : Option ℕ) (is_first : Bool) → depth ≡ length fs
     → is_first ≡ is_nil f.lists → new ≡ or_at hidden is_first depth → HoldsListsIn text fs f.items array count hidden f.lists → HoldsIn text (f ∷ fs) array count new []
-opened text f fs array count depth hidden new is_first deep first is holds = grind (arith, opened_hidden)
+opened text f fs array count depth hidden new is_first deep first is holds = grind arith
 
 pub closed : (text : List ℕ) (f : Frame) (fs : List Frame) (array : List Item) (count depth : ℕ) (hidden new : Option ℕ) (items : List Tree) → depth ≡ length fs
     → new ≡ closed_at hidden depth → HoldsIn text (f ∷ fs) array count hidden items
@@ -180,7 +177,7 @@ closed text f fs array count depth hidden new items deep is holds = grind (arith
 
 pub ended : (text : List ℕ) (fs : List Frame) (nest : Nest) (items lists : List Tree) (array : List Item) (count left : ℕ) (hidden : Option ℕ) (item : Tree)
     → HoldsListsIn text fs items array count hidden lists → reading.nested nest lists left ≡ Ok item → HoldsIn text fs array count hidden (items ++ item ∷ [])
-ended text fs nest items lists array count left hidden item holds is = grind (arith, ended_shown)
+ended text fs nest items lists array count left hidden item holds is = grind (arith, common_steps, append-nil, flat_more)
 
 -- how many items there are, of which none is a list
 pub counted_leaves : (text : List ℕ) (array : List Item) (count : ℕ) (hidden : Option ℕ) (all : List Tree) → IsTrue (are_leaves all)

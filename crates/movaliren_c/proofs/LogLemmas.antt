@@ -18,6 +18,7 @@ use Rattle.time_below.specs.Facts.{date_facts}
 use Rattle.time_below.specs.Moment.{OffsetDateAndTime, local_at}
 use Rattle.time_below.specs.Offset.{Offset}
 use Rattle.time_fmt.specs.Decimals.{decimals}
+use Rattle.time_fmt.proofs.RoomLemmas.{still_behind}
 use Rattle.time_fmt.specs.Outcome.{done}
 use Rattle.time_known.proofs.AcceptedLemmas.{usual_accepted}
 use Rattle.time_known.specs.Accepted.{checked_text}
@@ -34,16 +35,11 @@ use Rattle.std.proofs.lemmas.Grind.{common_steps}
 abbrev at : ℕ → OffsetDateAndTime → OffsetDateAndTime
 at n v = record v { time = record v.time { nanosecond = n } }
 
-there : (b : Bool) (s : ℤ) (m n : ℕ) (o : Offset) (v : OffsetDateAndTime)
-    → checked b reason.NoPlaceForYear (Ok (local_at (record { seconds = s; nanosecond = m }) o)) ≡ Ok v
-    → checked b reason.NoPlaceForYear (Ok (local_at (record { seconds = s; nanosecond = n }) o)) ≡ Ok (at n v)
-there b s m n o v h = grind (arith, common_steps)
-
 -- the value of each moment of a second that has one
 later : (s east : ℤ) (n : ℕ) (v : OffsetDateAndTime) → local_value s 0 east ≡ Ok v → n < 1_000_000_000
     → local_value s n east ≡ Ok (at n v)
 unfolding local_value timestamp_value
-later s east n v h small = grind (arith, common_steps, lt-ltb, there)
+later s east n v h small = grind (arith, common_steps, lt-ltb)
 
 -- ---- texts of one second
 
@@ -85,28 +81,13 @@ unfolding iso8601_by
 kept_text d n second seconds kept offset before after bytes answer number old new remembers same there small few is digits written =
     grind (arith, common_steps, there)
 
--- a piece is all of its bytes
-pub whole_piece : (n : ℕ) (xs : List ℕ) → length xs ≡ n → take n xs ≡ xs
-whole_piece n xs e = take_all n xs (omega (arith, e))
-
--- what is equal from a place on is so from a later place on
-drop_later : (a b c : ℕ) (xs ys : List ℕ) → drop a xs ≡ drop a ys → drop (a + b + c) xs ≡ drop (a + b + c) ys
-drop_later a b c xs ys h =
-    sym (drop-drop c (a + b) xs) ∙ ap (drop c) (sym (drop-drop b a xs) ∙ ap (drop b) h ∙ drop-drop b a ys)
-    ∙ drop-drop c (a + b) ys
-
 -- three pieces, one after another, at the start of a buffer
 pub three_pieces : (n m k : ℕ) (x y z before first second third : List ℕ) → take (0 + n) first ≡ take 0 before ++ x
     → drop (0 + n) first ≡ drop (0 + n) before → take (n + m) second ≡ take n first ++ y → drop (n + m) second ≡ drop (n + m) first
     → take (n + m + k) third ≡ take (n + m) second ++ z → drop (n + m + k) third ≡ drop (n + m + k) second
     → third ≡ (x ++ y ++ z) ++ drop (n + m + k) before
 three_pieces n m k x y z before first second third a a' b b' c c' =
-    let zero : 0 + n ≡ n = omega arith in
-    let far : drop (n + m + k) second ≡ drop (n + m + k) first =
-    sym (drop-drop k (n + m) second) ∙ ap (drop k) b' ∙ drop-drop k (n + m) first in
-    let further : drop (n + m + k) first ≡ drop (n + m + k) before = drop_later n m k first before (rw zero at a') in
-    let text : take (n + m + k) third ≡ x ++ y ++ z = rw (c, b, rw zero at a) refl in
-    sym (take-append-drop (n + m + k) third) ∙ rw (text, c', far, further) refl
+    grind (arith, common_steps, still_behind, take-append-drop, append_assoc)
 
 -- a buffer whose bytes from a place on are these
 abbrev pub from_on : ℕ → List ℕ → List ℕ → List ℕ

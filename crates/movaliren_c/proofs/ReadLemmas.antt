@@ -15,26 +15,20 @@ use Rattle.time_below.proofs.MonthLemmas.{date_of-month_and_day, day_of_date, mo
 use Rattle.movaliren_c.proofs.MeaningLemmas.{same_value, test_that_passed, value_of_given}
 use Rattle.std.proofs.lemmas.Grind.{common_steps}
 
-go : {A : Type 0} (test : Bool) (r : Reason) (rest : Result A Reason) → test ≡ true → checked test r rest ≡ rest
-go test r rest h = rw h refl
-
-both : (a b : Bool) → a ≡ true → b ≡ true → (a && b) ≡ true
-both a b x y = rw (x, y) refl
-
 -- ---- a value of parts
 
 of_zero : (x : ℤ) → HasNoOtherSign (pos 0) x
 of_zero x = (λ above. absurd above.lt, λ below. absurd below.lt)
 
 pub offset_given : (m : Moment) (o : Offset) → offset_of_parts m ≡ o → IsOffset o → offset_value m ≡ Ok o
-offset_given m o is real = grind (arith, common_steps, both, le-leb, nat_tests, of_zero, go)
+offset_given m o is real = grind (arith, common_steps, le-leb, nat_tests, of_zero)
 
 pub value_of_parts : (m : Moment) (v : OffsetDateAndTime) → m.year ≡ v.date.year → m.month ≡ month_of v.date
     → m.day ≡ day_of v.date → time_of_parts m ≡ v.time → offset_of_parts m ≡ v.offset → IsDate v.date
     → IsTimeOfDay v.time → IsOffset v.offset → moment_value m ≡ Ok v
 unfolding moment_value date_value
 value_of_parts m v p q r time offset is_date is_time is_offset =
-    grind (arith, le-leb, both, month_of_date, day_of_date, date_of-month_and_day, go, lt-ltb, offset_given)
+    grind (arith, le-leb, lt-ltb, month_of_date, day_of_date, date_of-month_and_day, offset_given)
 
 -- ---- the parts of a local date and time
 

@@ -1,6 +1,7 @@
 -- Texts that are copied to the start of a buffer.
 use Rattle.std.proofs.Common.{◌≡◌, ℕ, ◌+◌, ◌-◌, ◌≤◌, List, ◌++◌, length, take, drop, sym, ap, ◌∙◌, length-drop, arith}
-use Rattle.std.proofs.lemmas.List.{length-take-le, take-append-drop, take-take, take_rest, drop-drop}
+use Rattle.time_fmt.proofs.RoomLemmas.{still_behind}
+use Rattle.std.proofs.lemmas.List.{length-take-le, take-append-drop, take-take, take_rest}
 
 -- a text of which the first bytes were written, and then the last ones
 joined_ends : (n k rest : ℕ) (text old mid new : List ℕ) → k ≤ n → rest ≤ k → take k mid ≡ take k text
@@ -11,10 +12,7 @@ joined_ends n k rest text old mid new most half start behind end after =
     let of_text : take rest (take k text) ≡ take rest text = take-take rest k text half in
     let first : take rest mid ≡ take rest text = sym first ∙ (ap (take rest) start ∙ of_text) in
     let whole : take n new ≡ text = rw first at end ∙ take-append-drop rest text in
-    let there : k + (n - k) ≡ n = omega arith in
-    let before : drop (n - k) (drop k mid) ≡ drop n mid = rw there at (drop-drop (n - k) k mid) in
-    let old_there : drop (n - k) (drop k old) ≡ drop n old = rw there at (drop-drop (n - k) k old) in
-    let same : drop n new ≡ drop n old = after ∙ (sym before ∙ (ap (drop (n - k)) behind ∙ old_there)) in
+    let same : drop n new ≡ drop n old = after ∙ still_behind k n old mid behind most in
     sym (take-append-drop n new) ∙ (ap (λ (xs : List ℕ). xs ++ drop n new) whole ∙ ap (λ (xs : List ℕ). text ++ xs) same)
 
 -- the same by what was written each time

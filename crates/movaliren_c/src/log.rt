@@ -179,7 +179,7 @@ fn put_decimals<B: Before>(room: &mut [u8], nanosecond: Nanoseconds, decimals: u
 /// Overwrites the bytes of the buffer from a place on by an offset. The compiler knows
 /// its usual lengths, 1 and 6.
 #[inline(always)]
-#[tactic(auto, using(crate::proofs::LogLemmas::whole_piece))]
+#[tactic(auto, using(std::proofs::lemmas::List::take_all))]
 fn write_zone(room: &mut [u8], at: usize, zone: &[u8])
     requires { at + length zone.now ≤ length room.old }
     ensures before { take (at + length zone.now) room.new ≡ take at room.old ++ zone.now }

@@ -71,63 +71,52 @@ fn item(kind: u32, padding: Padding, flag: bool, digits: SubsecondDigits) -> Ite
     }
 }
 
+/// The item of this kind with this padding and this flag, which has no decimals.
+macro_rules! shown {
+    ($kind:literal, $padding:expr, $flag:expr) => { Some(item($kind, $padding, $flag, SubsecondDigits::OneOrMore)) };
+}
+
 /// The item of a component that is written, unless it is deprecated.
 #[inline(always)]
 #[tactic(auto, unfolding(crate::specs::Items::date_component, crate::specs::Items::year_component, crate::specs::Items::time_component))]
 fn item_shown(component: Component) -> Option<Item>
     ensures { MatchOption result (is_shown component ≡ false) (IsItemOf component) }
 {
-    let (zero, some) = (Padding::Zero, SubsecondDigits::OneOrMore);
+    let zero = Padding::Zero;
     match component {
-        Component::Day(m) => Some(item(1, m.padding, false, some)),
-        Component::MonthShort(_) => Some(item(2, zero, false, some)),
-        Component::MonthLong(_) => Some(item(3, zero, false, some)),
-        Component::MonthNumerical(m) => Some(item(4, m.padding, false, some)),
-        Component::Ordinal(m) => Some(item(5, m.padding, false, some)),
-        Component::WeekdayShort(_) => Some(item(6, zero, false, some)),
-        Component::WeekdayLong(_) => Some(item(7, zero, false, some)),
-        Component::WeekdaySunday(m) => Some(item(8, zero, m.one_indexed, some)),
-        Component::WeekdayMonday(m) => Some(item(9, zero, m.one_indexed, some)),
-        Component::WeekNumberIso(m) => Some(item(10, m.padding, false, some)),
-        Component::WeekNumberSunday(m) => Some(item(11, m.padding, false, some)),
-        Component::WeekNumberMonday(m) => Some(item(12, m.padding, false, some)),
-        Component::CalendarYearFullExtendedRange(m) => {
-            Some(item(13, m.padding, m.sign_is_mandatory, some))
-        }
-        Component::CalendarYearFullStandardRange(m) => {
-            Some(item(14, m.padding, m.sign_is_mandatory, some))
-        }
-        Component::CalendarYearCenturyExtendedRange(m) => {
-            Some(item(15, m.padding, m.sign_is_mandatory, some))
-        }
-        Component::CalendarYearCenturyStandardRange(m) => {
-            Some(item(16, m.padding, m.sign_is_mandatory, some))
-        }
-        Component::CalendarYearLastTwo(m) => Some(item(17, m.padding, false, some)),
-        Component::IsoYearFullExtendedRange(m) => {
-            Some(item(18, m.padding, m.sign_is_mandatory, some))
-        }
-        Component::IsoYearFullStandardRange(m) => {
-            Some(item(19, m.padding, m.sign_is_mandatory, some))
-        }
-        Component::IsoYearCenturyExtendedRange(m) => {
-            Some(item(20, m.padding, m.sign_is_mandatory, some))
-        }
-        Component::IsoYearCenturyStandardRange(m) => {
-            Some(item(21, m.padding, m.sign_is_mandatory, some))
-        }
-        Component::IsoYearLastTwo(m) => Some(item(22, m.padding, false, some)),
-        Component::Hour12(m) => Some(item(23, m.padding, false, some)),
-        Component::Hour24(m) => Some(item(24, m.padding, false, some)),
-        Component::Minute(m) => Some(item(25, m.padding, false, some)),
-        Component::Period(m) => Some(item(26, zero, m.is_uppercase, some)),
-        Component::Second(m) => Some(item(27, m.padding, false, some)),
+        Component::Day(m) => shown!(1, m.padding, false),
+        Component::MonthShort(_) => shown!(2, zero, false),
+        Component::MonthLong(_) => shown!(3, zero, false),
+        Component::MonthNumerical(m) => shown!(4, m.padding, false),
+        Component::Ordinal(m) => shown!(5, m.padding, false),
+        Component::WeekdayShort(_) => shown!(6, zero, false),
+        Component::WeekdayLong(_) => shown!(7, zero, false),
+        Component::WeekdaySunday(m) => shown!(8, zero, m.one_indexed),
+        Component::WeekdayMonday(m) => shown!(9, zero, m.one_indexed),
+        Component::WeekNumberIso(m) => shown!(10, m.padding, false),
+        Component::WeekNumberSunday(m) => shown!(11, m.padding, false),
+        Component::WeekNumberMonday(m) => shown!(12, m.padding, false),
+        Component::CalendarYearFullExtendedRange(m) => shown!(13, m.padding, m.sign_is_mandatory),
+        Component::CalendarYearFullStandardRange(m) => shown!(14, m.padding, m.sign_is_mandatory),
+        Component::CalendarYearCenturyExtendedRange(m) => shown!(15, m.padding, m.sign_is_mandatory),
+        Component::CalendarYearCenturyStandardRange(m) => shown!(16, m.padding, m.sign_is_mandatory),
+        Component::CalendarYearLastTwo(m) => shown!(17, m.padding, false),
+        Component::IsoYearFullExtendedRange(m) => shown!(18, m.padding, m.sign_is_mandatory),
+        Component::IsoYearFullStandardRange(m) => shown!(19, m.padding, m.sign_is_mandatory),
+        Component::IsoYearCenturyExtendedRange(m) => shown!(20, m.padding, m.sign_is_mandatory),
+        Component::IsoYearCenturyStandardRange(m) => shown!(21, m.padding, m.sign_is_mandatory),
+        Component::IsoYearLastTwo(m) => shown!(22, m.padding, false),
+        Component::Hour12(m) => shown!(23, m.padding, false),
+        Component::Hour24(m) => shown!(24, m.padding, false),
+        Component::Minute(m) => shown!(25, m.padding, false),
+        Component::Period(m) => shown!(26, zero, m.is_uppercase),
+        Component::Second(m) => shown!(27, m.padding, false),
         Component::Subsecond(m) => Some(item(28, zero, false, m.digits)),
-        Component::OffsetHour(m) => Some(item(29, m.padding, m.sign_is_mandatory, some)),
-        Component::OffsetMinute(m) => Some(item(30, m.padding, false, some)),
-        Component::OffsetSecond(m) => Some(item(31, m.padding, false, some)),
-        Component::UnixTimestampSecond(m) => Some(item(32, zero, m.sign_is_mandatory, some)),
-        Component::UnixTimestampMillisecond(m) => Some(item(33, zero, m.sign_is_mandatory, some)),
+        Component::OffsetHour(m) => shown!(29, m.padding, m.sign_is_mandatory),
+        Component::OffsetMinute(m) => shown!(30, m.padding, false),
+        Component::OffsetSecond(m) => shown!(31, m.padding, false),
+        Component::UnixTimestampSecond(m) => shown!(32, zero, m.sign_is_mandatory),
+        Component::UnixTimestampMillisecond(m) => shown!(33, zero, m.sign_is_mandatory),
         Component::Ignore(_)
         | Component::End(_)
         | Component::Month(_)

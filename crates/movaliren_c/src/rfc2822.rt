@@ -70,8 +70,7 @@ pub extern "C" fn movaliren_rfc2822_local(
     ensures { IsAnswer (gives (local_value seconds nanosecond offset) rfc2822_of)
         result room.old room.new }
 {
-    let texts = texts_of(Rfc2822, AtOffset { east: offset });
-    answer_at(&texts, seconds, nanosecond, room)
+    answer_at(&texts_of(Rfc2822, AtOffset(offset)), seconds, nanosecond, room)
 }
 
 /// The texts of RFC 2822 of the moments, one after another, each ended by this byte.
@@ -109,6 +108,5 @@ pub extern "C" fn movaliren_rfc2822_local_batch(
         (λ m. gives (local_value m.seconds m.nanosecond offset) rfc2822_of)
         result room.old room.new }
 {
-    let texts = texts_of(Rfc2822, AtOffset { east: offset });
-    write_lines(&texts, moments, end, room)
+    write_lines(&texts_of(Rfc2822, AtOffset(offset)), moments, end, room)
 }

@@ -64,8 +64,7 @@ pub extern "C" fn movaliren_rfc3339_local(
     ensures { IsAnswer (gives (local_value seconds nanosecond offset) rfc3339_of)
         result room.old room.new }
 {
-    let texts = texts_of(Rfc3339, AtOffset { east: offset });
-    answer_at(&texts, seconds, nanosecond, room)
+    answer_at(&texts_of(Rfc3339, AtOffset(offset)), seconds, nanosecond, room)
 }
 
 /// The texts of RFC 3339 of the moments, one after another, each ended by this byte.
@@ -103,6 +102,5 @@ pub extern "C" fn movaliren_rfc3339_local_batch(
         (λ m. gives (local_value m.seconds m.nanosecond offset) rfc3339_of)
         result room.old room.new }
 {
-    let texts = texts_of(Rfc3339, AtOffset { east: offset });
-    write_lines(&texts, moments, end, room)
+    write_lines(&texts_of(Rfc3339, AtOffset(offset)), moments, end, room)
 }

@@ -55,19 +55,16 @@ impl Source for InUtc {
 
 /// Moments by the local date and time, at an offset of this many seconds east of UTC.
 #[derive(Clone, Copy)]
-pub struct AtOffset {
-    /// The seconds east of UTC.
-    pub east: i64,
-}
+pub struct AtOffset(pub i64);
 
 impl Source for AtOffset {
     type Item = UtcMoment;
 
-    ghost given = { λ at moment. local_value moment.seconds moment.nanosecond at.east };
+    ghost given = { λ at moment. local_value moment.seconds moment.nanosecond at.0 };
 
     #[inline(always)]
     fn value(self, moment: &UtcMoment) -> Result<OffsetDateTime, Reason> {
-        local_value(moment.seconds, moment.nanosecond, self.east)
+        local_value(moment.seconds, moment.nanosecond, self.0)
     }
 }
 
