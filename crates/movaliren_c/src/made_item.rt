@@ -98,8 +98,16 @@ fn item_shown(component: Component) -> Option<Item>
         Component::WeekNumberMonday(m) => shown!(12, m.padding, false),
         Component::CalendarYearFullExtendedRange(m) => shown!(13, m.padding, m.sign_is_mandatory),
         Component::CalendarYearFullStandardRange(m) => shown!(14, m.padding, m.sign_is_mandatory),
-        Component::CalendarYearCenturyExtendedRange(m) => shown!(15, m.padding, m.sign_is_mandatory),
-        Component::CalendarYearCenturyStandardRange(m) => shown!(16, m.padding, m.sign_is_mandatory),
+        Component::CalendarYearCenturyExtendedRange(m) => shown!(
+            15,
+            m.padding,
+            m.sign_is_mandatory
+        ),
+        Component::CalendarYearCenturyStandardRange(m) => shown!(
+            16,
+            m.padding,
+            m.sign_is_mandatory
+        ),
         Component::CalendarYearLastTwo(m) => shown!(17, m.padding, false),
         Component::IsoYearFullExtendedRange(m) => shown!(18, m.padding, m.sign_is_mandatory),
         Component::IsoYearFullStandardRange(m) => shown!(19, m.padding, m.sign_is_mandatory),
