@@ -1,9 +1,8 @@
 -- An offset is its sign and the sizes of its parts.
-use Rattle.std.proofs.Common.{◌≡◌, ℕ, Bool, ℤ, pos, true, arith, unsigned_abs}
+use Rattle.std.proofs.Common.{◌≡◌, ℕ, Bool, arith, unsigned_abs}
 use Rattle.std.proofs.lemmas.Bool.Decides.{nat_tests}
 use Rattle.std.proofs.lemmas.Int.{ints}
-use Rattle.std.specs.Prelude.{◌≤ℤ◌}
-use Rattle.time_below.specs.Offset.{IsOffset, Offset, is_negative, is_utc, signed}
+use Rattle.time_below.specs.Offset.{IsOffset, Offset, is_negative, is_utc}
 use Rattle.time_known.specs.WellKnown.{offset_by}
 use Rattle.std.proofs.lemmas.Grind.{common_steps}
 
