@@ -108,6 +108,7 @@ pub fn put_parts<S: Sink, V: ComponentProvider>(
     ensures real { OnOk result (IsRealWhole config.now (V.facts value.now)) }
     ensures agrees { V.agrees state.new value.now }
 {
+    // Asked within the branch, a refusal would cost other texts up to three instructions.
     let date = if config.has_date() {
         put_date(output, config, value, state)
     } else {
