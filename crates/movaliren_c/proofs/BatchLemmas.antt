@@ -22,7 +22,7 @@ pub stops_at_item : {A : Type 0} (n : ℕ) (items : List A) (line : A → Result
     → take bytes later ≡ take bytes room
     → Stand n items line bytes before later × StopsAt r n items line (length (drop bytes before))
 stops_at_item n items line bytes before room later item r inside is s h same =
-    grind (arith, common_steps, same_room, slice_get-get_or)
+    grind (arith, common_steps, take-append-drop, slice_get-get_or)
 
 -- ---- the byte that ends a text
 

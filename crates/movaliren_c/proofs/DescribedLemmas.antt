@@ -139,7 +139,7 @@ more_put next left behind old now new lost more total f all begin state step sum
 
 alone_put : (t : Tree) (f : Facts) (old new : Buffer) (lost : ℕ) → IsPut (Ok t) f old new (Ok lost)
     → IsPut (Ok (all_of (trees (t ∷ [])))) f old new (Ok lost)
-alone_put t f old new lost put = rw (alone (tree_outcome t f)) (put.0, omega (arith, put.1), put.2)
+alone_put t f old new lost put = grind (arith, alone)
 
 -- an item whose text was put or lost
 pub one_more : {before after : Type 0} {I : Type 0} (g : I → Result Tree Reason) (items behind : List I) (d : I)

@@ -1,36 +1,25 @@
 -- Lists in one another, one after the other.
-use Rattle.std.proofs.Common.{◌≡◌, ◌<◌, ◌+◌, ◌++◌, ℕ, Bool, true, List, [], ◌∷◌, length, Option, Some, None, Ok, refl, sym, ap, ◌∙◌, append_assoc, arith}
-use Rattle.std.specs.Prelude.{◌&&◌, IsTrue}
-use Rattle.std.proofs.lemmas.Bool.{eqb-true}
+use Rattle.std.proofs.Common.{◌≡◌, ◌<◌, ◌+◌, ◌++◌, ℕ, Bool, true, List, [], ◌∷◌, length, Option, Some, None, refl, sym, ap, ◌∙◌, append_assoc, arith}
+use Rattle.std.specs.Prelude.{IsTrue}
+use Rattle.std.proofs.lemmas.Bool.{and_parts, eqb-true}
 use Rattle.std.proofs.lemmas.List.{append-nil}
-use Rattle.std.specs.Str.{is_utf8}
 use Rattle.movaliren_c.specs.Flat.{all_flat, closed_at, first_shown, flat, flat_items, hidden_at, or_at, shown_in}
 use Rattle.time_below.specs.Facts.{Facts}
 use Rattle.time_below.specs.Tree.{Tree, Trees, trees, byte_literal, text_literal, of_component, all_of, first_of, nothing, end, more}
 use Rattle.time_describe.specs.Items.{are_leaves, is_leaf, is_nil}
 use Rattle.time_describe.specs.Literal.{literal_of}
-use Rattle.time_describe.specs.Reading.{Frame, nested}
-use Rattle.time_describe.specs.declared.pieces.Nest.{Nest}
+use Rattle.time_describe.specs.Reading.{Frame}
 use Rattle.time_fmt.specs.Description.{tree_outcome, trees_outcome}
-use Rattle.time_fmt.specs.Outcome.{Outcome, Refusal, done, join}
+use Rattle.time_fmt.specs.Outcome.{Outcome, done, join}
 use Rattle.std.proofs.lemmas.Grind.{common_steps}
 
 -- ---- outcomes
 
-regrouped : (x : List ℕ) (r : Option Refusal) (y : List ℕ) (s : Option Refusal) (c : Outcome)
-    → join (join (record { bytes = x; refusal = r }) (record { bytes = y; refusal = s })) c
-    ≡ join (record { bytes = x; refusal = r }) (join (record { bytes = y; refusal = s }) c)
-regrouped x r y s c = grind (arith, common_steps, append_assoc)
-
 join_assoc : (a b c : Outcome) → join (join a b) c ≡ join a (join b c)
-join_assoc a b c = regrouped a.bytes a.refusal b.bytes b.refusal c
-
-nothing_behind : (x : List ℕ) (r : Option Refusal)
-    → join (record { bytes = x; refusal = r }) (done []) ≡ record { bytes = x; refusal = r }
-nothing_behind x r = grind (arith, common_steps, append-nil)
+join_assoc a b c = grind (arith, common_steps, append_assoc)
 
 pub alone : (a : Outcome) → join a (done []) ≡ a
-alone a = nothing_behind a.bytes a.refusal
+alone a = grind (arith, common_steps, append-nil)
 
 pub joined : (a b : List Tree) (f : Facts) → trees_outcome (trees (a ++ b)) f ≡ join (trees_outcome (trees a) f) (trees_outcome (trees b) f)
 joined [] b f = refl
@@ -66,9 +55,6 @@ pub flat_literal : (bytes : List ℕ) → flat (literal_of bytes) ≡ literal_of
 unfolding literal_of
 flat_literal bytes = grind (arith, common_steps)
 
-both : (x y : Bool) → x && y ≡ true → (x ≡ true) × (y ≡ true)
-both x y h = grind (arith, common_steps)
-
 leaf_flat : (t : Tree) → is_leaf t ≡ true → flat t ≡ t ∷ []
 leaf_flat t h = grind (arith, common_steps)
 
@@ -76,7 +62,7 @@ leaf_flat t h = grind (arith, common_steps)
 pub leaves_flat : (all : List Tree) → IsTrue (are_leaves all) → flat_items all ≡ all
 leaves_flat [] leaves = refl
 leaves_flat (t ∷ ts) leaves =
-    let w = both (is_leaf t) (are_leaves ts) leaves in
+    let w = and_parts (is_leaf t) (are_leaves ts) leaves in
     ap (λ (v : List Tree). v ++ flat_items ts) (leaf_flat t w.0) ∙ ap (λ (v : List Tree). t ∷ v) (leaves_flat ts w.1)
 
 -- ---- what is shown in open lists
@@ -120,11 +106,6 @@ pub closed_hidden : (fs : List Frame) (f : Frame) (hidden : Option ℕ) (depth :
     → closed_at hidden depth ≡ hidden_at fs
 closed_hidden fs f hidden depth same deep = grind (arith, common_steps, eqb-true, hidden_below)
 
-list_closed : (fs : List Frame) (lists items inner : List Tree)
-    → shown_in fs (flat_items items ++ first_shown lists (flat_items inner))
-    ≡ shown_in fs (flat_items items ++ first_shown (lists ++ all_of (trees inner) ∷ []) [])
-list_closed fs lists items inner = grind (arith, common_steps)
-
 pub closed_shown : (fs : List Frame) (f : Frame) (inner : List Tree)
     → shown_in (f ∷ fs) (flat_items inner) ≡ shown_in fs (flat_items f.items ++ first_shown (f.lists ++ all_of (trees inner) ∷ []) [])
-closed_shown fs f inner = list_closed fs f.lists f.items inner
+closed_shown fs f inner = grind (arith, common_steps)

@@ -1,11 +1,10 @@
 -- Items of a text, in an array and in what they show.
 use Rattle.std.proofs.Common.{◌≡◌, ◌<◌, ◌≤◌, ◌+◌, ◌++◌, ℕ, min, Bool, true, false, List, [], ◌∷◌, length, take, set, Option, None, is_some, Result, Ok, Err, refl, sym, ap, ◌∙◌, subst, arith, ne_eqb}
 use Rattle.std.specs.Prelude.{IsTrue, slice_range, ◌==◌, ◌≢◌}
-use Rattle.std.specs.Str.{is_utf8}
 use Rattle.std.proofs.lemmas.Bool.{le-leb, leb-true, leb-false}
 use Rattle.std.proofs.lemmas.List.{append-nil, length-append, take_more_set}
 use Rattle.movaliren_c.specs.Answer.{IsText}
-use Rattle.movaliren_c.specs.Described.{AreItems, DescribeNothing, Describes, HoldsIn, HoldsItems, HoldsListsIn, IsHeld, IsItem, IsItemOf, Leaves, LeavesItems, bracket_items, bracket_number, few_in, fault_at, is_shown, no_item, of_brackets, shown, strftime_items, strftime_number}
+use Rattle.movaliren_c.specs.Described.{AreItems, DescribeNothing, Describes, HoldsIn, HoldsItems, HoldsListsIn, IsHeld, IsItem, IsItemOf, Leaves, bracket_items, bracket_number, few_in, fault_at, is_shown, no_item, shown, strftime_items, strftime_number}
 use Rattle.movaliren_c.specs.Flat.{closed_at, flat, flat_items, hidden_at, or_at, shown_in}
 use Rattle.movaliren_c.specs.Items.{component_of, date_component, described, item_tree, trees_of}
 use Rattle.movaliren_c.specs.declared.item.Item.{Item}
@@ -62,13 +61,10 @@ literal_outcome : (bytes : List ℕ) (f : Facts) → done bytes ≡ tree_outcome
 unfolding literal_of
 literal_outcome bytes f = grind (arith, common_steps)
 
-text_there : (text : List ℕ) (start len : ℕ) → start + len ≤ length text → item_tree text (text_of start len) ≡ Ok (byte_literal (slice_range text start (start + len)))
-text_there text start len fits = grind (arith, le-leb)
-
 pub text_is : (text : List ℕ) (start len : ℕ) → start + len ≤ length text → IsItem text (text_of start len) (literal_of (slice_range text start (start + len)))
 text_is text start len fits = record {
   tree = byte_literal (slice_range text start (start + len));
-  there = text_there text start len fits;
+  there = grind (arith, le-leb);
   same = λ f. literal_outcome (slice_range text start (start + len)) f;
 }
 
@@ -78,7 +74,7 @@ byte_is text b = record { tree = byte_literal (b ∷ []); there = refl; same = �
 pub no_text_is : (text : List ℕ) (c : Component) → IsTrue (is_current (current_component c)) → is_shown (current_component c) ≡ false → IsItem text (text_of 0 0) (of_component c)
 no_text_is text c current none = record {
   tree = byte_literal (slice_range text 0 (0 + 0));
-  there = text_there text 0 0 (omega arith);
+  there = grind (arith, le-leb);
   same = λ f. sym (nothing_shown (current_component c) none current f);
 }
 
@@ -142,7 +138,7 @@ strftime_faulty text reason index says = grind arith
 pub brackets_held : (text : List ℕ) (array : List Item) (count : ℕ) (hidden : Option ℕ)
     → bracket_found.IsFound (reading.described text) (HoldsIn text [] array count hidden) → IsHeld text (bracket_items text) array count
 unfolding bracket_items
-brackets_held text array count hidden found = record { all = flat_items found.0; is = ap (of_brackets (length text)) found.1; held = found.2.held }
+brackets_held text array count hidden found = grind arith
 
 pub brackets_faulty : (text : List ℕ) (reason : bracket_reasons.Reason) (index : ℕ)
     → bracket_says.Says (length text) (reading.described text) (bracket_error.Invalid reason index) → bracket_items text ≡ Err (fault_at index (bracket_number reason))
@@ -207,16 +203,12 @@ pub text_shown : {A : Type 0} (text : List ℕ) (d : Result (List Tree) Fault) (
 text_shown text d count most items old new value facts answer before after small h =
     grind (arith, common_steps, leb-true, le-leb, same_by)
 
-many_only : (fits : Bool) (text : List ℕ) (all : List Tree) (r : Reason) (items : List Item) (old new : Fault)
-    → LeavesItems fits text all (Err r) items old new → r ≡ reason.ManyItems
-many_only fits text all r items old new h = grind (arith, common_steps)
-
 -- or there is the same reason for none
 pub text_refused : (text : List ℕ) (d : Result (List Tree) Fault) (r : Reason) (items : List Item) (old new : Fault) → Leaves text d (Err r) items old new
     → few_in (length items) d ≡ Err r
-text_refused text d r items old new h = grind (arith, common_steps, many_only)
+text_refused text d r items old new h = grind (arith, common_steps)
 
 -- a fault is the same, however many items there may be
 pub text_faulty : (text : List ℕ) (d : Result (List Tree) Fault) (r : Reason) (most : ℕ) (items : List Item) (old new : Fault)
     → r ≢ reason.ManyItems → Leaves text d (Err r) items old new → few_in most d ≡ Err r
-text_faulty text d r most items old new h k = grind (arith, common_steps, many_only)
+text_faulty text d r most items old new h k = grind (arith, common_steps)

@@ -1,5 +1,5 @@
 -- What is kept for the times of log lines.
-use Rattle.std.proofs.Common.{◌≡◌, ◌∙◌, ℕ, ◌<◌, ℤ, Bool, true, List, [], ◌++◌, append_assoc, refl, ap, arith, ◌⊎◌}
+use Rattle.std.proofs.Common.{◌≡◌, ◌∙◌, ℕ, ◌<◌, ℤ, true, List, [], ◌++◌, append_assoc, refl, ap, arith, ◌⊎◌}
 use Rattle.std.proofs.Common.{unsigned_abs, Result, Ok, Some, ◌+◌, ◌-◌, ◌≤◌, drop, length, length-append, length-drop}
 use Rattle.std.proofs.Common.{sym, take, w64, FitsSigned, of_z, to_z}
 use Rattle.std.proofs.lemmas.Bool.{lt-ltb}
@@ -11,12 +11,10 @@ use Rattle.movaliren_c.specs.Answer.{IsAnswer, IsWritten, answer_number}
 use Rattle.movaliren_c.specs.Chosen.{iso8601_by}
 use Rattle.movaliren_c.specs.Log.{Remembers, head_of, log_choices, log_config}
 use Rattle.movaliren_c.specs.Utc.{local_value}
-use Rattle.movaliren_c.specs.Value.{checked, timestamp_value}
+use Rattle.movaliren_c.specs.Value.{timestamp_value}
 use Rattle.movaliren_c.specs.declared.reason.Reason.{Reason}
-use Rattle.movaliren_c.specs.declared.reason.Reason.TheVariants as reason
 use Rattle.time_below.specs.Facts.{date_facts}
-use Rattle.time_below.specs.Moment.{OffsetDateAndTime, local_at}
-use Rattle.time_below.specs.Offset.{Offset}
+use Rattle.time_below.specs.Moment.{OffsetDateAndTime}
 use Rattle.time_fmt.specs.Decimals.{decimals}
 use Rattle.time_fmt.proofs.RoomLemmas.{still_behind}
 use Rattle.time_fmt.specs.Outcome.{done}

@@ -30,7 +30,7 @@ same_value a b h = let e = h in cc
 is_moment : (s : ℤ) (n : ℕ) (m : Moment) → timestamp_value s n ≡ Ok m
     → IsMoment m × (m.seconds ≡ s) × (m.nanosecond ≡ n)
 unfolding timestamp_value
-is_moment s n m h = grind (arith, test_that_passed, same_value, and_parts, ints, nat_tests)
+is_moment s n m h = grind (arith, common_steps, and_parts, ints, nat_tests)
 
 -- a date and time in UTC of a real moment
 in_utc : (s : ℤ) (n : ℕ) (t : OffsetDateAndTime) → utc_value s n ≡ Ok t
@@ -45,7 +45,7 @@ in_utc s n t h =
 
 -- the offset of so many seconds is one, and has so many seconds
 offset_of : (east : ℤ) (o : Offset) → east_value east ≡ Ok o → IsOffset o × (offset_seconds o ≡ east)
-offset_of east o h = grind (arith, test_that_passed, same_value, IsOffset-of_seconds, nat_tests, offset_back)
+offset_of east o h = grind (arith, common_steps, IsOffset-of_seconds, nat_tests, offset_back)
 
 -- the local date and time of a moment
 local_of : (m : Moment) (o : Offset) (t : OffsetDateAndTime) → IsMoment m → local_there m o ≡ Ok t

@@ -14,10 +14,8 @@ use Rattle.time_below.specs.declared.format_description.component.Component.TheV
 use Rattle.time_describe.specs.Reading as reading
 use Rattle.time_describe.specs.Reading.{Frame}
 use Rattle.time_describe.specs.Strftime as strftime
-use Rattle.time_describe.specs.declared.fault.Fault as bracket_fault
 use Rattle.time_describe.specs.declared.fault.Reason as bracket_reasons
 use Rattle.time_describe.specs.declared.fault.Reason.TheVariants as bracket_reason
-use Rattle.time_describe.specs.declared.strftime.fault.Fault as strftime_fault
 use Rattle.time_describe.specs.declared.strftime.fault.StrftimeReason.{StrftimeReason}
 use Rattle.time_describe.specs.declared.strftime.fault.StrftimeReason.TheVariants as strftime_reason
 use Rattle.time_fmt.specs.Description.{tree_outcome, trees_outcome}
@@ -115,21 +113,20 @@ fault_at at reason = record { at = at; items = 0; reason = reason.0; byte = reas
 abbrev pub many : ℕ → Fault
 many items = record { at = 0; items = items; reason = 0; byte = 0 }
 
--- what a text in the syntax of strftime describes: the trees of its items, or its first fault
-abbrev pub of_strftime : ℕ → Result (List Tree) strftime_fault.Fault → Result (List Tree) Fault
-of_strftime len (Ok all) = Ok all
-of_strftime len (Err f) = Err (fault_at (len - f.left) (strftime_number f.reason))
+-- what comes of a result, by its items and by its fault
+abbrev pub of_result : {F : Type 0} → (List Tree → List Tree) → (F → Fault) → Result (List Tree) F → Result (List Tree) Fault
+of_result items fault (Ok all) = Ok (items all)
+of_result items fault (Err f) = Err (fault f)
 
+-- what a text in the syntax of strftime describes: the trees of its items, or its first fault
 unfoldable pub strftime_items : List ℕ → Result (List Tree) Fault
-strftime_items text = of_strftime (length text) (strftime.described text)
+strftime_items text =
+    of_result (λ all. all) (λ f. fault_at (length text - f.left) (strftime_number f.reason)) (strftime.described text)
 
 -- what a text in brackets describes, with the items of lists in their places
-abbrev pub of_brackets : ℕ → Result (List Tree) bracket_fault.Fault → Result (List Tree) Fault
-of_brackets len (Ok all) = Ok (flat_items all)
-of_brackets len (Err f) = Err (fault_at (len - f.left) (bracket_number f.reason))
-
 unfoldable pub bracket_items : List ℕ → Result (List Tree) Fault
-bracket_items text = of_brackets (length text) (reading.described text)
+bracket_items text =
+    of_result flat_items (λ f. fault_at (length text - f.left) (bracket_number f.reason)) (reading.described text)
 
 -- ---- what is left
 

@@ -160,14 +160,12 @@ first_part run.StandardDate =
 first_part run.Time = component.Hour24 (record { padding = padding.Zero })
 
 abbrev pub second_part : Run → Component
-second_part run.Date = component.MonthNumerical (record { padding = padding.Zero })
-second_part run.StandardDate = component.MonthNumerical (record { padding = padding.Zero })
 second_part run.Time = component.Minute (record { padding = padding.Zero })
+second_part _ = component.MonthNumerical (record { padding = padding.Zero })
 
 abbrev pub third_part : Run → Component
-third_part run.Date = component.Day (record { padding = padding.Zero })
-third_part run.StandardDate = component.Day (record { padding = padding.Zero })
 third_part run.Time = component.Second (record { padding = padding.Zero })
+third_part _ = component.Day (record { padding = padding.Zero })
 
 -- these parts with a byte between each two, and what is behind them
 abbrev pub run_before : Run → ℕ → ℕ → List Tree → List Tree

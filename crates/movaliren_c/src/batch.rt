@@ -60,7 +60,6 @@ fn write_line_after<W: Writer>(
 
 /// Writes the text of the item and its end byte to the start of the buffer. The text may use all
 /// but the last byte. An empty buffer has no such byte, so an empty text does not fit it either.
-#[tactic(auto, using(crate::proofs::BatchLemmas::ended_text, crate::proofs::BatchLemmas::ended_stops))]
 fn write_line<W: Writer>(
     writer: &W,
     item: &W::Item,

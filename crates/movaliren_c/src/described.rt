@@ -230,7 +230,6 @@ fn write_chosen<B: Before, V: FirstState>(
 /// Writes the text of the items to the start of a buffer, or as much of it as fits. Returns the number of
 /// bytes of the whole text, up to the greatest `usize`.
 #[inline(never)]
-#[tactic(auto, using(time_fmt::proofs::RoomLemmas::room_written, crate::proofs::DescribedLemmas::put_shown))]
 fn write_items<B: Before, V: FirstState, const HAS_RUNS: bool>(
     items: &[Item],
     texts: &[u8],

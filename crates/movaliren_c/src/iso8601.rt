@@ -104,12 +104,8 @@ pub extern "C" fn movaliren_iso8601_local(
     ensures { IsAnswer (gives (local_value seconds nanosecond offset) (iso8601_of default_choices))
         result room.old room.new }
 {
-    answer_at(
-        &texts_of(Iso8601, AtOffset(offset)),
-        seconds,
-        nanosecond,
-        room,
-    )
+    let texts = texts_of(Iso8601, AtOffset(offset));
+    answer_at(&texts, seconds, nanosecond, room)
 }
 
 /// The texts of ISO 8601 of the moments by the default configuration, one after another, each ended
@@ -211,12 +207,8 @@ pub extern "C" fn movaliren_iso8601_by_local(
     ensures { IsAnswer (iso8601_by config.now (local_value seconds nanosecond offset))
         result room.old room.new }
 {
-    answer_at(
-        &iso8601_by(config, AtOffset(offset)),
-        seconds,
-        nanosecond,
-        room,
-    )
+    let texts = iso8601_by(config, AtOffset(offset));
+    answer_at(&texts, seconds, nanosecond, room)
 }
 
 /// The texts of ISO 8601 of the moments by a configuration, one after another, each ended by this

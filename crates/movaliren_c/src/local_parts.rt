@@ -17,17 +17,13 @@ use std::marker::Model;
 use time_below::{Date, Month, OffsetDateTime, Time, Timestamp, UtcOffset};
 use time_digits::{ru8, ru32};
 use time_provide::ranges::{Day, IsoWeekNumber, Nanoseconds, Year};
-use time_provide::{ComponentProvider, DateState, Kept};
+use time_provide::{ComponentProvider, DateState, Kept, TimestampState};
 
 /// A value that is written by a description, with the state to begin with.
 pub trait FirstState: ComponentProvider<State: Drop> + Drop {
-    /// A state that holds what is known of the value, or nothing.
-    #[inline(always)]
+    /// A state that holds what is known of the value.
     fn first_state(&self) -> Self::State
-        ensures { Self.agrees result self.now }
-    {
-        Default::default()
-    }
+        ensures { Self.agrees result self.now };
 }
 
 /// A local date and time with its offset, by the parts that a caller gives, and its date. The month and the day of the
@@ -122,7 +118,6 @@ impl LocalParts {
 
 /// The value of the parts, which are kept, or the first part that is outside its range.
 #[inline(always)]
-#[tactic(auto, using(crate::proofs::ReadLemmas::value_by_parts))]
 pub fn local_parts_of(moment: &Moment) -> Result<LocalParts, Reason>
     ensures { result ≡ moment_value moment.now }
 {
@@ -266,6 +261,16 @@ impl FirstState for LocalParts {
     }
 }
 
-impl FirstState for Timestamp {}
+impl FirstState for Timestamp {
+    #[inline(always)]
+    fn first_state(&self) -> TimestampState {
+        Default::default()
+    }
+}
 
-impl FirstState for Date {}
+impl FirstState for Date {
+    #[inline(always)]
+    fn first_state(&self) -> DateState {
+        Default::default()
+    }
+}

@@ -72,7 +72,7 @@ fn item(kind: u32, padding: Padding, flag: bool, digits: SubsecondDigits) -> Ite
 }
 
 /// The item of this kind with this padding and this flag, which has no decimals.
-macro_rules! shown {
+macro_rules! made {
     ($kind:literal, $padding:expr, $flag:expr) => { Some(item($kind, $padding, $flag, SubsecondDigits::OneOrMore)) };
 }
 
@@ -84,47 +84,39 @@ fn item_shown(component: Component) -> Option<Item>
 {
     let zero = Padding::Zero;
     match component {
-        Component::Day(m) => shown!(1, m.padding, false),
-        Component::MonthShort(_) => shown!(2, zero, false),
-        Component::MonthLong(_) => shown!(3, zero, false),
-        Component::MonthNumerical(m) => shown!(4, m.padding, false),
-        Component::Ordinal(m) => shown!(5, m.padding, false),
-        Component::WeekdayShort(_) => shown!(6, zero, false),
-        Component::WeekdayLong(_) => shown!(7, zero, false),
-        Component::WeekdaySunday(m) => shown!(8, zero, m.one_indexed),
-        Component::WeekdayMonday(m) => shown!(9, zero, m.one_indexed),
-        Component::WeekNumberIso(m) => shown!(10, m.padding, false),
-        Component::WeekNumberSunday(m) => shown!(11, m.padding, false),
-        Component::WeekNumberMonday(m) => shown!(12, m.padding, false),
-        Component::CalendarYearFullExtendedRange(m) => shown!(13, m.padding, m.sign_is_mandatory),
-        Component::CalendarYearFullStandardRange(m) => shown!(14, m.padding, m.sign_is_mandatory),
-        Component::CalendarYearCenturyExtendedRange(m) => shown!(
-            15,
-            m.padding,
-            m.sign_is_mandatory
-        ),
-        Component::CalendarYearCenturyStandardRange(m) => shown!(
-            16,
-            m.padding,
-            m.sign_is_mandatory
-        ),
-        Component::CalendarYearLastTwo(m) => shown!(17, m.padding, false),
-        Component::IsoYearFullExtendedRange(m) => shown!(18, m.padding, m.sign_is_mandatory),
-        Component::IsoYearFullStandardRange(m) => shown!(19, m.padding, m.sign_is_mandatory),
-        Component::IsoYearCenturyExtendedRange(m) => shown!(20, m.padding, m.sign_is_mandatory),
-        Component::IsoYearCenturyStandardRange(m) => shown!(21, m.padding, m.sign_is_mandatory),
-        Component::IsoYearLastTwo(m) => shown!(22, m.padding, false),
-        Component::Hour12(m) => shown!(23, m.padding, false),
-        Component::Hour24(m) => shown!(24, m.padding, false),
-        Component::Minute(m) => shown!(25, m.padding, false),
-        Component::Period(m) => shown!(26, zero, m.is_uppercase),
-        Component::Second(m) => shown!(27, m.padding, false),
+        Component::Day(m) => made!(1, m.padding, false),
+        Component::MonthShort(_) => made!(2, zero, false),
+        Component::MonthLong(_) => made!(3, zero, false),
+        Component::MonthNumerical(m) => made!(4, m.padding, false),
+        Component::Ordinal(m) => made!(5, m.padding, false),
+        Component::WeekdayShort(_) => made!(6, zero, false),
+        Component::WeekdayLong(_) => made!(7, zero, false),
+        Component::WeekdaySunday(m) => made!(8, zero, m.one_indexed),
+        Component::WeekdayMonday(m) => made!(9, zero, m.one_indexed),
+        Component::WeekNumberIso(m) => made!(10, m.padding, false),
+        Component::WeekNumberSunday(m) => made!(11, m.padding, false),
+        Component::WeekNumberMonday(m) => made!(12, m.padding, false),
+        Component::CalendarYearFullExtendedRange(m) => made!(13, m.padding, m.sign_is_mandatory),
+        Component::CalendarYearFullStandardRange(m) => made!(14, m.padding, m.sign_is_mandatory),
+        Component::CalendarYearCenturyExtendedRange(m) => made!(15, m.padding, m.sign_is_mandatory),
+        Component::CalendarYearCenturyStandardRange(m) => made!(16, m.padding, m.sign_is_mandatory),
+        Component::CalendarYearLastTwo(m) => made!(17, m.padding, false),
+        Component::IsoYearFullExtendedRange(m) => made!(18, m.padding, m.sign_is_mandatory),
+        Component::IsoYearFullStandardRange(m) => made!(19, m.padding, m.sign_is_mandatory),
+        Component::IsoYearCenturyExtendedRange(m) => made!(20, m.padding, m.sign_is_mandatory),
+        Component::IsoYearCenturyStandardRange(m) => made!(21, m.padding, m.sign_is_mandatory),
+        Component::IsoYearLastTwo(m) => made!(22, m.padding, false),
+        Component::Hour12(m) => made!(23, m.padding, false),
+        Component::Hour24(m) => made!(24, m.padding, false),
+        Component::Minute(m) => made!(25, m.padding, false),
+        Component::Period(m) => made!(26, zero, m.is_uppercase),
+        Component::Second(m) => made!(27, m.padding, false),
         Component::Subsecond(m) => Some(item(28, zero, false, m.digits)),
-        Component::OffsetHour(m) => shown!(29, m.padding, m.sign_is_mandatory),
-        Component::OffsetMinute(m) => shown!(30, m.padding, false),
-        Component::OffsetSecond(m) => shown!(31, m.padding, false),
-        Component::UnixTimestampSecond(m) => shown!(32, zero, m.sign_is_mandatory),
-        Component::UnixTimestampMillisecond(m) => shown!(33, zero, m.sign_is_mandatory),
+        Component::OffsetHour(m) => made!(29, m.padding, m.sign_is_mandatory),
+        Component::OffsetMinute(m) => made!(30, m.padding, false),
+        Component::OffsetSecond(m) => made!(31, m.padding, false),
+        Component::UnixTimestampSecond(m) => made!(32, zero, m.sign_is_mandatory),
+        Component::UnixTimestampMillisecond(m) => made!(33, zero, m.sign_is_mandatory),
         Component::Ignore(_)
         | Component::End(_)
         | Component::Month(_)

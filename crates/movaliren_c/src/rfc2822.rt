@@ -70,12 +70,8 @@ pub extern "C" fn movaliren_rfc2822_local(
     ensures { IsAnswer (gives (local_value seconds nanosecond offset) rfc2822_of)
         result room.old room.new }
 {
-    answer_at(
-        &texts_of(Rfc2822, AtOffset(offset)),
-        seconds,
-        nanosecond,
-        room,
-    )
+    let texts = texts_of(Rfc2822, AtOffset(offset));
+    answer_at(&texts, seconds, nanosecond, room)
 }
 
 /// The texts of RFC 2822 of the moments, one after another, each ended by this byte.

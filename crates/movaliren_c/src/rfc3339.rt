@@ -64,12 +64,8 @@ pub extern "C" fn movaliren_rfc3339_local(
     ensures { IsAnswer (gives (local_value seconds nanosecond offset) rfc3339_of)
         result room.old room.new }
 {
-    answer_at(
-        &texts_of(Rfc3339, AtOffset(offset)),
-        seconds,
-        nanosecond,
-        room,
-    )
+    let texts = texts_of(Rfc3339, AtOffset(offset));
+    answer_at(&texts, seconds, nanosecond, room)
 }
 
 /// The texts of RFC 3339 of the moments, one after another, each ended by this byte.

@@ -87,7 +87,7 @@ pub struct Strftime;
 impl Syntax for Strftime {
     ghost described = { strftime_items };
 
-    #[tactic(auto, using(crate::proofs::ItemLemmas::none_held, crate::proofs::ItemLemmas::strftime_held, crate::proofs::ItemLemmas::strftime_faulty), unfolding(crate::specs::Described::strftime_items))]
+    #[tactic(auto, using(crate::proofs::ItemLemmas::none_held, crate::proofs::ItemLemmas::strftime_faulty), unfolding(crate::specs::Described::strftime_items))]
     fn put_items(items: &mut ItemRoom<'_>, text: &[u8]) -> Result<(), Fault> {
         match describe_strftime(items, text) {
             Ok(()) => Ok(()),
