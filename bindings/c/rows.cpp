@@ -73,6 +73,8 @@ static void durations()
     expect("nearly a second", movaliren::rfc3339(at(duration<long double>(std::nextafter(1.0L, 0.0L)))).value(),
         "1970-01-01T00:00:00.999999999Z");
     expect("barely below 1970", movaliren::rfc3339(at(duration<double>(-1e-30))).value(), "1969-12-31T23:59:59.999999999Z");
+    const auto far = movaliren::description().add(MOVALIREN_YEAR_EXTENDED).add("-").add(MOVALIREN_MONTH);
+    expect("10^13 seconds", far.format(at(seconds(10000000000000))), "+318857-05");
     using gregorian_years = duration<std::int64_t, std::ratio<31556952>>;
     expect_error("years", movaliren::rfc3339(at(gregorian_years(INT64_MAX))).error(), errc::moment_seconds);
     expect_error("years before", movaliren::rfc3339(at(gregorian_years(INT64_MIN))).error(), errc::moment_seconds);
@@ -126,6 +128,8 @@ static void descriptions()
         .add(MOVALIREN_OFFSET_HOUR, MOVALIREN_ZERO, true);
     expect("other choices", chosen.format(at(milliseconds(-10))), "pm11990+00");
     const auto hour = movaliren::description().add(MOVALIREN_HOUR, MOVALIREN_NO_PADDING);
+    const auto spaced = movaliren::description().add(MOVALIREN_HOUR, MOVALIREN_SPACE);
+    expect("a digit behind a space", spaced.format(at(hours(9))), " 9");
     expect("a length in UTC", std::to_string(hour.length(at(hours(9)))), "1");
     expect("a length at an offset", std::to_string(hour.length(at(hours(9)), hours(1))), "2");
     try {
@@ -172,6 +176,9 @@ static void readings()
     expect("read locally and strictly", movaliren::read_rfc3339_local("1996-12-19t16:39:57-08:00").message(),
         "byte 10: expected `T`");
     expect("read leniently", movaliren::read_rfc3339("1970-01-01t00:00:00z", movaliren::profile::lenient).message(), "");
+    const auto decimals = "1970-01-01T00:00:01.5" + std::string(49, '0') + "Z";
+    expect("50 decimals", std::to_string(movaliren::read_rfc3339(decimals, movaliren::profile::lenient).value().nanosecond),
+        "500000000");
     const auto none = movaliren::read_rfc3339("1996-12-19t16:39:57-08:00");
     expect_error("not read", none.error(), errc::not_read);
     expect("its place", none.message(), "byte 10: expected `T`");
@@ -181,6 +188,7 @@ static void readings()
         failed++;
     } catch (const std::system_error &error) {
         expect_error("thrown", error.code(), errc::not_read);
+        expect("thrown with its place", std::string_view(error.what()).substr(0, 20), "byte 10: expected `T`");
     }
 }
 

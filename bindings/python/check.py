@@ -32,6 +32,11 @@ expect(error_of(movaliren.brackets, "[yaer]", 0, 0, 0), "-24: the text is not a 
 expect(error_of(movaliren.strftime, "%Q", 0, 0, 0), "-24: the text is not a description")
 expect(movaliren.rfc3339_lines([]), b"")
 expect(error_of(movaliren.rfc3339_lines, [(0, 10**9)]), "-7: the nanosecond is outside 0 to 999999999")
+for nanosecond in (-1, -4_294_967_295):
+    expect(error_of(movaliren.strftime, LINE, 0, nanosecond, 0), "a number of the moment is out of its range")
+    expect(error_of(movaliren.rfc3339_lines, [(0, nanosecond)]), "a number of a moment is out of its range")
+for offset in (2**31, -(2**31) - 1):
+    expect(error_of(movaliren.strftime, LINE, 0, 0, offset), "-8: the hours of the offset are outside -25 to 25")
 for number in (2**63, -(2**63) - 1, 2**64):
     for call, text in (movaliren.strftime, LINE), (movaliren.brackets, "[day]"):
         expect(error_of(call, text, number, 0, 0), "a number of the moment is out of its range")

@@ -6,10 +6,14 @@ use chrono::{Local, Offset, TimeZone};
 use movaliren::{Iso8601By, TimePrecision, UtcMoment};
 use movaliren_time::{LocalTimer, LogTimer};
 use std::sync::atomic::{AtomicI64, Ordering};
+use std::sync::Mutex;
 use tracing_subscriber::fmt::time::FormatTime;
 
 static SECONDS: AtomicI64 = AtomicI64::new(0);
 static NANOSECONDS: AtomicI64 = AtomicI64::new(0);
+
+/// Tests run side by side, and one of them at a time sets the clock.
+static SETTER: Mutex<()> = Mutex::new(());
 
 /// Stands in place of the function of the C library, by which the standard library reads the clock.
 ///
@@ -52,9 +56,37 @@ fn logged_and_wanted(timer: impl FormatTime + Send + Sync + 'static) -> (String,
     (logged, wanted)
 }
 
+/// What is logged at this second.
+fn logged_at(second: i64, timer: impl FormatTime + Send + Sync + 'static) -> String {
+    lines::logged_by(timer, || {
+        SECONDS.store(second, Ordering::SeqCst);
+        NANOSECONDS.store(0, Ordering::SeqCst);
+        tracing::info!("opened");
+    })
+}
+
+/// As many minutes as there are seconds of the minute.
+fn second_as_minutes(moment: UtcMoment) -> i64 {
+    moment.seconds % 60 * 60
+}
+
+/// The offset is another one at each second, as at a change of clocks.
+#[test]
+fn a_timer_asks_for_the_offset_of_each_moment() {
+    let _setter = SETTER.lock();
+    for (second, wanted) in [
+        (1_700_000_000, "2023-11-14T22:33:20.000+00:20"),
+        (1_700_000_001, "2023-11-14T22:34:21.000+00:21"),
+    ] {
+        let logged = logged_at(second, LogTimer::milliseconds(second_as_minutes));
+        assert_eq!(logged, format!("{wanted}  INFO random_moments: opened\n"));
+    }
+}
+
 #[test]
 fn a_timer_logs_what_chrono_writes() {
     const LINE: Iso8601By = Iso8601By::new().time_precision(TimePrecision::Second, 3);
+    let _setter = SETTER.lock();
     let (logged, wanted) = logged_and_wanted(LocalTimer::new(LINE, offset));
     assert_eq!(logged, wanted);
     let (logged, wanted) = logged_and_wanted(LogTimer::milliseconds(offset));

@@ -186,6 +186,9 @@ fn a_text_of_rfc_3339_is_read_back() {
 fn an_unknown_number_has_the_words_of_the_library() {
     assert_eq!(Error::Unknown(-99).to_string(), "unknown error");
     assert_eq!(Error::Unknown(-2).to_string(), Error::Month.to_string());
+    let long = Error::OffsetMinutes.to_string();
+    assert!(long.len() > 60);
+    assert_eq!(Error::Unknown(-9).to_string(), long);
 }
 
 #[test]
@@ -482,7 +485,11 @@ fn each_choice_of_a_configuration_changes_the_text() {
         .time_precision(TimePrecision::Hour, 0)
         .offset_precision(OffsetPrecision::Hour)
         .separators(false);
+    let hour_behind = Iso8601By::new()
+        .time_precision(TimePrecision::Second, 3)
+        .offset_precision(OffsetPrecision::Hour);
     for (config, text) in [
+        (hour_behind, "1997-11-12T09:55:06.120-06"),
         (config, "+001997-W46-3T09:55,1-06:00"),
         (config.parts(Parts::Date), "+001997-W46-3"),
         (config.parts(Parts::Time), "09:55,1"),
