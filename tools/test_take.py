@@ -174,8 +174,17 @@ def takes_crates_beside_those_of_a_repository_without_the_folder_crates(both):
 def goes_on_where_a_run_was_cut_off(both):
     both.take(both.theirs, "high")
     (both.theirs / "taken.json").unlink()
-    both.write(both.theirs, {LOW: None, "crates.txt": "low: memchr\n"})
+    both.write(both.theirs, {LOW: None, f"{LOW}.part": "lo", "crates.txt": "low: memchr\n"})
     assert both.take(both.theirs, "high") == [f"added {LOW}", "added crates.txt: high"] and both.taken() == TAKEN
+
+
+def takes_again_what_was_removed(both):
+    both.take(both.theirs, "high")
+    shutil.rmtree(both.theirs / "crates/high")
+    both.write(both.theirs, {"crates.txt": "low: memchr\n"})
+    assert both.take(both.theirs) == NOTHING
+    both.take(both.theirs, "high")
+    assert both.taken() == TAKEN
 
 
 def refuses_a_record_that_is_none(both):
@@ -196,7 +205,7 @@ CASES = [
     keeps_what_was_changed_by_hand, refuses_to_replace_what_was_changed_by_hand,
     replaces_what_was_changed_by_hand_if_told, refuses_an_unknown_crate, refuses_a_name_that_is_taken,
     leaves_the_crates_of_the_other_repository, takes_crates_beside_those_of_a_repository_without_the_folder_crates,
-    goes_on_where_a_run_was_cut_off, refuses_a_record_that_is_none, refuses_a_folder_of_its_own_repository,
+    goes_on_where_a_run_was_cut_off, takes_again_what_was_removed, refuses_a_record_that_is_none, refuses_a_folder_of_its_own_repository,
     refuses_a_run_without_a_crate,
 ]
 
