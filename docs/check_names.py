@@ -2,7 +2,7 @@
 """Compares names of the pages with the sources.
 
 Each name in code that docs/PROVED.md, docs/DEFINITIONS.md, docs/DECISIONS.md and docs/TRUST.md have is one of the sources: a clause, a
-function, a type, a field, a module, a definition of `specs/` or a file. A name in brackets of docs/PROVED.md is one of the section's crate, or of a crate that it stands on.
+function, a type, a field, a module, a definition of `specs/` or a file. So is each name of what stands before the caller in a page CALLING.md. A name in brackets of docs/PROVED.md is one of the section's crate, or of a crate that it stands on.
 docs/ARCHITECTURE.md names each file of a crate's `src/` by its module, and no module that is not there. Each file, folder, definition and
 lemma that a step or a row of CONTRIBUTING.md names stands in a crate that the step names, or in bindings/, docs/ or tools/. A crate's
 README.md says of what it stands on what crates.txt does, and that of movaliren_c names the structs of the interface. Links between pages
@@ -29,11 +29,11 @@ OF_RATTLE = {
     "usize", "None", "Ok", "Err", "From", "TryFrom", "Vec", "Debug", "true", "false", "Result", "Option", "must-fail",
     "jiff", "Zoned", "impl", "self", "now", "gate", "old", "new", "push",
 }
-# Names of the standard library, of the kit, of C and of other crates, in docs/DECISIONS.md and docs/TRUST.md.
+# Names of the standard library, of the kit, of C and of other crates, in docs/DECISIONS.md, docs/TRUST.md and CALLING.md.
 OF_OTHERS = {
     "AllocError", "Display", "extend_from_slice", "last_mut", "push_reserved", "reserve", "reserve_exact", "to_string",
     "final", "unsafe", "memcmp", "memcpy", "memmove", "memset", "arrayvec", "bstr", "clap", "jiff_strtime", "thiserror",
-    "chrono", "serde", "serialize_with", "datetime", "bench", "movaliren", "display",
+    "chrono", "serde", "serialize_with", "datetime", "bench", "movaliren", "display", "BufWriter", "RangedU8", "deranged",
 }
 # A file, a folder, or a definition or lemma with its folder; and a lemma or a definition by its name alone.
 FILE = re.compile(r"(?:[\w-]+/)*[\w-]+\.(?:rt|antt|rs|c|cpp|h|hpp|py|md)|(?:[\w-]+/)+[\w-]*|[A-Z][a-z]+(?:[A-Z]\w+)*")
@@ -156,7 +156,8 @@ def anchors(page):
 
 
 def broken_links():
-    pages = [*TOP.glob("*.md"), *TOP.glob("docs/*.md"), *TOP.glob("crates/*/README.md"), *TOP.glob("bindings/*/README.md")]
+    pages = [*TOP.glob("*.md"), *TOP.glob("docs/*.md"), *TOP.glob("crates/*/README.md"), *TOP.glob("crates/*/CALLING.md"),
+             *TOP.glob("bindings/*/README.md")]
     wrong, count = [], 0
     for page in pages:
         for path, anchor in LINK.findall(page.read_text()):
@@ -178,6 +179,9 @@ def main():
     wrong += [f"docs/DEFINITIONS.md names what no source has: {it}" for it in sorted(defined_in(definitions) - every)]
     wrong += [f"docs/{name}.md names what no source has: {it}"
               for name, page in (("DECISIONS", decisions), ("TRUST", trust)) for it in sorted(defined_in(page) - every - OF_OTHERS)]
+    for path in sorted(TOP.glob("crates/*/CALLING.md")):
+        said = path.read_text().partition("## A caller")[0]
+        wrong += [f"CALLING.md of {path.parent.name} names what no source has: {it}" for it in sorted(defined_in(said) - every - OF_OTHERS)]
     wrong += unknown_in_architecture(architecture) + unfound + wrong_in_readmes(below) + links
     for it in wrong:
         print(it)

@@ -7,7 +7,7 @@ import re
 import sys
 
 TOP = pathlib.Path(__file__).resolve().parent.parent
-PAGES = ["README.md", "CONTRIBUTING.md", "CHANGELOG.md", "docs/*.md", "crates/*/README.md"]
+PAGES = ["README.md", "CONTRIBUTING.md", "CHANGELOG.md", "docs/*.md", "crates/*/README.md", "crates/*/CALLING.md"]
 MOST_OF_SENTENCE = 40
 MOST_FIGURES = 2
 FIGURE = re.compile(r"(?<![\w.`-])\d[\d,]*(?![\w.]*\d|[\w`-])")
