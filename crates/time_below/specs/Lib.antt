@@ -4,10 +4,12 @@ pub mod ComponentRange
 pub mod Conversion
 pub mod Facts
 pub mod Group
+pub mod InUtc
 pub mod Metadata
 pub mod Moment
 pub mod Month
 pub mod Offset
+pub mod Shown
 pub mod Size
 pub mod TimeOfDay
 pub mod Tree
