@@ -9,9 +9,12 @@ pub mod Metadata
 pub mod Moment
 pub mod Month
 pub mod Offset
+pub mod OffsetText
 pub mod Shown
 pub mod Size
+pub mod Text
 pub mod TimeOfDay
+pub mod TimeText
 pub mod Tree
 pub mod Weekday
 pub mod Width

@@ -14,6 +14,7 @@ mod now;
 mod offset_date_time;
 mod period;
 mod plain_date_time;
+mod text;
 mod time;
 mod timestamp;
 mod utc_date_time;

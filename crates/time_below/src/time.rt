@@ -4,6 +4,7 @@ ghost use Rattle.time_below.specs.TimeOfDay.{TimeOfDay, IsTimeOfDay, first_outsi
 ghost use Rattle.time_below.specs.ComponentRange.{range_refusal, unconditional_range};
 
 mod replace;
+mod text;
 
 use crate::component_range::ComponentRange;
 use std::marker::Model;
@@ -12,7 +13,7 @@ use std::marker::Model;
 pub(crate) const DAY_SECONDS: u32 = 86_400;
 
 /// A time of day to the nanosecond, without leap seconds.
-#[derive(Debug, Clone, Copy, PartialEq, Eq, PartialOrd, Ord, Hash)]
+#[derive(Clone, Copy, PartialEq, Eq, PartialOrd, Ord, Hash)]
 pub struct Time {
     hour: u8,
     minute: u8,

@@ -3,12 +3,14 @@ ghost use Rattle.std.specs.Prelude.{◌≡◌, ◌↔◌, ◌+◌, ◌*◌, ◌<
 ghost use Rattle.time_below.specs.Offset.{AreOffsetParts, IsOffset, is_negative, is_positive, is_utc, settled, signed, signed_like, offset_minutes, offset_of_seconds, offset_seconds, utc};
 ghost use Rattle.time_below.specs.ComponentRange.{range_refusal, unconditional_range};
 
+mod text;
+
 use crate::component_range::ComponentRange;
 use std::marker::Model;
 
 /// An offset from UTC, at most 25:59:59 either way (ISO 8601-1:2019, 4.3.13). It is positive east
 /// of Greenwich, where local time is ahead of UTC, and its parts never have two signs.
-#[derive(Debug, Clone, Copy, PartialEq, Eq, PartialOrd, Ord, Hash)]
+#[derive(Clone, Copy, PartialEq, Eq, PartialOrd, Ord, Hash)]
 pub struct UtcOffset {
     hours: i8,
     minutes: i8,
