@@ -1,6 +1,6 @@
 -- The UTC date and time of a moment, and its milliseconds.
 use Rattle.std.proofs.Common.{◌≡◌, ℕ, ◌+◌, ◌*◌, ◌/◌, ◌%◌, ◌<◌, refl, ap, ◌∙◌, arith, ℤ, pos, ◌+ℤ◌, ◌-ℤ◌, ◌*ℤ◌}
-use Rattle.std.proofs.Common.{unsigned_abs, rules}
+use Rattle.std.proofs.Common.{◌^◌, unsigned_abs, rules, w64, to_z, of_z}
 use Rattle.std.proofs.lemmas.Int.{ints}
 use Rattle.std.specs.Int.{int_div_euclid}
 use Rattle.time_below.specs.Calendar.{OrdinalDate, IsDate, IsDayNumber, day_number, date_at, days_before, days_in_all}
@@ -9,7 +9,7 @@ use Rattle.time_below.specs.Offset.{Offset, AreOffsetParts, IsOffset, offset_sec
 use Rattle.time_below.specs.Moment.{Moment, DateAndTime, OffsetDateAndTime, IsMoment, IsTimestampSecond}
 use Rattle.time_below.specs.Moment.{IsNearTimestampSecond, unix_seconds, local_unix_seconds, utc_date, utc_time}
 use Rattle.time_below.specs.Moment.{utc_date_and_time, second_of_day, day_seconds, unix_day, seconds_before, moved}
-use Rattle.time_below.specs.Moment.{local_at}
+use Rattle.time_below.specs.Moment.{local_at, local_moment, nanoseconds}
 use Rattle.time_below.proofs.CalendarLemmas.{utc_day, second_from_start}
 use Rattle.time_below.proofs.YearLemmas.{IsDayNumber-day_number, IsDate-date_at, date_at-day_number, day_number_back}
 use Rattle.time_below.proofs.YearLemmas.{days_from_start, days_before_end, is_day_number}
@@ -130,7 +130,7 @@ day_back t h r =
     )
 
 -- equal parts make equal dates with times
-same_date_and_time : (d e : OrdinalDate) (t u : TimeOfDay) → d ≡ e → t ≡ u
+pub same_date_and_time : (d e : OrdinalDate) (t u : TimeOfDay) → d ≡ e → t ≡ u
     → ◌≡◌ {A = DateAndTime} (record { date = d; time = t }) (record { date = e; time = u })
 same_date_and_time d e t u same alike = rw (same, alike) refl
 
@@ -156,6 +156,20 @@ pub IsNearTimestampSecond-local_unix_seconds : (t : OffsetDateAndTime) → IsDat
 IsNearTimestampSecond-local_unix_seconds t h r o =
     search (rules, arith, common_steps, near_timestamp_second, IsTimestampSecond-unix_seconds, offset_within)
 
+-- seconds as the code holds them
+abbrev pub held : ℤ → ℤ
+held s = to_z w64 (of_z w64 s)
+
+-- they are held as they are
+pub held_small : (s : ℤ) → unsigned_abs s < 2 ^ 62 → held s ≡ s
+held_small s h = omega (arith, ints)
+
+pub held_near_second : (s : ℤ) → IsNearTimestampSecond s → held s ≡ s
+held_near_second s h = omega (arith, ints)
+
+pub held_second : (s : ℤ) → IsTimestampSecond s → held s ≡ s
+held_second s h = omega (arith, ints)
+
 -- the seconds by clocks, less how far they are ahead
 less_offset : (all s e : ℤ) → all ≡ s +ℤ e → all -ℤ e ≡ s
 less_offset all s e h = omega (arith, ints)
@@ -164,6 +178,15 @@ less_offset all s e h = omega (arith, ints)
 pub local_unix_seconds-local_at : (m : Moment) (o : Offset) → IsMoment (moved m o)
     → local_unix_seconds (local_at m o) ≡ m.seconds
 local_unix_seconds-local_at m o h = less_offset _ m.seconds (offset_seconds o) (unix_seconds-utc (moved m o) h)
+
+-- equal seconds and nanoseconds make equal moments
+pub same_moment : (s t : ℤ) (n k : ℕ) → s ≡ t → n ≡ k
+    → ◌≡◌ {A = Moment} (record { seconds = s; nanosecond = n }) (record { seconds = t; nanosecond = k })
+same_moment s t n k e f = rw (e, f) refl
+
+-- the local date and time of a moment are of that moment
+pub local_moment-local_at : (m : Moment) (o : Offset) → IsMoment (moved m o) → local_moment (local_at m o) ≡ m
+local_moment-local_at m o h = same_moment _ m.seconds _ m.nanosecond (local_unix_seconds-local_at m o h) refl
 
 -- the seconds of UTC, and how far clocks are ahead
 more_offset : (all s e : ℤ) → all -ℤ e ≡ s → all ≡ s +ℤ e
@@ -181,6 +204,25 @@ pub only_local_at : (m : Moment) (t : OffsetDateAndTime) → IsDate t.date → I
 only_local_at m t h r seconds nanosecond =
     at_same_offset t.date _ t.time _ t.offset
     (only_utc (moved m t.offset) (record { date = t.date; time = t.time }) h r (more_offset _ m.seconds _ seconds) nanosecond)
+
+-- moments by their nanoseconds
+
+-- a number of nanoseconds has one second and one nanosecond
+parts_of_nanoseconds : (s t : ℤ) (n k : ℕ) → n < 1_000_000_000 → k < 1_000_000_000
+    → pos 1_000_000_000 *ℤ s +ℤ pos n ≡ pos 1_000_000_000 *ℤ t +ℤ pos k → (s ≡ t) × (n ≡ k)
+parts_of_nanoseconds s t n k h l e = (omega (arith, ints), omega (arith, ints))
+
+-- no two moments have as many nanoseconds
+pub one_moment_of_nanoseconds : (m n : Moment) → m.nanosecond < 1_000_000_000 → n.nanosecond < 1_000_000_000
+    → nanoseconds m ≡ nanoseconds n → m ≡ n
+one_moment_of_nanoseconds m n h l e =
+    let same = parts_of_nanoseconds m.seconds n.seconds m.nanosecond n.nanosecond h l e in
+    same_moment m.seconds n.seconds m.nanosecond n.nanosecond same.0 same.1
+
+-- the nanoseconds from the start, split into seconds and nanoseconds
+pub nanoseconds_split : (z : ℤ) (n : ℕ) → z +ℤ pos (1_000_000_000 * seconds_before) ≡ pos n
+    → pos 1_000_000_000 *ℤ (pos (n / 1_000_000_000) -ℤ pos seconds_before) +ℤ pos (n % 1_000_000_000) ≡ z
+nanoseconds_split z n e = omega (arith, ints)
 
 -- what the laws of moments say
 pub ruleset laws_of_moments = (unix_seconds-utc, only_utc, local_unix_seconds-local_at, only_local_at)

@@ -125,7 +125,7 @@ day_cmp a b o p rest ol pl oh ph =
     })
 
 -- seconds of the day are in the order of their hours, minutes and seconds
-clock_cmp : (h i m n s t : ℕ) (rest : Ordering) → m < 60 → n < 60 → s < 60 → t < 60
+pub clock_cmp : (h i m n s t : ℕ) (rest : Ordering) → m < 60 → n < 60 → s < 60 → t < 60
     → ordering_then (nat_cmp h i) (ordering_then (nat_cmp m n) (ordering_then (nat_cmp s t) rest))
     ≡ ordering_then (nat_cmp (3600 * h + 60 * m + s) (3600 * i + 60 * n + t)) rest
 clock_cmp h i m n s t rest ma na sa ta =
@@ -149,7 +149,7 @@ clock_cmp h i m n s t rest ma na sa ta =
     })
 
 -- seconds are in the order of their days and their seconds of the day
-total_cmp : (a b s t : ℕ) (rest : Ordering) → s < 86_400 → t < 86_400
+pub total_cmp : (a b s t : ℕ) (rest : Ordering) → s < 86_400 → t < 86_400
     → ordering_then (nat_cmp a b) (ordering_then (nat_cmp s t) rest)
     ≡ ordering_then (nat_cmp (86_400 * a + s) (86_400 * b + t)) rest
 total_cmp a b s t rest sa ta =
@@ -228,7 +228,7 @@ parts_total v w h k =
     (omega (arith, k.time.0, k.time.1, k.time.2))
 
 -- a pair of numbers is less in its first number, or in its second where the first are equal
-abbrev IsPairLess : ℕ → ℕ → ℕ → ℕ → Type 0
+abbrev pub IsPairLess : ℕ → ℕ → ℕ → ℕ → Type 0
 IsPairLess a b m n = (a < b) ⊎ ((a ≡ b) × (m < n))
 
 -- what is not less in the first number, nor in the second where the first are equal, is not less
@@ -244,11 +244,11 @@ equal_not : Equal ≡ Less → ⊥
 equal_not e = cc
 
 -- two numbers compared, and then two others
-abbrev pair_cmp : ℕ → ℕ → ℕ → ℕ → Ordering
+abbrev pub pair_cmp : ℕ → ℕ → ℕ → ℕ → Ordering
 pair_cmp a b m n = ordering_then (nat_cmp a b) (ordering_then (nat_cmp m n) Equal)
 
 -- two pairs of numbers compare as less exactly if the first pair is less
-pair_less : (a b m n : ℕ) → pair_cmp a b m n ≡ Less ↔ IsPairLess a b m n
+pub pair_less : (a b m n : ℕ) → pair_cmp a b m n ≡ Less ↔ IsPairLess a b m n
 pair_less a b m n =
     grind (arith, common_steps, trichotomy, greater_not, not_pair_less, cmp_equal, equal_not, nat_tests)
 
@@ -261,7 +261,7 @@ seconds_from_start v h =
     omega (arith, ints, start)
 
 -- moments keep their order when they are counted from another start
-moment_order : (m n : ℕ) (y z : ℤ) (a b c : ℕ) → y +ℤ pos c ≡ pos a → z +ℤ pos c ≡ pos b
+pub moment_order : (m n : ℕ) (y z : ℤ) (a b c : ℕ) → y +ℤ pos c ≡ pos a → z +ℤ pos c ≡ pos b
     → IsPairLess a b m n ↔ ((y <ℤ z) ⊎ ((y ≡ z) × (m < n)))
 moment_order m n y z a b c e f = grind (arith, ints)
 

@@ -4,12 +4,17 @@ pub mod ComponentRange
 pub mod Conversion
 pub mod Facts
 pub mod Group
+pub mod InUtc
 pub mod Metadata
 pub mod Moment
 pub mod Month
 pub mod Offset
+pub mod OffsetText
+pub mod Shown
 pub mod Size
+pub mod Text
 pub mod TimeOfDay
+pub mod TimeText
 pub mod Tree
 pub mod Weekday
 pub mod Width

@@ -1,9 +1,9 @@
 -- Moments, counted from 1970-01-01T00:00:00 UTC, and dates with a time of day.
-use Rattle.std.specs.Prelude.{ℕ, ◌<◌, ℤ, pos, neg_ℤ, ◌+ℤ◌, ◌-ℤ◌, ◌*ℤ◌, ◌≤ℤ◌, ◌<ℤ◌, unsigned_abs, int_div}
+use Rattle.std.specs.Prelude.{◌≡◌, ◌⊎◌, ℕ, ◌<◌, ℤ, pos, neg_ℤ, ◌+ℤ◌, ◌-ℤ◌, ◌*ℤ◌, ◌≤ℤ◌, ◌<ℤ◌, unsigned_abs, int_div}
 use Rattle.std.specs.Int.{int_div_euclid, int_rem_euclid}
 use Rattle.time_below.specs.Calendar.{OrdinalDate, day_number, date_at}
 use Rattle.time_below.specs.TimeOfDay.{TimeOfDay, seconds_from_midnight, time_at}
-use Rattle.time_below.specs.Offset.{Offset, offset_seconds}
+use Rattle.time_below.specs.Offset.{Offset, offset_seconds, utc}
 
 -- the seconds of a day
 abbrev pub day_seconds : ℕ
@@ -59,6 +59,26 @@ abbrev pub local_unix_seconds : OffsetDateAndTime → ℤ
 local_unix_seconds t =
     unix_seconds (record { date = t.date; time = t.time }) -ℤ offset_seconds t.offset
 
+-- the moment of a date and time in UTC
+abbrev pub moment_of : DateAndTime → Moment
+moment_of t = record { seconds = unix_seconds t; nanosecond = t.time.nanosecond }
+
+-- the moment of a local date and time
+abbrev pub local_moment : OffsetDateAndTime → Moment
+local_moment t = record { seconds = local_unix_seconds t; nanosecond = t.time.nanosecond }
+
+-- the order of moments: by the seconds, and then by the nanosecond
+abbrev pub IsBefore : Moment → Moment → Type 0
+IsBefore m n = (m.seconds <ℤ n.seconds) ⊎ ((m.seconds ≡ n.seconds) × (m.nanosecond < n.nanosecond))
+
+-- the moment at which a second since 1970 begins
+abbrev pub at_second : ℤ → Moment
+at_second s = record { seconds = s; nanosecond = 0 }
+
+-- a date and time in UTC, as a local one
+abbrev pub in_utc : DateAndTime → OffsetDateAndTime
+in_utc t = record { date = t.date; time = t.time; offset = utc }
+
 -- the UTC date of this many seconds since 1970-01-01
 abbrev pub utc_date : ℤ → OrdinalDate
 utc_date seconds = date_at (int_div_euclid seconds (pos day_seconds) +ℤ pos unix_day)
@@ -86,6 +106,11 @@ local_at m o = record { date = utc_date (moved m o).seconds; time = utc_time (mo
 -- the nanoseconds since 1970-01-01
 abbrev pub nanoseconds : Moment → ℤ
 nanoseconds m = pos 1_000_000_000 *ℤ m.seconds +ℤ pos m.nanosecond
+
+-- the nanoseconds of a moment that a timestamp may have
+abbrev pub IsTimestampNanosecond : ℤ → Type 0
+IsTimestampNanosecond n =
+    (neg_ℤ (pos 31_619_087_596_800_000_000_000) ≤ℤ n) × (n ≤ℤ pos 31_494_784_780_799_999_999_999)
 
 -- the milliseconds since 1970-01-01: `int_div` rounds toward zero
 abbrev pub milliseconds : Moment → ℤ

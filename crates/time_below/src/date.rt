@@ -34,7 +34,7 @@ fn is_year(year: i32) -> bool
 }
 
 /// A date of the proleptic Gregorian calendar, in the years -999,999 to 999,999.
-#[derive(Debug, Clone, Copy)]
+#[derive(Debug, Clone, Copy, PartialEq, Eq, PartialOrd, Ord, Hash)]
 pub struct Date {
     year: i32,
     ordinal: u16,

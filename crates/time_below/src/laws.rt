@@ -10,10 +10,11 @@ ghost use Rattle.time_below.specs.Month.{IsMadeOf, month_number};
 ghost use Rattle.time_below.specs.Tree.{of_component, v3_tree};
 ghost use Rattle.time_below.specs.TimeOfDay.{IsTimeOfDay};
 ghost use Rattle.time_below.specs.Offset.{Offset, IsOffset, Settles, settled, offset_of_seconds, offset_seconds};
-ghost use Rattle.time_below.specs.Moment.{Moment, DateAndTime, OffsetDateAndTime, IsMoment, IsTimestampSecond, IsNearTimestampSecond, utc_date, utc_time, utc_date_and_time, unix_seconds, moved, local_at, local_unix_seconds};
+ghost use Rattle.time_below.specs.Moment.{Moment, DateAndTime, OffsetDateAndTime, IsMoment, IsTimestampSecond, IsNearTimestampSecond, utc_date, utc_time, utc_date_and_time, unix_seconds, moved, local_at, local_unix_seconds, nanoseconds};
 
 pub mod choices;
 pub mod clones;
+pub mod order;
 
 use crate::component_range::ComponentRange;
 use crate::format_description::{Component, FormatDescriptionV3Inner, Metadata};
@@ -161,4 +162,11 @@ pub fn one_local_date_and_time_for_each_moment()
 pub fn local_seconds_near_the_range()
     ensures { (t : OffsetDateAndTime) → IsDate t.date → IsTimeOfDay t.time → IsOffset t.offset
         → IsNearTimestampSecond (local_unix_seconds t) }
+{}
+
+/// No two moments have as many nanoseconds since 1970.
+#[tactic(auto, using(crate::proofs::MomentLemmas::one_moment_of_nanoseconds))]
+pub fn one_moment_for_each_nanosecond()
+    ensures { (m n : Moment) → m.nanosecond < 1_000_000_000 → n.nanosecond < 1_000_000_000
+        → nanoseconds m ≡ nanoseconds n → m ≡ n }
 {}

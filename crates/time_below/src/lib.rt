@@ -3,15 +3,18 @@
 
 mod calendar;
 mod component_range;
+mod conversions;
 mod date;
 mod different_variant;
 pub mod format_description;
 pub mod laws;
 pub mod moment;
 mod month;
+mod now;
 mod offset_date_time;
 mod period;
 mod plain_date_time;
+mod text;
 mod time;
 mod timestamp;
 mod utc_date_time;

@@ -1,6 +1,10 @@
 //! Local dates and times with their offset from UTC.
 ghost use Rattle.std.specs.Prelude.{◌≡◌};
-ghost use Rattle.time_below.specs.Moment.{local_unix_seconds, IsNearTimestampSecond};
+ghost use Rattle.time_below.specs.Moment.{in_utc, local_unix_seconds, IsNearTimestampSecond};
+
+mod moment;
+mod order;
+mod replace;
 
 use crate::date::Date;
 use crate::time::Time;
@@ -32,6 +36,17 @@ impl OffsetDateTime {
         ensures { result ≡ record { date = date; time = time; offset = offset } }
     {
         OffsetDateTime { date, time, offset }
+    }
+
+    /// The date and the time in UTC.
+    pub fn new_utc(date: Date, time: Time) -> OffsetDateTime
+        ensures { result ≡ in_utc (record { date = date; time = time }) }
+    {
+        OffsetDateTime {
+            date,
+            time,
+            offset: UtcOffset::UTC,
+        }
     }
 
     /// The local date.

@@ -1,12 +1,16 @@
 //! Dates with a time of day.
 ghost use Rattle.std.specs.Prelude.{◌≡◌};
+ghost use Rattle.time_below.specs.Moment.{in_utc};
 
 use crate::date::Date;
+use crate::offset_date_time::OffsetDateTime;
 use crate::time::Time;
+use crate::utc_date_time::UtcDateTime;
+use crate::utc_offset::UtcOffset;
 use std::marker::Model;
 
 /// A date and a time of day, of no place in particular.
-#[derive(Debug, Clone, Copy)]
+#[derive(Debug, Clone, Copy, PartialEq, Eq, PartialOrd, Ord, Hash)]
 pub struct PlainDateTime {
     date: Date,
     time: Time,
@@ -42,5 +46,25 @@ impl PlainDateTime {
         ensures { result ≡ self.time }
     {
         self.time
+    }
+    /// The same date and time at this offset.
+    pub fn assume_offset(self, offset: UtcOffset) -> OffsetDateTime
+        ensures { result ≡ record { date = self.date; time = self.time; offset = offset } }
+    {
+        OffsetDateTime::new_in_offset(self.date, self.time, offset)
+    }
+
+    /// The same date and time at the offset of UTC.
+    pub fn assume_utc(self) -> OffsetDateTime
+        ensures { result ≡ in_utc self }
+    {
+        OffsetDateTime::new_utc(self.date, self.time)
+    }
+
+    /// The same date and time in UTC.
+    pub fn as_utc(self) -> UtcDateTime
+        ensures { result ≡ record { date = self.date; time = self.time } }
+    {
+        UtcDateTime::new(self.date, self.time)
     }
 }

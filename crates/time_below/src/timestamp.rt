@@ -1,6 +1,6 @@
 //! Moments counted in seconds.
-ghost use Rattle.std.specs.Prelude.{◌≡◌, ◌↔◌, ◌<◌, IsOk, IfOk, IfErr, IsSome, IfSome, codes, pos, ◌+ℤ◌, unsigned_abs};
-ghost use Rattle.time_below.specs.Moment.{IsMoment, IsTimestampSecond, utc_date, utc_time, local_at, local_unix_seconds, milliseconds};
+ghost use Rattle.std.specs.Prelude.{◌≡◌, ◌↔◌, ◌<◌, ◌^◌, IsOk, IfOk, IfErr, IsSome, IfSome, codes, pos, ◌+ℤ◌, unsigned_abs};
+ghost use Rattle.time_below.specs.Moment.{IsMoment, IsTimestampSecond, IsTimestampNanosecond, utc_date, utc_time, local_at, local_unix_seconds, milliseconds, nanoseconds as nanoseconds_of};
 ghost use Rattle.time_below.specs.Offset.{offset_seconds};
 ghost use Rattle.time_below.specs.ComponentRange.{range_refusal, unconditional_range};
 
@@ -13,15 +13,20 @@ use crate::utc_offset::UtcOffset;
 use std::marker::Model;
 
 // The seconds from -999999-01-01T00:00:00 to 1970, the last second, and those of all years.
-const SECONDS_BEFORE: i64 = 31_619_087_596_800;
+pub(crate) const SECONDS_BEFORE: i64 = 31_619_087_596_800;
 
 const LAST_SECOND: i64 = 31_494_784_780_799;
 
 const ALL_SECONDS: u64 = 63_113_872_377_600;
 
+// The first and the last nanosecond.
+const FIRST_NANOSECOND: i128 = -31_619_087_596_800_000_000_000;
+
+const LAST_NANOSECOND: i128 = 31_494_784_780_799_999_999_999;
+
 /// A moment, by the seconds since 1970-01-01T00:00:00 UTC and the nanosecond counted forward from
 /// there. It lies in the years -999,999 to 999,999.
-#[derive(Debug, Clone, Copy)]
+#[derive(Debug, Clone, Copy, PartialEq, Eq, PartialOrd, Ord, Hash)]
 pub struct Timestamp {
     seconds: i64,
     nanosecond: u32,
@@ -40,6 +45,24 @@ impl Model for Timestamp {
 }
 
 impl Timestamp {
+    /// The first moment, -999999-01-01 0:00:00.
+    pub const MIN: Timestamp = Timestamp {
+        seconds: -SECONDS_BEFORE,
+        nanosecond: 0,
+    };
+
+    /// The last moment, 999999-12-31 23:59:59.999999999.
+    pub const MAX: Timestamp = Timestamp {
+        seconds: LAST_SECOND,
+        nanosecond: 999_999_999,
+    };
+
+    /// 1970-01-01 0:00:00.
+    pub const UNIX_EPOCH: Timestamp = Timestamp {
+        seconds: 0,
+        nanosecond: 0,
+    };
+
     /// The moment of seconds -31,619,087,596,800 to 31,494,784,780,799 and a nanosecond 0 to
     /// 999,999,999. Refuses the first part that is outside its range, in this order.
     pub fn new(seconds: i64, nanosecond: u32) -> Result<Timestamp, ComponentRange>
@@ -58,6 +81,36 @@ impl Timestamp {
         if nanosecond > 999_999_999 {
             return Err(ComponentRange::unconditional("nanosecond"));
         }
+        Ok(Timestamp {
+            seconds,
+            nanosecond,
+        })
+    }
+
+    // The moment of parts that `new` takes.
+    pub(crate) fn from_valid_parts(seconds: i64, nanosecond: u32) -> Timestamp
+        requires { IsMoment (record { seconds = seconds; nanosecond = nanosecond }) }
+        ensures { result ≡ record { seconds = seconds; nanosecond = nanosecond } }
+    {
+        Timestamp {
+            seconds,
+            nanosecond,
+        }
+    }
+
+    /// The moment of nanoseconds -31,619,087,596,800,000,000,000 to
+    /// 31,494,784,780,799,999,999,999 since 1970-01-01T00:00:00 UTC. Refuses any other number as
+    /// `nanoseconds`.
+    pub fn from_nanoseconds(nanoseconds: i128) -> Result<Timestamp, ComponentRange>
+        ensures accepted { IsOk result ↔ IsTimestampNanosecond nanoseconds }
+        ensures value { IfOk result (λ t. nanoseconds_of t ≡ nanoseconds) }
+        ensures refusal { IfErr result (λ e. range_refusal e
+            ≡ unconditional_range (codes "nanoseconds")) }
+    {
+        if nanoseconds < FIRST_NANOSECOND || nanoseconds > LAST_NANOSECOND {
+            return Err(ComponentRange::unconditional("nanoseconds"));
+        }
+        let (seconds, nanosecond) = moment::split(nanoseconds);
         Ok(Timestamp {
             seconds,
             nanosecond,
@@ -98,11 +151,7 @@ impl Timestamp {
         ensures value { IfSome result (λ t. t ≡ local_at self offset) }
         ensures moment { IfSome result (λ t. local_unix_seconds t ≡ self.seconds) }
     {
-        let seconds = self.seconds + offset.whole_seconds() as i64;
-        match Timestamp::new(seconds, self.nanosecond) {
-            Ok(shown) => Some(OffsetDateTime::new_in_offset(shown.date(), shown.time(), offset)),
-            Err(_) => None,
-        }
+        moment::checked_at_offset(self.seconds, self.nanosecond, offset)
     }
 
     /// The whole seconds since 1970-01-01T00:00:00 UTC, rounded down.
@@ -119,6 +168,14 @@ impl Timestamp {
         ensures range { unsigned_abs result < 100_000_000_000_000_000 }
     {
         moment::milliseconds(self.seconds, self.nanosecond)
+    }
+
+    /// The nanoseconds since 1970-01-01T00:00:00 UTC, at most 23 digits.
+    pub fn as_nanoseconds(self) -> i128
+        ensures value { result ≡ nanoseconds_of self }
+        ensures range { unsigned_abs result < 10 ^ 23 }
+    {
+        moment::nanoseconds(self.seconds, self.nanosecond)
     }
 
     /// The whole seconds since 1970-01-01T00:00:00 UTC, rounded down, and the nanosecond 0 to
