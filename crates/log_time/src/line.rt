@@ -1,0 +1,127 @@
+//! The line of a record, with its time.
+ghost use Rattle.std.specs.Prelude.{◌≡◌, IfSome, IsOk};
+ghost use Rattle.std.specs.Fmt.{HasWritten, IsPlainFormatter, WritesOnOk};
+ghost use Rattle.log.specs.Line.{pairs_text, padded_level};
+ghost use Rattle.log_time.specs.TimedLine.{WritesPair, timed_header, timed_line};
+
+use log::kv::{self, Source, Value, VisitSource};
+use log::span::Spans;
+use log::{Level, Record};
+use std::fmt::{self, Display, Formatter};
+
+/// Where the time of a line stands.
+#[derive(Debug, Clone, Copy, PartialEq, Eq)]
+pub enum TimePlace {
+    /// First within the brackets, as `env_logger` writes it: `[2026-11-22T09:55:06.120Z INFO  app] started`.
+    Inside,
+    /// Before the line of `log`: `2026-11-22T09:55:06.120Z [INFO  app] started`.
+    Before,
+}
+
+/// Shows a record as `[time INFO  target] span{key=value}: message key=value` or as
+/// `time [INFO  target] span{key=value}: message key=value`, with no line break. The time is any text.
+#[derive_where(Clone, Copy)]
+pub struct TimedLine<'a, 'r, D, K, S> {
+    place: TimePlace,
+    time: &'a str,
+    record: &'a Record<'r, D, K, S>,
+}
+
+impl<'a, 'r, D, K, S> TimedLine<'a, 'r, D, K, S> {
+    ghost use Rattle.log_time.specs.TimedLine.{line_place, line_record, line_time};
+
+    /// The line of a record with this time.
+    pub fn new(
+        place: TimePlace,
+        time: &'a str,
+        record: &'a Record<'r, D, K, S>,
+    ) -> TimedLine<'a, 'r, D, K, S>
+        ensures place { line_place result ≡ place }
+        ensures time { line_time result ≡ time.now }
+        ensures record { line_record result ≡ «record».now }
+    {
+        TimedLine {
+            place,
+            time,
+            record,
+        }
+    }
+}
+
+impl<'a, 'r, D: Display, K: Source, S: Spans> Display for TimedLine<'a, 'r, D, K, S> {
+    ghost use Rattle.log_time.specs.TimedLine.{line_place, line_record, line_time};
+
+    ghost output = { λ line. timed_line D.output K.pairs S.scopes (line_place line) (line_time line) (line_record line) };
+
+    fn fmt<W: fmt::Write>(&self, f: &mut Formatter<W>) -> fmt::Result {
+        let record = self.record;
+        write_header(f, self.place, self.time, record.level(), record.target())?;
+        record.spans().visit(f)?;
+        f.write(record.args())?;
+        write_pairs(f, record.key_values())?;
+        Ok(())
+    }
+}
+
+/// Writes what stands before the spans.
+fn write_header<W: fmt::Write>(
+    f: &mut Formatter<W>,
+    place: TimePlace,
+    time: &str,
+    level: Level,
+    target: &str,
+) -> fmt::Result
+    ensures { WritesOnOk W.write_str_gives f.old result
+        (timed_header place time.now level target.now) f.new }
+{
+    let level = padded(level);
+    match (place, target.is_empty()) {
+        (TimePlace::Inside, true) => write!(f, "[{time} {level}] "),
+        (TimePlace::Inside, false) => write!(f, "[{time} {level} {target}] "),
+        (TimePlace::Before, true) => write!(f, "{time} [{level}] "),
+        (TimePlace::Before, false) => write!(f, "{time} [{level} {target}] "),
+    }
+}
+
+/// The name of a level, and spaces up to five bytes.
+fn padded(level: Level) -> &'static str
+    ensures { result.now ≡ padded_level level }
+{
+    match level {
+        Level::Warn => "WARN ",
+        Level::Info => "INFO ",
+        _ => level.as_str(),
+    }
+}
+
+/// Writes each pair after a space.
+fn write_pairs<W: fmt::Write, K: Source>(f: &mut Formatter<W>, source: &K) -> Result<(), kv::Error>
+    ensures { IfSome (K.pairs source.now) (λ ps. IsOk result → IsPlainFormatter f.old
+        → HasWritten W.write_str_gives f.old (pairs_text ps) f.new) }
+{
+    let mut pairs = Pairs { f };
+    source.visit(&mut pairs)?;
+    Ok(())
+}
+
+/// What writes pairs.
+struct Pairs<'f, W> {
+    f: &'f mut Formatter<W>,
+}
+
+impl<'f, W> Drop for Pairs<'f, W> {
+    fn drop(self)
+        ensures { self.exit.0.now ≡ self.entry.f.now }
+    {
+        let Self { f: _ } = self;
+    }
+}
+
+impl<'f, W: fmt::Write> VisitSource for Pairs<'f, W> {
+    ghost visit_pair_gives = { WritesPair W.write_str_gives };
+
+    fn visit_pair<D: Display>(&mut self, key: &str, value: Value<'_, D>) -> Result<(), kv::Error> {
+        write!(self.f, " {key}={value}")?;
+        Ok(())
+    }
+}
