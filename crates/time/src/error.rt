@@ -1,0 +1,7 @@
+//! Why there is no value, no description or no text.
+pub use time_below::{ComponentRange, DifferentVariant};
+pub use time_describe::{
+    InText, InvalidDescription, InvalidDescription as InvalidFormatDescription, InvalidStrftime,
+    Reason, StrftimeReason,
+};
+pub use time_fmt::{Error, Format};

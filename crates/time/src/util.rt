@@ -1,0 +1,2 @@
+//! The calendar.
+pub use time_below::is_leap_year;
