@@ -2,14 +2,17 @@ pub mod Calendar
 pub mod Clones
 pub mod ComponentRange
 pub mod Conversion
+pub mod DateText
 pub mod Facts
 pub mod Group
 pub mod Metadata
 pub mod Moment
 pub mod Month
+pub mod Names
 pub mod Offset
 pub mod Size
 pub mod TimeOfDay
 pub mod Tree
+pub mod WeekDate
 pub mod Weekday
 pub mod Width
