@@ -1,7 +1,7 @@
 use Rattle.std.proofs.Common.{◌≡◌, ap, ◌∙◌, arith, unsigned_abs}
 use Rattle.std.proofs.lemmas.Int.{ints}
 use Rattle.std.specs.Fmt.{styled_decimal}
-use Rattle.time_below.proofs.TextLemmas.{written_text, with_zeros, date_written}
+use Rattle.time_below.proofs.DateTextLemmas.{written_text, with_zeros, date_written}
 use Rattle.time_below.proofs.date.Date.text.Goals as goal
 
 pub returns : goal.returns

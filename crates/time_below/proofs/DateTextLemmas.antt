@@ -1,4 +1,4 @@
--- Texts that are written into an `InlineText`, and numbers with zeros before them.
+-- What one call writes of a date is its text.
 use Rattle.std.proofs.Common.{◌≡◌, ℕ, suc, ◌-◌, ◌^◌, false, List, [], ◌∷◌, ◌++◌, sym, ap, subst, ◌∙◌, arith, append_assoc}
 use Rattle.std.proofs.lemmas.Grind.{common_steps}
 use Rattle.std.specs.List.{concat, FoldsTo}
