@@ -10,8 +10,11 @@ pub mod Moment
 pub mod Month
 pub mod Names
 pub mod Offset
+pub mod OffsetText
 pub mod Size
+pub mod Text
 pub mod TimeOfDay
+pub mod TimeText
 pub mod Tree
 pub mod WeekDate
 pub mod Weekday

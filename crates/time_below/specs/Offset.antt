@@ -51,6 +51,10 @@ pub record Settles (h m s : ℤ) (o : Offset) : Type 0 where
 abbrev pub is_negative : Offset → Bool
 is_negative o = int_lt o.hours (pos 0) || int_lt o.minutes (pos 0) || int_lt o.seconds (pos 0)
 
+-- some part is above zero
+abbrev pub is_positive : Offset → Bool
+is_positive o = int_lt (pos 0) o.hours || int_lt (pos 0) o.minutes || int_lt (pos 0) o.seconds
+
 -- all parts are zero
 abbrev pub is_utc : Offset → Bool
 is_utc o = (unsigned_abs o.hours == 0) && (unsigned_abs o.minutes == 0) && (unsigned_abs o.seconds == 0)
@@ -67,6 +71,10 @@ signed is_negative n = if is_negative then neg_ℤ (pos n) else pos n
 abbrev pub signed_offset : Bool → ℕ → ℕ → Offset
 signed_offset is_negative hour minute =
     record { hours = signed is_negative hour; minutes = signed is_negative minute; seconds = pos 0 }
+
+-- the hours and the minutes, in minutes
+abbrev pub offset_minutes : Offset → ℤ
+offset_minutes o = pos 60 *ℤ o.hours +ℤ o.minutes
 
 -- the whole offset in seconds
 abbrev pub offset_seconds : Offset → ℤ

@@ -1,5 +1,5 @@
 -- The time of day (ISO 8601-1:2019, 4.3.8 to 4.3.10), without leap seconds.
-use Rattle.std.specs.Prelude.{ℕ, ◌+◌, ◌*◌, ◌/◌, ◌%◌, ◌<◌, nat_lt, if◌then◌else◌}
+use Rattle.std.specs.Prelude.{ℕ, List, ◌+◌, ◌*◌, ◌/◌, ◌%◌, ◌<◌, nat_lt, codes, if◌then◌else◌}
 use Rattle.time_below.specs.declared.period.Period.{Period}
 use Rattle.time_below.specs.declared.period.Period.TheVariants.{Am, Pm}
 
@@ -12,6 +12,18 @@ pub record TimeOfDay : Type 0 where
 -- the parts are in their ranges
 abbrev pub IsTimeOfDay : TimeOfDay → Type 0
 IsTimeOfDay t = (t.hour < 24) × (t.minute < 60) × (t.second < 60) × (t.nanosecond < 1_000_000_000)
+
+-- the time of an hour, a minute, a second and a nanosecond
+abbrev pub time_of : ℕ → ℕ → ℕ → ℕ → TimeOfDay
+time_of hour minute second nanosecond =
+    record { hour = hour; minute = minute; second = second; nanosecond = nanosecond }
+
+-- the name of the first part outside its range, or of the part of the second if the others are in theirs
+abbrev pub first_outside : ℕ → ℕ → ℕ → List ℕ → List ℕ
+first_outside hour minute second subsecond =
+    if nat_lt hour 24
+    then (if nat_lt minute 60 then (if nat_lt second 60 then subsecond else codes "second") else codes "minute")
+    else codes "hour"
 
 -- the half of the day: before noon, or from noon on
 abbrev pub period_of : TimeOfDay → Period

@@ -13,6 +13,7 @@ mod month;
 mod offset_date_time;
 mod period;
 mod plain_date_time;
+mod text;
 mod time;
 mod timestamp;
 mod utc_date_time;

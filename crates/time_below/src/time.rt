@@ -1,7 +1,10 @@
 //! The time of day.
-ghost use Rattle.std.specs.Prelude.{◌≡◌, ◌↔◌, ◌<◌, nat_lt, IsOk, IfOk, IfErr, codes, if◌then◌else◌};
-ghost use Rattle.time_below.specs.TimeOfDay.{TimeOfDay, IsTimeOfDay, time_at, seconds_from_midnight};
+ghost use Rattle.std.specs.Prelude.{◌≡◌, ◌↔◌, ◌*◌, ◌/◌, ◌<◌, IsOk, IfOk, IfErr, codes};
+ghost use Rattle.time_below.specs.TimeOfDay.{TimeOfDay, IsTimeOfDay, first_outside, time_of, time_at, seconds_from_midnight};
 ghost use Rattle.time_below.specs.ComponentRange.{range_refusal, unconditional_range};
+
+mod replace;
+mod text;
 
 use crate::component_range::ComponentRange;
 use std::marker::Model;
@@ -10,7 +13,7 @@ use std::marker::Model;
 pub(crate) const DAY_SECONDS: u32 = 86_400;
 
 /// A time of day to the nanosecond, without leap seconds.
-#[derive(Debug, Clone, Copy)]
+#[derive(Clone, Copy, PartialEq, Eq, PartialOrd, Ord, Hash)]
 pub struct Time {
     hour: u8,
     minute: u8,
@@ -34,6 +37,74 @@ impl Model for Time {
 }
 
 impl Time {
+    /// The first nanosecond of a day, 0:00:00.
+    pub const MIDNIGHT: Time = Time {
+        hour: 0,
+        minute: 0,
+        second: 0,
+        nanosecond: 0,
+    };
+
+    /// The last nanosecond of a day, 23:59:59.999999999.
+    pub const MAX: Time = Time {
+        hour: 23,
+        minute: 59,
+        second: 59,
+        nanosecond: 999_999_999,
+    };
+
+    /// The time of an hour 0 to 23, a minute 0 to 59 and a second 0 to 59, with nanosecond 0. Refuses
+    /// the first part that is outside its range, in this order.
+    pub fn from_hms(hour: u8, minute: u8, second: u8) -> Result<Time, ComponentRange>
+        ensures accepted { IsOk result ↔ IsTimeOfDay (time_of hour minute second 0) }
+        ensures value { IfOk result (λ t. t ≡ time_of hour minute second 0) }
+        ensures refusal { IfErr result (λ e. range_refusal e
+            ≡ unconditional_range (first_outside hour minute second (codes "second"))) }
+    {
+        Time::from_hms_nano(hour, minute, second, 0)
+    }
+
+    /// The time of an hour 0 to 23, a minute 0 to 59, a second 0 to 59 and a millisecond 0 to 999.
+    /// Refuses the first part that is outside its range, in this order.
+    pub fn from_hms_milli(
+        hour: u8,
+        minute: u8,
+        second: u8,
+        millisecond: u16,
+    ) -> Result<Time, ComponentRange>
+        ensures accepted { IsOk result
+            ↔ IsTimeOfDay (time_of hour minute second (millisecond * 1_000_000)) }
+        ensures value { IfOk result (λ t. t
+            ≡ time_of hour minute second (millisecond * 1_000_000)) }
+        ensures refusal { IfErr result (λ e. range_refusal e
+            ≡ unconditional_range (first_outside hour minute second (codes "millisecond"))) }
+    {
+        match Time::from_hms(hour, minute, second) {
+            Ok(time) => time.replace_millisecond(millisecond),
+            Err(refusal) => Err(refusal),
+        }
+    }
+
+    /// The time of an hour 0 to 23, a minute 0 to 59, a second 0 to 59 and a microsecond 0 to
+    /// 999,999. Refuses the first part that is outside its range, in this order.
+    pub fn from_hms_micro(
+        hour: u8,
+        minute: u8,
+        second: u8,
+        microsecond: u32,
+    ) -> Result<Time, ComponentRange>
+        ensures accepted { IsOk result
+            ↔ IsTimeOfDay (time_of hour minute second (microsecond * 1_000)) }
+        ensures value { IfOk result (λ t. t ≡ time_of hour minute second (microsecond * 1_000)) }
+        ensures refusal { IfErr result (λ e. range_refusal e
+            ≡ unconditional_range (first_outside hour minute second (codes "microsecond"))) }
+    {
+        match Time::from_hms(hour, minute, second) {
+            Ok(time) => time.replace_microsecond(microsecond),
+            Err(refusal) => Err(refusal),
+        }
+    }
+
     /// The time of an hour 0 to 23, a minute 0 to 59, a second 0 to 59 and a nanosecond 0 to
     /// 999,999,999. Refuses the first part that is outside its range, in this order.
     pub fn from_hms_nano(
@@ -43,17 +114,10 @@ impl Time {
         nanosecond: u32,
     ) -> Result<Time, ComponentRange>
         ensures accepted { IsOk result
-            ↔ IsTimeOfDay (
-            record { hour = hour; minute = minute; second = second; nanosecond = nanosecond }) }
-        ensures value { IfOk result (λ t. t
-            ≡ record { hour = hour; minute = minute; second = second; nanosecond = nanosecond }) }
-        ensures refusal { IfErr result (λ e. range_refusal e ≡ unconditional_range (
-            if nat_lt hour 24
-            then (if nat_lt minute 60
-            then (if nat_lt second 60 then codes "nanosecond" else codes "second")
-            else codes "minute")
-            else codes "hour"
-            )) }
+            ↔ IsTimeOfDay (time_of hour minute second nanosecond) }
+        ensures value { IfOk result (λ t. t ≡ time_of hour minute second nanosecond) }
+        ensures refusal { IfErr result (λ e. range_refusal e
+            ≡ unconditional_range (first_outside hour minute second (codes "nanosecond"))) }
     {
         if hour > 23 {
             return Err(ComponentRange::unconditional("hour"));
@@ -73,10 +137,8 @@ impl Time {
     /// The time of parts that are in the ranges of `from_hms_nano`, as the caller knows. Nothing is tested.
     #[inline]
     pub fn from_valid_hms_nano(hour: u8, minute: u8, second: u8, nanosecond: u32) -> Time
-        requires { IsTimeOfDay (
-            record { hour = hour; minute = minute; second = second; nanosecond = nanosecond }) }
-        ensures { result
-            ≡ record { hour = hour; minute = minute; second = second; nanosecond = nanosecond } }
+        requires { IsTimeOfDay (time_of hour minute second nanosecond) }
+        ensures { result ≡ time_of hour minute second nanosecond }
     {
         Time {
             hour,
@@ -92,6 +154,78 @@ impl Time {
         ensures range { result < 24 }
     {
         self.hour
+    }
+
+    /// The minute, 0 to 59.
+    pub fn minute(self) -> u8
+        ensures value { result ≡ self.minute }
+        ensures range { result < 60 }
+    {
+        self.minute
+    }
+
+    /// The second, 0 to 59.
+    pub fn second(self) -> u8
+        ensures value { result ≡ self.second }
+        ensures range { result < 60 }
+    {
+        self.second
+    }
+
+    /// The whole milliseconds of the second, 0 to 999.
+    pub fn millisecond(self) -> u16
+        ensures value { result ≡ self.nanosecond / 1_000_000 }
+        ensures range { result < 1_000 }
+    {
+        (self.nanosecond / 1_000_000) as u16
+    }
+
+    /// The whole microseconds of the second, 0 to 999,999.
+    pub fn microsecond(self) -> u32
+        ensures value { result ≡ self.nanosecond / 1_000 }
+        ensures range { result < 1_000_000 }
+    {
+        self.nanosecond / 1_000
+    }
+
+    /// The nanosecond, 0 to 999,999,999.
+    pub fn nanosecond(self) -> u32
+        ensures value { result ≡ self.nanosecond }
+        ensures range { result < 1_000_000_000 }
+    {
+        self.nanosecond
+    }
+
+    /// The hour, the minute and the second.
+    pub fn as_hms(self) -> (u8, u8, u8)
+        ensures hour { result.0 ≡ self.hour }
+        ensures minute { result.1 ≡ self.minute }
+        ensures second { result.2 ≡ self.second }
+        ensures range { IsTimeOfDay (time_of result.0 result.1 result.2 0) }
+    {
+        (self.hour, self.minute, self.second)
+    }
+
+    /// The hour, the minute, the second and the whole milliseconds of the second.
+    pub fn as_hms_milli(self) -> (u8, u8, u8, u16)
+        ensures hour { result.0 ≡ self.hour }
+        ensures minute { result.1 ≡ self.minute }
+        ensures second { result.2 ≡ self.second }
+        ensures millisecond { result.3 ≡ self.nanosecond / 1_000_000 }
+        ensures range { IsTimeOfDay (time_of result.0 result.1 result.2 (result.3 * 1_000_000)) }
+    {
+        (self.hour, self.minute, self.second, self.millisecond())
+    }
+
+    /// The hour, the minute, the second and the whole microseconds of the second.
+    pub fn as_hms_micro(self) -> (u8, u8, u8, u32)
+        ensures hour { result.0 ≡ self.hour }
+        ensures minute { result.1 ≡ self.minute }
+        ensures second { result.2 ≡ self.second }
+        ensures microsecond { result.3 ≡ self.nanosecond / 1_000 }
+        ensures range { IsTimeOfDay (time_of result.0 result.1 result.2 (result.3 * 1_000)) }
+    {
+        (self.hour, self.minute, self.second, self.microsecond())
     }
 
     /// The hour, the minute, the second and the nanosecond.

@@ -1,14 +1,16 @@
 //! Offsets from UTC.
 ghost use Rattle.std.specs.Prelude.{◌≡◌, ◌↔◌, ◌+◌, ◌*◌, ◌<◌, ◌≤◌, pos, ◌+ℤ◌, ◌*ℤ◌, unsigned_abs, nat_le, IsTrue, IsOk, IfOk, IfErr, codes, if◌then◌else◌};
-ghost use Rattle.time_below.specs.Offset.{AreOffsetParts, IsOffset, is_negative, is_utc, settled, signed, signed_like, offset_of_seconds, offset_seconds, utc};
+ghost use Rattle.time_below.specs.Offset.{AreOffsetParts, IsOffset, is_negative, is_positive, is_utc, settled, signed, signed_like, offset_minutes, offset_of_seconds, offset_seconds, utc};
 ghost use Rattle.time_below.specs.ComponentRange.{range_refusal, unconditional_range};
+
+mod text;
 
 use crate::component_range::ComponentRange;
 use std::marker::Model;
 
 /// An offset from UTC, at most 25:59:59 either way (ISO 8601-1:2019, 4.3.13). It is positive east
 /// of Greenwich, where local time is ahead of UTC, and its parts never have two signs.
-#[derive(Debug, Clone, Copy)]
+#[derive(Clone, Copy, PartialEq, Eq, PartialOrd, Ord, Hash)]
 pub struct UtcOffset {
     hours: i8,
     minutes: i8,
@@ -67,6 +69,13 @@ fn sixtieths(whole: i32, part: i8) -> i32
 }
 
 impl UtcOffset {
+    /// The offset of UTC itself, +00:00:00.
+    pub const UTC: UtcOffset = UtcOffset {
+        hours: 0,
+        minutes: 0,
+        seconds: 0,
+    };
+
     /// The offset of hours -25 to 25, minutes -59 to 59 and seconds -59 to 59. Refuses the first
     /// part that is outside its range, in this order. If signs differ, the later parts take the sign of
     /// the first part that is not zero.
@@ -151,12 +160,52 @@ impl UtcOffset {
         (self.hours, self.minutes, self.seconds)
     }
 
+    /// The hours, -25 to 25: the whole offset in hours, rounded toward zero.
+    pub fn whole_hours(self) -> i8
+        ensures value { result ≡ self.hours }
+        ensures range { unsigned_abs result ≤ 25 }
+    {
+        self.hours
+    }
+
+    /// The whole offset in minutes, rounded toward zero, -1,559 to 1,559.
+    pub fn whole_minutes(self) -> i16
+        ensures value { result ≡ offset_minutes self }
+        ensures range { unsigned_abs result < 1_560 }
+    {
+        sixtieths(self.hours as i32, self.minutes) as i16
+    }
+
+    /// The minutes past the hour, -59 to 59.
+    pub fn minutes_past_hour(self) -> i8
+        ensures value { result ≡ self.minutes }
+        ensures range { unsigned_abs result ≤ 59 }
+    {
+        self.minutes
+    }
+
+    /// The seconds past the minute, -59 to 59.
+    pub fn seconds_past_minute(self) -> i8
+        ensures value { result ≡ self.seconds }
+        ensures range { unsigned_abs result ≤ 59 }
+    {
+        self.seconds
+    }
+
     /// Whether every part is zero.
     pub fn is_utc(self) -> bool
         ensures { result ≡ is_utc self }
     {
         // No test is a branch, so that the compiler computes the answer only where it is used.
         (self.hours == 0) & (self.minutes == 0) & (self.seconds == 0)
+    }
+
+    /// Whether some part is above zero.
+    pub fn is_positive(self) -> bool
+        ensures { result ≡ is_positive self }
+    {
+        // Without branches, as above.
+        (self.hours > 0) | (self.minutes > 0) | (self.seconds > 0)
     }
 
     /// Whether some part is below zero.
