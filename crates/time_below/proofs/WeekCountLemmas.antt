@@ -8,7 +8,7 @@ use Rattle.time_below.proofs.CalendarLemmas.{days_of_years, day_number_from_star
 use Rattle.time_below.proofs.YearLemmas.{years_from_start}
 
 -- how many of the n days after a place are at a place that seven divides
-abbrev sevenths_after : ℕ → ℕ → ℕ
+abbrev pub sevenths_after : ℕ → ℕ → ℕ
 sevenths_after place n = (n + 6 - (place + n + 6) % 7) / 7
 
 -- one day more counts if seven divides its place
@@ -16,7 +16,7 @@ sevenths-more : (place n : ℕ) → sevenths_after place n + (if (place + n) % 7
 sevenths-more place n = grind (arith, nat_tests)
 
 -- the number of days of one name in the first n days of a year
-days_of_name_counted : (weekday : ℕ) (y : ℤ) (place : ℕ)
+pub days_of_name_counted : (weekday : ℕ) (y : ℤ) (place : ℕ)
     → ((n : ℕ) → (weekday_of (record { year = y; ordinal = suc n }) == weekday) ≡ ((place + n) % 7 == 0))
     → (n : ℕ) → days_of_name weekday y n ≡ sevenths_after place n
 unfolding days_of_name

@@ -24,7 +24,7 @@ thursday_within : (z : ℤ) → IsDayNumber z → IsDayNumber (thursday_number z
 thursday_within z h = grind (arith, days_from_start, is_day_number, thursday_shifted, days_before_end)
 
 -- the Thursday of the week of a date is one of the calendar
-IsDate-thursday_of : (d : OrdinalDate) → IsDate d → IsDate (thursday_of d)
+pub IsDate-thursday_of : (d : OrdinalDate) → IsDate d → IsDate (thursday_of d)
 IsDate-thursday_of d h = search (rules, arith, common_steps, IsDate-date_at, thursday_within, IsDayNumber-day_number)
 
 -- the year of the week calendar is one of the calendar
@@ -57,7 +57,7 @@ equal_as_integers : (a b : ℕ) → pos a ≡ pos b → a ≡ b
 equal_as_integers a b e = ap unsigned_abs e
 
 -- the Thursday of a day, counted from the start both ways
-thursday_counted : (d : OrdinalDate) (n m : ℕ) → IsDate d
+pub thursday_counted : (d : OrdinalDate) (n m : ℕ) → IsDate d
     → day_number d +ℤ pos days_before ≡ pos n → (thursday_of d).year +ℤ pos greatest_year ≡ pos m
     → n - n % 7 + 3 ≡ days_of_years m + (thursday_of d).ordinal - 1
 thursday_counted d n m h e y =

@@ -87,6 +87,17 @@ next_day d =
     if nat_lt d.ordinal (days_in_year d.year) then record { year = d.year; ordinal = d.ordinal + 1 }
     else record { year = d.year +ℤ pos 1; ordinal = 1 }
 
+-- the first date and the last
+abbrev pub first_date : OrdinalDate
+first_date = record { year = neg_ℤ (pos greatest_year); ordinal = 1 }
+
+abbrev pub last_date : OrdinalDate
+last_date = record { year = pos greatest_year; ordinal = 365 }
+
+-- the Julian day number of a date, whose Julian day begins at noon of it
+abbrev pub julian_day_of : OrdinalDate → ℤ
+julian_day_of d = day_number d +ℤ pos 1_721_426
+
 -- the month of a date, 1 to 12
 abbrev pub month_of : OrdinalDate → ℕ
 month_of d = last_begun (is_leap_year d.year) 12 d.ordinal
@@ -137,3 +148,11 @@ from_sunday from_monday = (from_monday + 1) % 7
 -- how many Sundays the year has had by the date, 0 to 53
 abbrev pub sunday_based_week_of : OrdinalDate → ℕ
 sunday_based_week_of d = (d.ordinal + 6 - from_sunday (weekday_of d)) / 7
+
+-- the days from a date to the next weekday of a name, by its days from Monday: 1 to 7
+abbrev pub days_to_next : OrdinalDate → ℕ → ℕ
+days_to_next d weekday = (weekday + 6 - weekday_of d) % 7 + 1
+
+-- the days from the last weekday of a name to a date: 1 to 7
+abbrev pub days_from_last : OrdinalDate → ℕ → ℕ
+days_from_last d weekday = (weekday_of d + 6 - weekday) % 7 + 1

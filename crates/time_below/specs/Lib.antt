@@ -2,12 +2,14 @@ pub mod Calendar
 pub mod Clones
 pub mod ComponentRange
 pub mod Conversion
+pub mod DateText
 pub mod Facts
 pub mod Group
 pub mod InUtc
 pub mod Metadata
 pub mod Moment
 pub mod Month
+pub mod Names
 pub mod Offset
 pub mod OffsetText
 pub mod Shown
@@ -16,5 +18,6 @@ pub mod Text
 pub mod TimeOfDay
 pub mod TimeText
 pub mod Tree
+pub mod WeekDate
 pub mod Weekday
 pub mod Width

@@ -7,6 +7,12 @@ ghost use Rattle.time_below.specs.Moment.{day_seconds, unix_day};
 ghost use Rattle.time_below.specs.Month.{month_number};
 ghost use Rattle.time_below.specs.Weekday.{days_from_monday};
 
+mod days;
+mod replace;
+mod text;
+mod week_date;
+mod with_time;
+
 use crate::calendar;
 use crate::component_range::ComponentRange;
 use crate::month::Month;
@@ -34,7 +40,7 @@ fn is_year(year: i32) -> bool
 }
 
 /// A date of the proleptic Gregorian calendar, in the years -999,999 to 999,999.
-#[derive(Debug, Clone, Copy, PartialEq, Eq, PartialOrd, Ord, Hash)]
+#[derive(Clone, Copy, PartialEq, Eq, PartialOrd, Ord, Hash)]
 pub struct Date {
     year: i32,
     ordinal: u16,
@@ -53,6 +59,18 @@ impl Model for Date {
 }
 
 impl Date {
+    /// The first date, -999999-01-01.
+    pub const MIN: Date = Date {
+        year: -GREATEST_YEAR,
+        ordinal: 1,
+    };
+
+    /// The last date, 999999-12-31.
+    pub const MAX: Date = Date {
+        year: GREATEST_YEAR,
+        ordinal: 365,
+    };
+
     /// The date of a year -999,999 to 999,999, a month and a day 1 to the length of that month.
     /// Refuses the year, then the day, whose range the year and the month set.
     pub fn from_calendar_date(year: i32, month: Month, day: u8) -> Result<Date, ComponentRange>
@@ -161,6 +179,24 @@ impl Date {
         ensures date { IsDate self }
     {
         self.ordinal
+    }
+
+    /// The day of the month, 1 to 31.
+    pub fn day(self) -> u8
+        ensures value { result ≡ day_of self }
+        ensures range { IsInRange 1 31 result }
+    {
+        self.to_calendar_date().2
+    }
+
+    /// The year and the day of the year, 1 to 366.
+    pub fn to_ordinal_date(self) -> (i32, u16)
+        ensures year { result.0 ≡ self.year }
+        ensures ordinal { result.1 ≡ self.ordinal }
+        ensures year_range { IsYear result.0 }
+        ensures ordinal_range { IsInRange 1 366 result.1 }
+    {
+        (self.year, self.ordinal)
     }
 
     /// The year, the month and the day of the month, which is 1 to 31.

@@ -1,15 +1,17 @@
 //! The months of the calendar.
-ghost use Rattle.std.specs.Prelude.{◌≡◌};
+ghost use Rattle.std.specs.Prelude.{◌≡◌, ◌+◌, ◌-◌, ◌%◌};
 ghost use Rattle.std.specs.Int.{IsInRange};
 ghost use Rattle.time_below.specs.Calendar.{days_in_month, is_leap_year};
 ghost use Rattle.time_below.specs.Month.{month_number};
+
+mod names;
 
 use crate::calendar;
 use crate::component_range::ComponentRange;
 use std::convert::TryFrom;
 
 /// A month of the Gregorian calendar.
-#[derive(Debug, Clone, Copy, PartialEq, Eq)]
+#[derive(Debug, Clone, Copy, PartialEq, Eq, Hash)]
 pub enum Month {
     /// Month 1.
     January,
@@ -68,6 +70,34 @@ impl Month {
         ensures range { IsInRange 28 31 result }
     {
         calendar::days_in_month(calendar::is_leap_year(year), u8::from(self))
+    }
+
+    /// The month before, which is December before January.
+    pub fn previous(self) -> Month
+        ensures { month_number self ≡ month_number result % 12 + 1 }
+    {
+        self.nth_prev(1)
+    }
+
+    /// The month after, which is January after December.
+    pub fn next(self) -> Month
+        ensures { month_number result ≡ month_number self % 12 + 1 }
+    {
+        self.nth_next(1)
+    }
+
+    /// The month this many months after, where January follows December.
+    pub fn nth_next(self, n: u8) -> Month
+        ensures { month_number result ≡ (month_number self - 1 + n) % 12 + 1 }
+    {
+        Month::from_number((self as u8 + n % 12) % 12 + 1)
+    }
+
+    /// The month this many months before, where December precedes January.
+    pub fn nth_prev(self, n: u8) -> Month
+        ensures { month_number self ≡ (month_number result - 1 + n) % 12 + 1 }
+    {
+        Month::from_number((self as u8 + 12 - n % 12) % 12 + 1)
     }
 }
 

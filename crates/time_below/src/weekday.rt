@@ -1,10 +1,12 @@
 //! The days of the week.
-ghost use Rattle.std.specs.Prelude.{◌≡◌, ◌+◌, ◌<◌};
+ghost use Rattle.std.specs.Prelude.{◌≡◌, ◌+◌, ◌%◌, ◌<◌};
 ghost use Rattle.std.specs.Int.{IsInRange};
 ghost use Rattle.time_below.specs.Weekday.{days_from_monday, days_from_sunday};
 
+mod names;
+
 /// A day of the week, which begins on Monday (ISO 8601-1:2019, week calendar).
-#[derive(Debug, Clone, Copy, PartialEq, Eq)]
+#[derive(Debug, Clone, Copy, PartialEq, Eq, Hash)]
 pub enum Weekday {
     /// Day 1 of the week.
     Monday,
@@ -65,5 +67,41 @@ impl Weekday {
         ensures range { IsInRange 1 7 result }
     {
         self as u8 + 1
+    }
+
+    /// The place in a week that begins on Sunday, 1 for Sunday to 7 for Saturday.
+    pub fn number_from_sunday(self) -> u8
+        ensures value { result ≡ days_from_sunday self + 1 }
+        ensures range { IsInRange 1 7 result }
+    {
+        self.number_days_from_sunday() + 1
+    }
+
+    /// The weekday before, which is Sunday before Monday.
+    pub fn previous(self) -> Weekday
+        ensures { days_from_monday self ≡ (days_from_monday result + 1) % 7 }
+    {
+        self.nth_prev(1)
+    }
+
+    /// The weekday after, which is Monday after Sunday.
+    pub fn next(self) -> Weekday
+        ensures { days_from_monday result ≡ (days_from_monday self + 1) % 7 }
+    {
+        self.nth_next(1)
+    }
+
+    /// The weekday this many days after.
+    pub fn nth_next(self, n: u8) -> Weekday
+        ensures { days_from_monday result ≡ (days_from_monday self + n) % 7 }
+    {
+        Weekday::from_monday((self as u8 + n % 7) % 7)
+    }
+
+    /// The weekday this many days before.
+    pub fn nth_prev(self, n: u8) -> Weekday
+        ensures { days_from_monday self ≡ (days_from_monday result + n) % 7 }
+    {
+        Weekday::from_monday((self as u8 + 7 - n % 7) % 7)
     }
 }

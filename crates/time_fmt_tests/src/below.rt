@@ -1,9 +1,12 @@
 //! Each call once, the refusals by their names, and texts that no clause states. Rows of the
 //! calendar, of moments and of the tables of components are proved of the definitions.
 mod dates;
+mod days;
 mod descriptions;
 mod equality;
 mod moments;
+mod names;
+mod replaced;
 
 use crate::texts::{assert_same, assert_that, some};
 use std::process::Abort;

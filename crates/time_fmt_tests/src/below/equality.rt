@@ -8,13 +8,16 @@ use time_below::laws::choices::{
 use time_below::laws::clones::{
     clones_of_descriptions, clones_of_names, clones_of_refusals, clones_of_values,
 };
+use time_below::laws::dates::{
+    a_week_date_has_its_week, date_equality, dates_compare_by_their_days,
+};
 use time_below::laws::{
     component_conversion, days_follow_one_another, local_seconds_near_the_range, metadata_of_texts,
     month_conversions, month_equality, one_date_and_time_for_each_moment, one_date_for_each_day,
     one_date_for_each_day_of_month, one_date_for_each_day_of_week, one_sign_for_each_offset,
     period_equality, range_equality, weekday_equality, weeks_count_their_first_days,
 };
-use time_below::{ComponentRange, DifferentVariant, Month, Period, Weekday};
+use time_below::{ComponentRange, Date, DifferentVariant, Month, Period, Weekday};
 use time_compare::wednesday;
 use time_digits::laws::{
     ri8_equality, ri16_equality, ri32_equality, ru8_equality, ru16_equality, ru32_equality,
@@ -58,6 +61,7 @@ fn each_law_of_equality_is_called(_rt: HostRuntime) {
         ComponentRange::conditional("hour"),
     );
     date_state_equality(Default::default(), Default::default());
+    date_equality(Date::MIN, Date::MAX);
 }
 
 #[test]
@@ -149,6 +153,8 @@ fn each_law_of_the_calendar_is_called(_rt: HostRuntime) {
     one_date_for_each_day_of_month();
     one_date_for_each_day_of_week();
     weeks_count_their_first_days();
+    a_week_date_has_its_week();
+    dates_compare_by_their_days();
     one_date_and_time_for_each_moment();
     one_sign_for_each_offset();
     local_seconds_near_the_range();
