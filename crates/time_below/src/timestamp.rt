@@ -4,6 +4,8 @@ ghost use Rattle.time_below.specs.Moment.{IsMoment, IsTimestampSecond, IsTimesta
 ghost use Rattle.time_below.specs.Offset.{offset_seconds};
 ghost use Rattle.time_below.specs.ComponentRange.{range_refusal, unconditional_range};
 
+mod text;
+
 use crate::component_range::ComponentRange;
 use crate::date::Date;
 use crate::moment;
@@ -26,7 +28,7 @@ const LAST_NANOSECOND: i128 = 31_494_784_780_799_999_999_999;
 
 /// A moment, by the seconds since 1970-01-01T00:00:00 UTC and the nanosecond counted forward from
 /// there. It lies in the years -999,999 to 999,999.
-#[derive(Debug, Clone, Copy, PartialEq, Eq, PartialOrd, Ord, Hash)]
+#[derive(Clone, Copy, PartialEq, Eq, PartialOrd, Ord, Hash)]
 pub struct Timestamp {
     seconds: i64,
     nanosecond: u32,
