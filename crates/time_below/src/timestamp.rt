@@ -146,6 +146,19 @@ impl Timestamp {
         )
     }
 
+    /// The date and time of the moment by clocks at this offset, and the offset, whose year there is in
+    /// range, as the caller knows.
+    pub fn to_offset(self, offset: UtcOffset) -> OffsetDateTime
+        requires { IsTimestampSecond (self.seconds +ℤ offset_seconds offset) }
+        ensures value { result ≡ local_at self offset }
+        ensures moment { local_unix_seconds result ≡ self.seconds }
+    {
+        match self.checked_to_offset(offset) {
+            Some(shown) => shown,
+            None => unreachable!(),
+        }
+    }
+
     /// The date and time of the moment by clocks at this offset, and the offset. Returns `None` where their
     /// year is outside -999,999 to 999,999.
     pub fn checked_to_offset(self, offset: UtcOffset) -> Option<OffsetDateTime>

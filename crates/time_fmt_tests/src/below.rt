@@ -4,8 +4,11 @@ mod dates;
 mod days;
 mod descriptions;
 mod equality;
+mod local_times;
 mod moments;
 mod names;
+mod order;
+mod printed;
 mod replaced;
 
 use crate::texts::{assert_same, assert_that, some};

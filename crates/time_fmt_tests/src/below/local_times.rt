@@ -4,7 +4,9 @@ use crate::texts::{assert_same, assert_that, some};
 use std::convert::TryFrom;
 use std::io;
 use std::time::{Clock, Duration};
-use time_below::{Month, OffsetDateTime, PlainDateTime, Timestamp, UtcDateTime, UtcOffset, Weekday};
+use time_below::{
+    Month, OffsetDateTime, PlainDateTime, Timestamp, UtcDateTime, UtcOffset, Weekday,
+};
 use time_compare::{date_at, moment, offset_at, time_at, timestamp_at};
 
 // 2026-11-22 9:55:06.12 +05:30.
@@ -25,14 +27,25 @@ fn a_moment_is_one_in_each_type(rt: HostRuntime) {
     assert_same(&rt, utc.as_hms_nano(), (4, 25, 6, 120_000_000));
     assert_same(&rt, Timestamp::from(utc), stamp);
     assert_that(&rt, Timestamp::try_from(local) == Ok(stamp));
-    assert_that(&rt, UtcDateTime::try_from(local) == Ok(utc) && local.checked_to_utc() == Some(utc));
+    assert_that(
+        &rt,
+        UtcDateTime::try_from(local) == Ok(utc) && local.checked_to_utc() == Some(utc),
+    );
     assert_same(&rt, OffsetDateTime::from(utc).offset().is_utc(), true);
-    assert_that(&rt, OffsetDateTime::from(stamp) == local && local.to_utc() == utc);
+    assert_that(
+        &rt,
+        OffsetDateTime::from(stamp) == local && local.to_utc() == utc,
+    );
     let offset = local.offset();
     assert_same(&rt, stamp.checked_to_offset(offset), Some(local));
+    assert_same(&rt, stamp.to_offset(offset), local);
     assert_same(&rt, utc.to_offset(offset).time().as_hms(), (9, 55, 6));
     assert_same(&rt, utc.checked_to_offset(offset), Some(local));
-    assert_same(&rt, local.to_offset(UtcOffset::UTC).time().as_hms(), (4, 25, 6));
+    assert_same(
+        &rt,
+        local.to_offset(UtcOffset::UTC).time().as_hms(),
+        (4, 25, 6),
+    );
 }
 
 #[test]
@@ -40,13 +53,23 @@ fn a_moment_is_made_of_seconds_or_nanoseconds(rt: HostRuntime) {
     let local = some(&rt, there());
     assert_same(&rt, local.unix_timestamp_nanos(), NANOSECONDS);
     assert_same(&rt, local.to_utc().unix_timestamp_nanos(), NANOSECONDS);
-    assert_that(&rt, OffsetDateTime::from_unix_timestamp_nanos(NANOSECONDS) == Ok(local));
+    assert_that(
+        &rt,
+        OffsetDateTime::from_unix_timestamp_nanos(NANOSECONDS) == Ok(local),
+    );
     let whole = UtcDateTime::from_unix_timestamp(SECONDS);
     assert_that(&rt, whole == local.to_utc().replace_nanosecond(0));
-    assert_that(&rt, OffsetDateTime::from_unix_timestamp(SECONDS) == local.replace_nanosecond(0));
+    assert_that(
+        &rt,
+        OffsetDateTime::from_unix_timestamp(SECONDS) == local.replace_nanosecond(0),
+    );
     let stamp = Timestamp::from_nanoseconds(-1);
     assert_that(&rt, stamp == Timestamp::new(-1, 999_999_999));
-    assert_same(&rt, Timestamp::MAX.as_nanoseconds(), 31_494_784_780_799_999_999_999);
+    assert_same(
+        &rt,
+        Timestamp::MAX.as_nanoseconds(),
+        31_494_784_780_799_999_999_999,
+    );
 }
 
 const REFUSED: &[i128] = &[
@@ -77,7 +100,11 @@ fn refuses_nanoseconds_outside_the_years(rt: HostRuntime) {
 fn a_local_time_past_the_last_year_in_utc_has_no_utc(rt: HostRuntime) {
     let last = some(&rt, moment((999_999, 12, 31), (23, 0, 0, 0), (-1, 0, 0)));
     assert_same(&rt, last.checked_to_utc(), None);
-    assert_same(&rt, refusal_of(&UtcDateTime::try_from(last)), ("year", false));
+    assert_same(
+        &rt,
+        refusal_of(&UtcDateTime::try_from(last)),
+        ("year", false),
+    );
     assert_same(&rt, refusal_of(&Timestamp::try_from(last)), ("year", false));
     let hour = some(&rt, offset_at((1, 0, 0)));
     assert_same(&rt, UtcDateTime::MAX.checked_to_offset(hour), None);
@@ -88,6 +115,7 @@ fn a_local_time_past_the_last_year_in_utc_has_no_utc(rt: HostRuntime) {
 }
 
 /// A clock that shows so many nanoseconds since 1970.
+#[derive(Drop)]
 struct Stopped(Duration);
 
 impl Clock for Stopped {
@@ -201,13 +229,24 @@ fn a_date_and_time_with_another_part(rt: HostRuntime) {
 #[test]
 fn another_offset_is_another_moment_by_the_same_clock(rt: HostRuntime) {
     let local = some(&rt, there());
-    let (date, time) = (some(&rt, date_at((1970, 1, 1))), some(&rt, time_at((0, 0, 0, 5))));
+    let (date, time) = (
+        some(&rt, date_at((1970, 1, 1))),
+        some(&rt, time_at((0, 0, 0, 5))),
+    );
     let moved = local.replace_offset(UtcOffset::UTC);
     assert_same(&rt, moved.time().as_hms(), (9, 55, 6));
     assert_that(&rt, moved != local);
     let epoch = PlainDateTime::new(date, time);
-    assert_same(&rt, moved.replace_date_time(epoch).unix_timestamp_nanos(), 5);
-    assert_same(&rt, moved.replace_date(date).replace_time(time), epoch.assume_utc());
+    assert_same(
+        &rt,
+        moved.replace_date_time(epoch).unix_timestamp_nanos(),
+        5,
+    );
+    assert_same(
+        &rt,
+        moved.replace_date(date).replace_time(time),
+        epoch.assume_utc(),
+    );
     let plain = PlainDateTime::MAX.replace_date(date).replace_time(time);
     assert_same(&rt, plain, epoch);
     let utc = UtcDateTime::MAX.replace_date(date).replace_time(time);

@@ -1,11 +1,12 @@
 //! The order of moments, dates and times, and their hashes.
 use crate::texts::{assert_that, some};
 use std::hash::{DefaultHasher, Hash, Hasher};
+use std::time::SystemTime;
 use time_below::laws::one_moment_for_each_nanosecond;
 use time_below::laws::order::{
-    conversions_of_local_times, conversions_of_moments, offset_date_time_order,
-    plain_date_time_equality, plain_date_time_order, timestamp_order, utc_date_time_equality,
-    utc_date_time_order,
+    conversion_of_clocks, conversions_of_local_times, conversions_of_moments,
+    offset_date_time_order, plain_date_time_equality, plain_date_time_order, timestamp_order,
+    utc_date_time_equality, utc_date_time_order,
 };
 use time_below::{PlainDateTime, Timestamp, UtcDateTime};
 use time_compare::{moment, timestamp_at, wednesday};
@@ -32,7 +33,10 @@ fn local_times_compare_by_their_moments(rt: HostRuntime) {
 fn an_earlier_moment_is_less(rt: HostRuntime) {
     let before = some(&rt, timestamp_at((-1, 999_999_999)));
     let epoch = some(&rt, timestamp_at((0, 0)));
-    assert_that(&rt, before < epoch && before != epoch && epoch == Timestamp::UNIX_EPOCH);
+    assert_that(
+        &rt,
+        before < epoch && before != epoch && epoch == Timestamp::UNIX_EPOCH,
+    );
     assert_that(&rt, Timestamp::MIN < before && epoch < Timestamp::MAX);
     assert_that(&rt, hash_of(&epoch) == hash_of(&Timestamp::UNIX_EPOCH));
 }
@@ -41,11 +45,23 @@ fn an_earlier_moment_is_less(rt: HostRuntime) {
 fn an_earlier_date_and_time_is_less(rt: HostRuntime) {
     let before = UtcDateTime::from(some(&rt, timestamp_at((-1, 999_999_999))));
     let epoch = UtcDateTime::UNIX_EPOCH;
-    assert_that(&rt, before < epoch && before != epoch && UtcDateTime::MIN < before);
-    assert_that(&rt, epoch < UtcDateTime::MAX && hash_of(&before) != hash_of(&epoch));
+    assert_that(
+        &rt,
+        before < epoch && before != epoch && UtcDateTime::MIN < before,
+    );
+    assert_that(
+        &rt,
+        epoch < UtcDateTime::MAX && hash_of(&before) != hash_of(&epoch),
+    );
     let (before, epoch) = (before.as_primitive(), epoch.as_primitive());
-    assert_that(&rt, before < epoch && before != epoch && PlainDateTime::MIN < before);
-    assert_that(&rt, epoch < PlainDateTime::MAX && hash_of(&before) != hash_of(&epoch));
+    assert_that(
+        &rt,
+        before < epoch && before != epoch && PlainDateTime::MIN < before,
+    );
+    assert_that(
+        &rt,
+        epoch < PlainDateTime::MAX && hash_of(&before) != hash_of(&epoch),
+    );
 }
 
 #[test]
@@ -61,5 +77,6 @@ fn each_law_of_order_is_called(rt: HostRuntime) {
     utc_date_time_order();
     offset_date_time_order(local, local);
     conversions_of_moments(stamp, utc, local);
-    conversions_of_local_times(local, Ok(stamp), Ok(utc));
+    conversions_of_local_times();
+    conversion_of_clocks(SystemTime::UNIX_EPOCH);
 }
