@@ -14,6 +14,7 @@ ghost use Rattle.time_below.specs.Moment.{Moment, DateAndTime, OffsetDateAndTime
 
 pub mod choices;
 pub mod clones;
+pub mod times;
 
 use crate::component_range::ComponentRange;
 use crate::format_description::{Component, FormatDescriptionV3Inner, Metadata};

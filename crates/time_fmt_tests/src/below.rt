@@ -4,6 +4,7 @@ mod dates;
 mod descriptions;
 mod equality;
 mod moments;
+mod times;
 
 use crate::texts::{assert_same, assert_that, some};
 use std::process::Abort;
