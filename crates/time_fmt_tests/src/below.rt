@@ -10,6 +10,7 @@ mod names;
 mod order;
 mod printed;
 mod replaced;
+mod times;
 
 use crate::texts::{assert_same, assert_that, some};
 use std::process::Abort;
