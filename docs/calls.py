@@ -15,7 +15,7 @@ import sys
 TOP = pathlib.Path(__file__).resolve().parent.parent
 PAGE = TOP / "docs/CALLS.md"
 CRATES = [
-    "time_below", "time_fmt", "time_known", "time_describe", "time_plan", "time_log", "time_read", "time_jiff", "time_provide",
+    "time_below", "time_fmt", "time_known", "time_describe", "time_plan", "time_log", "time_read", "time_jiff", "time_serde", "time_provide",
     "time_digits", "line_streams", "time_lines", "movaliren", "movaliren_time",
 ]
 RUST = {"movaliren": "bindings/rust", "movaliren_time": "bindings/rust-time"}
