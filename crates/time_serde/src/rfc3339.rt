@@ -1,6 +1,7 @@
 //! Moments as texts of RFC 3339.
-ghost use Rattle.std.specs.Prelude.{◌≡◌, ◌≤◌, IfOk, OnOk};
+ghost use Rattle.std.specs.Prelude.{◌≡◌, ◌≤◌, IfErr, IfOk, OnOk};
 ghost use Rattle.time_fmt.specs.Outcome.{done};
+ghost use Rattle.time_known.specs.Accepted.{refused_for};
 ghost use Rattle.time_known.specs.Rfc3339.{rfc3339_of};
 ghost use Rattle.time_known.specs.Rfc3339Grammar.{Rfc3339Spells};
 ghost use Rattle.time_serde.specs.Events.{IsReadFrom, WritesText};
@@ -26,6 +27,7 @@ pub mod option;
 fn text_of(local: &OffsetDateTime) -> Result<Rfc3339Text, OutOfRange>
     ensures text { IfOk result (λ t. rfc3339_of local.now ≡ done (⟦<Rfc3339Text as Text>⟧.text t)) }
     ensures width { IfOk result (λ t. ⟦<Rfc3339Text as Text>⟧.width t ≤ 35) }
+    ensures refused { IfErr result (λ out. rfc3339_of local.now ≡ refused_for out) }
 {
     match accepted_fields(0, 23, local, &mut DateState::default()) {
         Ok(fields) => Ok(Rfc3339Text { fields }),
