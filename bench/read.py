@@ -1,5 +1,5 @@
 #!/usr/bin/env python3
-"""Counts what it costs to read a text back, and prints a table; it names the commit and the load.
+"""Counts what it costs to read a text back, and prints tables; they name the commit and the load.
 
     bench/read.py [FOLDER]
 
@@ -30,6 +30,18 @@ TEXTS = [
     "2026-11-22T09:55:66Z",
     "x",
 ]
+MAIL = [
+    "Fri, 21 Nov 1997 09:55:06 -0600",
+    "Tue, 29 Feb 2000 00:00:00 +0000",
+    "Sat, 21 Nov 1997 09:55:06 -0600",
+    "Fri, 21 Nov 1997 09:55:66 -0600",
+    "Fri, 21 Nov 1997 09:55:06 GMT",
+    "x",
+]
+STAMPS = [
+    "2026-11-22T09:55:06.123456789Z",
+    "2026-11-22T09:55:06.12Z",
+]
 
 
 def ours(program, way, text):
@@ -54,6 +66,15 @@ def program(folder):
     return run.built(folder, "time_read_bench")
 
 
+def table(ways, texts):
+    """Prints the instructions of each text by each way."""
+    print("|Text|" + "|".join(name for name, _ in ways) + "|\n|" + "---|" * (len(ways) + 1))
+    for text in texts:
+        counts = run.counts_of([way(text) for _, way in ways])
+        print(f"|`{text}`|" + "|".join(map(run.shown, counts)) + "|", flush=True)
+    print()
+
+
 def main():
     with tempfile.TemporaryDirectory() as temporary:
         folder = pathlib.Path(sys.argv[1] if len(sys.argv) > 1 else temporary)
@@ -63,11 +84,11 @@ def main():
         if others:
             ways += [("`time`", lambda text: theirs(others, "time", text)),
                      ("`chrono`", lambda text: theirs(others, "chrono", text))]
-        print("|Text|" + "|".join(name for name, _ in ways) + "|\n|" + "---|" * (len(ways) + 1))
-        for text in TEXTS:
-            counts = run.counts_of([way(text) for _, way in ways])
-            print(f"|`{text}`|" + "|".join(map(run.shown, counts)) + "|", flush=True)
-        print(f"\n{run.Bench.commit()}.")
+        table(ways, TEXTS)
+        table([("`rfc2822::read`", lambda text: ours(own, "m", text)),
+               ("kit's `jiff_fmt`", lambda text: ours(own, "k", text))], MAIL)
+        table([("`stamp::read`", lambda text: ours(own, "t", text)), ("`read`", lambda text: ours(own, "s", text))], STAMPS)
+        print(f"{run.Bench.commit()}.")
 
 
 if __name__ == "__main__":

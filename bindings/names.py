@@ -242,7 +242,9 @@ class Interfaces:
         header = {name.removeprefix("expected"): number for name, number in header.items()}
         rust = {words(name): int(number) for number, name in findall(r"(\d+|_) => Expected::(\w+)", *self.rust) if number != "_"}
         rust[words(only(r"_ => Expected::(\w+)", *self.rust))] = len(header)
-        rattle = {words(name): int(number) for name, number in findall(r"Expected::(\w+)(?:\([\w, ]+\))? => \((\d+)", *self.rattle)}
+        # What has the number 0 stands in no text that C reads.
+        told = findall(r"Expected::(\w+)(?:\([\w, ]+\))? => \(([1-9]\d*)", *self.rattle)
+        rattle = {words(name): int(number) for name, number in told}
         self.same("what could have come", header, rust, rattle)
 
     def tests(self):

@@ -1,1 +1,3 @@
 pub mod TimedLine
+pub mod Times
+pub mod ZoneTimes

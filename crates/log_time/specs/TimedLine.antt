@@ -1,5 +1,6 @@
 -- The line of a record with its time.
-use Rattle.std.specs.Prelude.{◌≡◌, ℕ, List, [], ◌++◌, Option, Some, codes, flat_map, option_map}
+use Rattle.std.specs.Borrow.{Bor}
+use Rattle.std.specs.Prelude.{◌≡◌, ℕ, List, [], ◌++◌, Option, None, Some, codes, flat_map, option_map}
 use Rattle.std.specs.Fmt.{◌++?◌, HasWritten, IsPlainFormatter}
 use Rattle.log.specs.declared.level.Level.{Level}
 use Rattle.log.specs.declared.record.Record.{Record}
@@ -11,6 +12,11 @@ use Rattle.log_time.specs.declared.line.Pairs.{Pairs}
 use Rattle.log_time.specs.declared.line.TimePlace.{TimePlace}
 use Rattle.log_time.specs.declared.line.TimePlace.TheVariants.{Before, Inside}
 use Rattle.log_time.specs.declared.line.TimedLine.{TimedLine}
+
+-- the time, or `-` where there is none: the NILVALUE of RFC 5424, section 6.2.3
+abbrev pub time_or_dash : Option (Bor (List ℕ)) → List ℕ
+time_or_dash None = codes "-"
+time_or_dash (Some time) = time.now
 
 -- `[time INFO  target] `, or `[time INFO ] ` where the target is empty
 abbrev pub bracketed : List ℕ → Level → List ℕ → List ℕ

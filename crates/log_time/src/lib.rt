@@ -2,5 +2,12 @@
 #![tactic(auto)]
 
 mod line;
+mod out;
+mod sink;
+mod times;
+mod zone;
 
 pub use line::{TimePlace, TimedLine};
+pub use sink::Timed;
+pub use times::Times;
+pub use zone::ZoneTimes;

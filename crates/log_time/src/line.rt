@@ -12,14 +12,15 @@ use std::fmt::{self, Display, Formatter};
 /// Where the time of a line stands.
 #[derive(Debug, Clone, Copy, PartialEq, Eq)]
 pub enum TimePlace {
-    /// First within the brackets, as `env_logger` writes it: `[2026-11-22T09:55:06.120Z INFO  app] started`.
+    /// First within the brackets, as `env_logger` writes it:
+    /// `[2026-11-22T09:55:06.120Z INFO  app] started`.
     Inside,
     /// Before the line of `log`: `2026-11-22T09:55:06.120Z [INFO  app] started`.
     Before,
 }
 
 /// Shows a record as `[time INFO  target] span{key=value}: message key=value` or as
-/// `time [INFO  target] span{key=value}: message key=value`, with no line break. The time is any text.
+/// `time [INFO  target] span{key=value}: message key=value`, with no line break.
 #[derive_where(Clone, Copy)]
 pub struct TimedLine<'a, 'r, D, K, S> {
     place: TimePlace,
@@ -28,18 +29,23 @@ pub struct TimedLine<'a, 'r, D, K, S> {
 }
 
 impl<'a, 'r, D, K, S> TimedLine<'a, 'r, D, K, S> {
-    ghost use Rattle.log_time.specs.TimedLine.{line_place, line_record, line_time};
+    ghost use Rattle.log_time.specs.TimedLine.{line_place, line_record, line_time, time_or_dash};
 
-    /// The line of a record with this time.
+    /// The line of a record with this time, or with `-` where there is none, as in RFC 5424,
+    /// section 6.2.3.
     pub fn new(
         place: TimePlace,
-        time: &'a str,
+        time: Option<&'a str>,
         record: &'a Record<'r, D, K, S>,
     ) -> TimedLine<'a, 'r, D, K, S>
         ensures place { line_place result ≡ place }
-        ensures time { line_time result ≡ time.now }
+        ensures time { line_time result ≡ time_or_dash time.entry }
         ensures record { line_record result ≡ «record».now }
     {
+        let time = match time {
+            Some(time) => time,
+            None => "-",
+        };
         TimedLine {
             place,
             time,
@@ -51,7 +57,8 @@ impl<'a, 'r, D, K, S> TimedLine<'a, 'r, D, K, S> {
 impl<'a, 'r, D: Display, K: Source, S: Spans> Display for TimedLine<'a, 'r, D, K, S> {
     ghost use Rattle.log_time.specs.TimedLine.{line_place, line_record, line_time};
 
-    ghost output = { λ line. timed_line D.output K.pairs S.scopes (line_place line) (line_time line) (line_record line) };
+    ghost output = { λ line. timed_line D.output K.pairs S.scopes
+        (line_place line) (line_time line) (line_record line) };
 
     fn fmt<W: fmt::Write>(&self, f: &mut Formatter<W>) -> fmt::Result {
         let record = self.record;

@@ -26,7 +26,7 @@ lenient_flag profile.Strict = 0
 lenient_flag profile.Lenient = 1
 
 -- what could have come after so many bytes: its number, the first and the last of its digits or its byte twice, and
--- whether small letters could have come too
+-- whether small letters could have come too; the number is 0 of what only RFC 2822 has
 abbrev pub place_at : ℕ → Bool → Expected → Place
 place_at at is_second_60 (expected.Digit first last) = record { at = at; expected = 1; first = first; last = last; is_lenient = 0; is_second_60 = flag_of is_second_60 }
 place_at at is_second_60 (expected.Byte b) = record { at = at; expected = 2; first = b; last = b; is_lenient = 0; is_second_60 = flag_of is_second_60 }
@@ -35,6 +35,10 @@ place_at at is_second_60 (expected.Offset p) = record { at = at; expected = 4; f
 place_at at is_second_60 (expected.PointOrOffset p) = record { at = at; expected = 5; first = 0; last = 0; is_lenient = lenient_flag p; is_second_60 = flag_of is_second_60 }
 place_at at is_second_60 (expected.DigitOrOffset p) = record { at = at; expected = 6; first = 0; last = 0; is_lenient = lenient_flag p; is_second_60 = flag_of is_second_60 }
 place_at at is_second_60 expected.End = record { at = at; expected = 7; first = 0; last = 0; is_lenient = 0; is_second_60 = flag_of is_second_60 }
+place_at at is_second_60 expected.Sign = record { at = at; expected = 0; first = 0; last = 0; is_lenient = 0; is_second_60 = flag_of is_second_60 }
+place_at at is_second_60 (expected.EachFourth first last) = record { at = at; expected = 0; first = 0; last = 0; is_lenient = 0; is_second_60 = flag_of is_second_60 }
+place_at at is_second_60 (expected.Name names count first second) = record { at = at; expected = 0; first = 0; last = 0; is_lenient = 0; is_second_60 = flag_of is_second_60 }
+place_at at is_second_60 (expected.Weekday weekday) = record { at = at; expected = 0; first = 0; last = 0; is_lenient = 0; is_second_60 = flag_of is_second_60 }
 
 abbrev pub place_of : NotRead → Place
 place_of e = place_at e.at e.is_second_60 e.expected
@@ -47,7 +51,7 @@ Reads Spells text (Ok v) = Spells v text
 Reads Spells text (Err e) = ((v : OffsetDateAndTime) → ¬ Spells v text)
     × IsFirstFault (SpellsSome Spells) (take e.at text) (drop e.at text) e.expected
     × (e.at ≤ length text)
-    × (IsTrue e.is_second_60 ↔ IsSecond60 e.at text)
+    × (IsTrue e.is_second_60 ↔ IsSecond60 17 e.at text)
 
 -- the parts of the moment are those of the value, as each call that formats takes them
 abbrev pub IsByParts : Moment → OffsetDateAndTime → Type 0

@@ -84,6 +84,11 @@ fn place_of(error: NotRead) -> Place
         Expected::PointOrOffset(profile) => (5, 0, 0, lenient_flag(profile)),
         Expected::DigitOrOffset(profile) => (6, 0, 0, lenient_flag(profile)),
         Expected::End => (7, 0, 0, 0),
+        // What only RFC 2822 has, which C does not read.
+        Expected::Sign => (0, 0, 0, 0),
+        Expected::EachFourth(_, _) => (0, 0, 0, 0),
+        Expected::Name(_, _, _, _) => (0, 0, 0, 0),
+        Expected::Weekday(_) => (0, 0, 0, 0),
     };
     Place {
         at: error.at,

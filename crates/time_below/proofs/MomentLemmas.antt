@@ -80,7 +80,7 @@ time_at-seconds_from_midnight : (t : TimeOfDay) → IsTimeOfDay t
 time_at-seconds_from_midnight t h = grind (arith, equal_parts_make_equal_times)
 
 -- a time of day ends within its day
-within_day : (t : TimeOfDay) → IsTimeOfDay t → seconds_from_midnight t < day_seconds
+pub within_day : (t : TimeOfDay) → IsTimeOfDay t → seconds_from_midnight t < day_seconds
 within_day t h = omega arith
 
 -- the seconds of a day and a time, counted from the start

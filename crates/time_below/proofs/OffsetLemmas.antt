@@ -1,12 +1,15 @@
 -- The signs of an offset's parts.
-use Rattle.std.proofs.Common.{◌≡◌, ℕ, ◌+◌, ◌<◌, ◌≤◌, ◌⊎◌, inl, inr, Bool, true, false, refl}
-use Rattle.std.proofs.Common.{ap, arith, ℤ, pos, neg_ℤ, ◌+ℤ◌, ◌*ℤ◌, ◌<ℤ◌, ◌≤ℤ◌, unsigned_abs}
-use Rattle.std.specs.Prelude.{int_lt, ◌||◌}
-use Rattle.std.proofs.lemmas.Bool.{cases_lt}
-use Rattle.std.proofs.lemmas.Bool.Decides.{nat_tests}
+use Rattle.std.proofs.Common.{◌≡◌, ◌∙◌, ℕ, ◌+◌, ◌/◌, ◌<◌, ◌≤◌, ◌⊎◌, inl, inr, Bool, true, false, refl}
+use Rattle.std.proofs.Common.{ap, sym, arith, Ordering, Less, Equal, Greater, ℤ, pos, negsuc, neg_ℤ, ◌+ℤ◌, ◌*ℤ◌, ◌<ℤ◌, ◌≤ℤ◌, unsigned_abs}
+use Rattle.std.specs.Cmp.{int_cmp_is, int_ranks}
+use Rattle.std.specs.Bool.{Decides}
+use Rattle.std.specs.Ordering.{MatchOrdering, ordering_then, int_cmp, int_eq}
+use Rattle.std.specs.Prelude.{int_div, int_lt, ◌||◌, ◌&&◌}
+use Rattle.std.proofs.lemmas.Bool.{cases_lt, and_parts, and_from}
+use Rattle.std.proofs.lemmas.Bool.Decides.{nat_tests, Decides-int_eq}
 use Rattle.std.proofs.lemmas.Int.{ints, by_lt_z}
 use Rattle.time_below.specs.Offset.{Offset, AreOffsetParts, HasNoOtherSign, IsOffset}
-use Rattle.time_below.specs.Offset.{is_negative, is_utc, signed, signed_offset, utc, offset_of_seconds, offset_seconds}
+use Rattle.time_below.specs.Offset.{is_negative, is_utc, signed, signed_offset, utc, offset_of_seconds, offset_minutes, offset_seconds}
 use Rattle.std.proofs.lemmas.Grind.{common_steps}
 
 -- two parts that are not below zero have one sign
@@ -127,3 +130,75 @@ pub one_offset_of_seconds : (o p : Offset) → IsOffset o → IsOffset p → off
 one_offset_of_seconds o p a b e =
     let same = parts_of_sum o.hours o.minutes o.seconds p.hours p.minutes p.seconds a.0 b.0 (one_sided o a) (one_sided p b) e in
     same_parts p.hours p.minutes p.seconds o.hours o.minutes o.seconds same.0 same.1 same.2
+
+-- an offset with fewer hours has fewer seconds
+fewer_hours : (h m s h' m' s' : ℤ) → AreOffsetParts h m s → AreOffsetParts h' m' s' → IsOneSided h m s → IsOneSided h' m' s'
+    → h <ℤ h' → (pos 3600 *ℤ h +ℤ pos 60 *ℤ m +ℤ s) <ℤ (pos 3600 *ℤ h' +ℤ pos 60 *ℤ m' +ℤ s')
+unfolding IsOneSided
+fewer_hours h m s h' m' s' a b (inl p) (inl q) e = omega (arith, ints)
+fewer_hours h m s h' m' s' a b (inl p) (inr q) e = omega (arith, ints)
+fewer_hours h m s h' m' s' a b (inr p) (inl q) e = omega (arith, ints)
+fewer_hours h m s h' m' s' a b (inr p) (inr q) e = omega (arith, ints)
+
+-- so has one with as many hours and fewer minutes
+fewer_minutes : (h m s h' m' s' : ℤ) → AreOffsetParts h m s → AreOffsetParts h' m' s' → IsOneSided h m s → IsOneSided h' m' s'
+    → h ≡ h' → m <ℤ m' → (pos 3600 *ℤ h +ℤ pos 60 *ℤ m +ℤ s) <ℤ (pos 3600 *ℤ h' +ℤ pos 60 *ℤ m' +ℤ s')
+unfolding IsOneSided
+fewer_minutes h m s h' m' s' a b (inl p) (inl q) d e = omega (arith, ints)
+fewer_minutes h m s h' m' s' a b (inl p) (inr q) d e = omega (arith, ints)
+fewer_minutes h m s h' m' s' a b (inr p) (inl q) d e = omega (arith, ints)
+fewer_minutes h m s h' m' s' a b (inr p) (inr q) d e = omega (arith, ints)
+
+-- the first parts that differ decide as the seconds do
+ranks_of_parts : (o p : Offset) → IsOffset o → IsOffset p → (x y z : Ordering)
+    → MatchOrdering x (o.hours <ℤ p.hours) (o.hours ≡ p.hours) (p.hours <ℤ o.hours)
+    → MatchOrdering y (o.minutes <ℤ p.minutes) (o.minutes ≡ p.minutes) (p.minutes <ℤ o.minutes)
+    → MatchOrdering z (o.seconds <ℤ p.seconds) (o.seconds ≡ p.seconds) (p.seconds <ℤ o.seconds)
+    → MatchOrdering (ordering_then x (ordering_then y z)) (offset_seconds o <ℤ offset_seconds p)
+    (offset_seconds o ≡ offset_seconds p) (offset_seconds p <ℤ offset_seconds o)
+ranks_of_parts o p a b Less y z h m s = fewer_hours _ _ _ _ _ _ a.0 b.0 (one_sided o a) (one_sided p b) h
+ranks_of_parts o p a b Greater y z h m s = fewer_hours _ _ _ _ _ _ b.0 a.0 (one_sided p b) (one_sided o a) h
+ranks_of_parts o p a b Equal Less z h m s = fewer_minutes _ _ _ _ _ _ a.0 b.0 (one_sided o a) (one_sided p b) h m
+ranks_of_parts o p a b Equal Greater z h m s = fewer_minutes _ _ _ _ _ _ b.0 a.0 (one_sided p b) (one_sided o a) (sym h) m
+ranks_of_parts o p a b Equal Equal Less h m s = omega (arith, ints)
+ranks_of_parts o p a b Equal Equal Equal h m s = omega (arith, ints)
+ranks_of_parts o p a b Equal Equal Greater h m s = omega (arith, ints)
+
+-- parts in order compare as the seconds
+pub parts_compare : (o p : Offset) → IsOffset o → IsOffset p
+    → ordering_then (int_cmp o.hours p.hours) (ordering_then (int_cmp o.minutes p.minutes) (int_cmp o.seconds p.seconds))
+    ≡ int_cmp (offset_seconds o) (offset_seconds p)
+parts_compare o p a b =
+    int_cmp_is _ _ _ (ranks_of_parts o p a b _ _ _ (int_ranks o.hours p.hours) (int_ranks o.minutes p.minutes)
+    (int_ranks o.seconds p.seconds))
+
+-- the test of each part is that of the offsets
+pub same_offset : (o p : Offset)
+    → Decides (int_eq o.hours p.hours && (int_eq o.minutes p.minutes && int_eq o.seconds p.seconds)) (o ≡ p)
+same_offset o p = (
+  λ test. let hours = and_parts _ _ test in
+      let minutes = and_parts _ _ hours.1 in
+      same_parts p.hours p.minutes p.seconds o.hours o.minutes o.seconds ((Decides-int_eq _ _).0 hours.0)
+      ((Decides-int_eq _ _).0 minutes.0) ((Decides-int_eq _ _).0 minutes.1),
+  λ same. and_from _ _ ((Decides-int_eq _ _).1 (ap (λ x. x.hours) same))
+      (and_from _ _ ((Decides-int_eq _ _).1 (ap (λ x. x.minutes) same))
+      ((Decides-int_eq _ _).1 (ap (λ x. x.seconds) same))),
+)
+
+-- a quotient by sixty has the sign of the number
+sixtieth : (y : ℤ) → int_div y (pos 60) ≡ signed (int_lt y (pos 0)) (unsigned_abs y / 60)
+sixtieth (pos n) = grind (arith, common_steps, nat_tests)
+sixtieth (negsuc n) = refl
+
+-- what is left of a minute is dropped
+minutes_of_parts : (h m s : ℤ) → AreOffsetParts h m s → IsOneSided h m s
+    → signed (int_lt (pos 3600 *ℤ h +ℤ pos 60 *ℤ m +ℤ s) (pos 0)) (unsigned_abs (pos 3600 *ℤ h +ℤ pos 60 *ℤ m +ℤ s) / 60)
+    ≡ pos 60 *ℤ h +ℤ m
+unfolding IsOneSided
+minutes_of_parts h m s a (inl p) = grind (arith, common_steps, nat_tests, ints)
+minutes_of_parts h m s a (inr p) = grind (arith, common_steps, nat_tests, ints)
+
+-- the whole minutes of an offset
+pub minutes_of_seconds : (o : Offset) → IsOffset o → int_div (offset_seconds o) (pos 60) ≡ offset_minutes o
+minutes_of_seconds o real =
+    sixtieth (offset_seconds o) ∙ minutes_of_parts o.hours o.minutes o.seconds real.0 (one_sided o real)

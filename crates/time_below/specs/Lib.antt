@@ -3,6 +3,7 @@ pub mod Clones
 pub mod ComponentRange
 pub mod Conversion
 pub mod DateText
+pub mod DateTimeText
 pub mod Facts
 pub mod Group
 pub mod InUtc

@@ -148,6 +148,12 @@ impl Date {
         365 * years + years / 4 - years / 100 + years / 400 + self.ordinal as u32 - 1
     }
 
+    // 1970-01-01.
+    pub(crate) const UNIX_EPOCH: Date = Date {
+        year: 1970,
+        ordinal: 1,
+    };
+
     // The seconds from 1970-01-01 to the start of the day.
     pub(crate) fn unix_midnight(self) -> i64
         ensures value { result ≡ (day_number self -ℤ pos unix_day) *ℤ pos day_seconds }

@@ -16,6 +16,7 @@ pub mod choices;
 pub mod clones;
 pub mod dates;
 pub mod order;
+pub mod times;
 
 use crate::component_range::ComponentRange;
 use crate::format_description::{Component, FormatDescriptionV3Inner, Metadata};

@@ -31,7 +31,7 @@ pub use invalid_variant::InvalidVariant;
 pub use month::Month;
 pub use offset_date_time::OffsetDateTime;
 pub use period::Period;
-pub use plain_date_time::PlainDateTime;
+pub use plain_date_time::{PlainDateTime, PlainDateTime as PrimitiveDateTime};
 pub use time::Time;
 pub use timestamp::Timestamp;
 pub use utc_date_time::UtcDateTime;

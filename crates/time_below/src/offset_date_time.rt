@@ -4,7 +4,9 @@ ghost use Rattle.time_below.specs.Moment.{in_utc, local_unix_seconds, IsNearTime
 
 mod moment;
 mod order;
+mod parts;
 mod replace;
+mod text;
 
 use crate::date::Date;
 use crate::time::Time;
@@ -13,7 +15,7 @@ use crate::utc_offset::UtcOffset;
 use std::marker::Model;
 
 /// A local date and time of day, and the offset of the place from UTC.
-#[derive(Debug, Clone, Copy)]
+#[derive(Clone, Copy)]
 pub struct OffsetDateTime {
     date: Date,
     time: Time,
@@ -31,6 +33,13 @@ impl Model for OffsetDateTime {
 }
 
 impl OffsetDateTime {
+    /// 1970-01-01 0:00:00 in UTC.
+    pub const UNIX_EPOCH: OffsetDateTime = OffsetDateTime {
+        date: Date::UNIX_EPOCH,
+        time: Time::MIDNIGHT,
+        offset: UtcOffset::UTC,
+    };
+
     /// The local date, the local time and the offset as given.
     pub fn new_in_offset(date: Date, time: Time, offset: UtcOffset) -> OffsetDateTime
         ensures { result ≡ record { date = date; time = time; offset = offset } }

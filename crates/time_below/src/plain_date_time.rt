@@ -2,6 +2,10 @@
 ghost use Rattle.std.specs.Prelude.{◌≡◌};
 ghost use Rattle.time_below.specs.Moment.{in_utc};
 
+mod parts;
+mod replace;
+mod text;
+
 use crate::date::Date;
 use crate::offset_date_time::OffsetDateTime;
 use crate::time::Time;
@@ -10,7 +14,7 @@ use crate::utc_offset::UtcOffset;
 use std::marker::Model;
 
 /// A date and a time of day, of no place in particular.
-#[derive(Debug, Clone, Copy, PartialEq, Eq, PartialOrd, Ord, Hash)]
+#[derive(Clone, Copy, PartialEq, Eq, PartialOrd, Ord, Hash)]
 pub struct PlainDateTime {
     date: Date,
     time: Time,
@@ -27,6 +31,18 @@ impl Model for PlainDateTime {
 }
 
 impl PlainDateTime {
+    /// -999999-01-01 0:00:00.
+    pub const MIN: PlainDateTime = PlainDateTime {
+        date: Date::MIN,
+        time: Time::MIDNIGHT,
+    };
+
+    /// 999999-12-31 23:59:59.999999999.
+    pub const MAX: PlainDateTime = PlainDateTime {
+        date: Date::MAX,
+        time: Time::MAX,
+    };
+
     /// The date and the time as given.
     pub fn new(date: Date, time: Time) -> PlainDateTime
         ensures { result ≡ record { date = date; time = time } }

@@ -5,6 +5,7 @@ ghost use Rattle.time_below.specs.ComponentRange.{range_refusal, unconditional_r
 
 mod replace;
 mod text;
+mod truncate;
 
 use crate::component_range::ComponentRange;
 use std::marker::Model;

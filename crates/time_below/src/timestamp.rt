@@ -4,6 +4,8 @@ ghost use Rattle.time_below.specs.Moment.{IsMoment, IsTimestampSecond, IsTimesta
 ghost use Rattle.time_below.specs.Offset.{offset_seconds};
 ghost use Rattle.time_below.specs.ComponentRange.{range_refusal, unconditional_range};
 
+mod text;
+
 use crate::component_range::ComponentRange;
 use crate::date::Date;
 use crate::moment;
@@ -26,7 +28,7 @@ const LAST_NANOSECOND: i128 = 31_494_784_780_799_999_999_999;
 
 /// A moment, by the seconds since 1970-01-01T00:00:00 UTC and the nanosecond counted forward from
 /// there. It lies in the years -999,999 to 999,999.
-#[derive(Debug, Clone, Copy, PartialEq, Eq, PartialOrd, Ord, Hash)]
+#[derive(Clone, Copy, PartialEq, Eq, PartialOrd, Ord, Hash)]
 pub struct Timestamp {
     seconds: i64,
     nanosecond: u32,
@@ -142,6 +144,19 @@ impl Timestamp {
             (self.seconds_from_start() % DAY_SECONDS as u64) as u32,
             self.nanosecond,
         )
+    }
+
+    /// The date and time of the moment by clocks at this offset, and the offset, whose year there is in
+    /// range, as the caller knows.
+    pub fn to_offset(self, offset: UtcOffset) -> OffsetDateTime
+        requires { IsTimestampSecond (self.seconds +ℤ offset_seconds offset) }
+        ensures value { result ≡ local_at self offset }
+        ensures moment { local_unix_seconds result ≡ self.seconds }
+    {
+        match self.checked_to_offset(offset) {
+            Some(shown) => shown,
+            None => unreachable!(),
+        }
     }
 
     /// The date and time of the moment by clocks at this offset, and the offset. Returns `None` where their

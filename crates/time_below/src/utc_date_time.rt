@@ -4,6 +4,10 @@ ghost use Rattle.time_below.specs.ComponentRange.{range_refusal, unconditional_r
 ghost use Rattle.time_below.specs.Moment.{IsTimestampSecond, IsTimestampNanosecond, at_second, local_at, local_moment, moment_of, nanoseconds, unix_seconds, utc_date_and_time};
 ghost use Rattle.time_below.specs.Offset.{offset_seconds};
 
+mod parts;
+mod replace;
+mod text;
+
 use crate::component_range::ComponentRange;
 use crate::date::Date;
 use crate::moment;
@@ -15,7 +19,7 @@ use crate::utc_offset::UtcOffset;
 use std::marker::Model;
 
 /// A date and a time of day in UTC.
-#[derive(Debug, Clone, Copy, PartialEq, Eq, PartialOrd, Ord, Hash)]
+#[derive(Clone, Copy, PartialEq, Eq, PartialOrd, Ord, Hash)]
 pub struct UtcDateTime {
     date: Date,
     time: Time,
@@ -32,6 +36,24 @@ impl Model for UtcDateTime {
 }
 
 impl UtcDateTime {
+    /// -999999-01-01 0:00:00.
+    pub const MIN: UtcDateTime = UtcDateTime {
+        date: Date::MIN,
+        time: Time::MIDNIGHT,
+    };
+
+    /// 999999-12-31 23:59:59.999999999.
+    pub const MAX: UtcDateTime = UtcDateTime {
+        date: Date::MAX,
+        time: Time::MAX,
+    };
+
+    /// 1970-01-01 0:00:00.
+    pub const UNIX_EPOCH: UtcDateTime = UtcDateTime {
+        date: Date::UNIX_EPOCH,
+        time: Time::MIDNIGHT,
+    };
+
     /// The date and the time as given.
     pub fn new(date: Date, time: Time) -> UtcDateTime
         ensures { result ≡ record { date = date; time = time } }

@@ -4,9 +4,13 @@ mod dates;
 mod days;
 mod descriptions;
 mod equality;
+mod local_times;
 mod moments;
 mod names;
+mod order;
+mod printed;
 mod replaced;
+mod times;
 
 use crate::texts::{assert_same, assert_that, some};
 use std::process::Abort;

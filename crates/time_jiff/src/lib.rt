@@ -3,11 +3,11 @@
 #![tactic(auto)]
 
 mod clock;
+mod local;
 
 ghost use Rattle.std.specs.Prelude.{◌≡◌, ◌↔◌, ◌<◌, pos, neg_ℤ, ◌+ℤ◌, ◌*ℤ◌, IsOk, IfErr, IfOk};
 ghost use Rattle.jiff.specs.ZonedView.{plain_zoned, zoned_date, zoned_nanos, zoned_time};
 ghost use Rattle.jiff_core.specs.Calendar.{IsBetween, IsYear};
-ghost use Rattle.jiff_core.specs.Error.{IsRange};
 ghost use Rattle.time_below.specs.Calendar.{month_of, day_of, IsDate};
 ghost use Rattle.jiff_core.specs.Timestamp.{IsTimestampNanos, IsOffsetSeconds};
 ghost use Rattle.time_below.specs.Moment.{nanoseconds as nanoseconds_of, IsMoment};
@@ -16,6 +16,9 @@ ghost use Rattle.time_below.specs.TimeOfDay.{IsTimeOfDay};
 ghost use Rattle.time_jiff.specs.Same.{IsInFixedZone, local_nanoseconds, same_date, same_time};
 
 pub use clock::ZoneClock;
+use jiff_core::Error;
+use jiff_core::error::Bound;
+pub use local::{LocalOffset, NowLocal};
 use time_below::{Date, Month, OffsetDateTime, PlainDateTime, Time, UtcOffset};
 
 /// The second in which the moment lies, and its nanoseconds from there on.
@@ -43,13 +46,26 @@ pub fn timestamp(moment: jiff::Timestamp) -> time_below::Timestamp
     }
 }
 
-/// The moment, if `jiff` has it: from -9999-01-02T01:59:59Z to 9999-12-30T22:00:00.999999999Z.
-pub fn jiff_timestamp(moment: time_below::Timestamp) -> Result<jiff::Timestamp, jiff::Error>
+/// The moment of so many nanoseconds since 1970, if `jiff` has it.
+fn jiff_instant(nanoseconds: i128) -> Result<jiff::Timestamp, Error>
+    ensures succeeds { IsOk result ↔ IsTimestampNanos nanoseconds }
+    ensures value { IfOk result (λ t. t.nanosecond ≡ nanoseconds) }
+    ensures error { IfErr result (λ e. e ≡ Error.Range Bound.UnixEpochSeconds) }
+{
+    match jiff_core::Timestamp::from_nanosecond(nanoseconds) {
+        Ok(same) => Ok(jiff::Timestamp::from_plain(same)),
+        Err(error) => Err(error),
+    }
+}
+
+/// The moment, if `jiff` has it: from -9999-01-02T01:59:59Z to 9999-12-30T22:00:00.999999999Z. Any other
+/// is refused by its Unix seconds.
+pub fn jiff_timestamp(moment: time_below::Timestamp) -> Result<jiff::Timestamp, Error>
     ensures succeeds { IsOk result ↔ IsTimestampNanos (nanoseconds_of moment) }
     ensures value { IfOk result (λ t. t.nanosecond ≡ nanoseconds_of moment) }
-    ensures error { IfErr result IsRange }
+    ensures error { IfErr result (λ e. e ≡ Error.Range Bound.UnixEpochSeconds) }
 {
-    jiff::Timestamp::from_nanosecond(nanoseconds(moment))
+    jiff_instant(nanoseconds(moment))
 }
 
 /// The nanoseconds since 1970.
@@ -129,27 +145,33 @@ pub fn jiff_time(time: Time) -> jiff::civil::Time
     }
 }
 
-/// The date for `jiff`, if it has the year: -9999 to 9999.
-pub fn jiff_date(date: Date) -> Result<jiff::civil::Date, jiff::Error>
+/// The date for `jiff`, if it has the year: -9999 to 9999. Any other is refused by its year.
+pub fn jiff_date(date: Date) -> Result<jiff::civil::Date, Error>
     ensures succeeds { IsOk result ↔ IsYear date.year }
     ensures value { IfOk result (λ d. (d.year ≡ date.year) × (d.month ≡ month_of date) × (d.day ≡ day_of date)) }
-    ensures error { IfErr result IsRange }
+    ensures error { IfErr result (λ e. e ≡ Error.Range Bound.Year) }
 {
+    let refused = Error::Range(Bound::Year);
     let (year, month, day) = date.to_calendar_date();
-    match i16::try_from(year) {
-        Ok(year) => jiff::civil::Date::new(year, u8::from(month) as i8, day as i8),
-        Err(_) => Err(jiff::Error::Range(jiff::error::Bound::Year)),
+    let Ok(year) = i16::try_from(year) else {
+        return Err(refused);
+    };
+    match jiff::civil::Date::new(year, u8::from(month) as i8, day as i8) {
+        Ok(same) => Ok(same),
+        // The month and the day are real.
+        Err(_) => Err(refused),
     }
 }
 
-/// The date and the time of day for `jiff`, if it has the year.
-pub fn jiff_date_time(shown: PlainDateTime) -> Result<jiff::civil::DateTime, jiff::Error>
+/// The date and the time of day for `jiff`, if it has the year: -9999 to 9999. Others are refused by
+/// their year.
+pub fn jiff_date_time(shown: PlainDateTime) -> Result<jiff::civil::DateTime, Error>
     ensures succeeds { IsOk result ↔ IsYear shown.date.year }
     ensures time { IfOk result (λ t. same_time t.time ≡ shown.time) }
     ensures date { IfOk result (λ t. (t.date.year ≡ shown.date.year)
         × (t.date.month ≡ month_of shown.date)
         × (t.date.day ≡ day_of shown.date)) }
-    ensures error { IfErr result IsRange }
+    ensures error { IfErr result (λ e. e ≡ Error.Range Bound.Year) }
 {
     match jiff_date(shown.date()) {
         Ok(date) => Ok(jiff::civil::DateTime::from_parts(date, jiff_time(shown.time()))),
@@ -191,17 +213,17 @@ fn in_fixed_zone(instant: jiff::Timestamp, moment: OffsetDateTime) -> jiff::Zone
 }
 
 /// The moment in the zone that always has its offset, if `jiff` has the moment: from
-/// -9999-01-02T01:59:59Z to 9999-12-30T22:00:00.999999999Z.
-pub fn jiff_zoned(moment: OffsetDateTime) -> Result<jiff::Zoned<'static>, jiff::Error>
+/// -9999-01-02T01:59:59Z to 9999-12-30T22:00:00.999999999Z. Any other is refused by its Unix seconds.
+pub fn jiff_zoned(moment: OffsetDateTime) -> Result<jiff::Zoned<'static>, Error>
     ensures succeeds { IsOk result ↔ IsTimestampNanos (local_nanoseconds moment) }
     ensures moment { IfOk result (λ z. zoned_nanos z ≡ local_nanoseconds moment) }
     ensures offset { IfOk result (λ z. (plain_zoned z).offset.seconds ≡ offset_seconds moment.offset) }
     ensures date { IfOk result (λ z. same_date (zoned_date z) ≡ moment.date) }
     ensures time { IfOk result (λ z. same_time (zoned_time z) ≡ moment.time) }
     ensures zone { IfOk result (λ z. IsInFixedZone z (offset_seconds moment.offset)) }
-    ensures error { IfErr result IsRange }
+    ensures error { IfErr result (λ e. e ≡ Error.Range Bound.UnixEpochSeconds) }
 {
-    match jiff::Timestamp::from_nanosecond(nanoseconds_at(moment)) {
+    match jiff_instant(nanoseconds_at(moment)) {
         Ok(instant) => Ok(in_fixed_zone(instant, moment)),
         Err(error) => Err(error),
     }

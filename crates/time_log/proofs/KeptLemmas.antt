@@ -42,12 +42,18 @@ kept_new m t u second head kept at text year same =
     (record { offset = kept.offset; utc = kept.utc; zone = kept.zone; length = kept.length; year = year; head = text })
 
 -- the text by what is kept
+pub text_of_kept : (s : LogSettings) (m : Moment) (t : Inside) (nanosecond : ℕ) → IsFor s m t → nanosecond ≡ m.nanosecond
+    → t.head ++ decimals nanosecond 1_000_000_000 (digits_of t.decimals) ++ (if t.is_utc then codes "Z" else t.zone)
+    ≡ log_text s m
+text_of_kept s m t nanosecond h n =
+    let decimals_of : t.decimals ≡ s.decimals = ap (λ (x : LogSettings). x.decimals) h.settings in
+    let offset_of : t.offset ≡ s.offset = ap (λ (x : LogSettings). x.offset) h.settings in
+    rw (h.head, h.zone, offset_of, n, decimals_of) refl
+
+-- and the same where it is appended
 pub text_for : (s : LogSettings) (m : Moment) (t : Inside) (old new : List ℕ) (nanosecond : ℕ) → IsFor s m t
     → nanosecond ≡ m.nanosecond
     → new ≡ old ++ (t.head ++ decimals nanosecond 1_000_000_000 (digits_of t.decimals)
     ++ (if t.is_utc then codes "Z" else t.zone))
     → new ≡ old ++ log_text s m
-text_for s m t old new nanosecond h n e =
-    let decimals_of : t.decimals ≡ s.decimals = ap (λ (x : LogSettings). x.decimals) h.settings in
-    let offset_of : t.offset ≡ s.offset = ap (λ (x : LogSettings). x.offset) h.settings in
-    e ∙ rw (h.head, h.zone, offset_of, n, decimals_of) refl
+text_for s m t old new nanosecond h n e = e ∙ ap (λ text. old ++ text) (text_of_kept s m t nanosecond h n)

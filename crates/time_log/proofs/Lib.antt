@@ -1,3 +1,4 @@
+mod AsciiLemmas
 mod BeginLemmas
 mod HeadLemmas
 mod KeptLemmas

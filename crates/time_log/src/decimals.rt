@@ -1,10 +1,10 @@
 //! How many decimals a text has, and their digits.
 ghost use Rattle.std.specs.Prelude.{◌≡◌};
 ghost use Rattle.time_fmt.specs.Decimals.{decimals as decimals_of};
-ghost use Rattle.time_fmt.specs.Room.{HasRoom};
-ghost use Rattle.time_fmt.specs.Sink.{Puts, vec_buffer};
+ghost use Rattle.time_fmt.specs.Sink.{Fits, Puts};
 ghost use Rattle.time_log.specs.LogText.{digits_of};
 
+use time_fmt::Sink;
 use time_fmt::writers::{write_nine_digits, write_six_decimals, write_three_decimals};
 use time_provide::ranges::Nanoseconds;
 
@@ -35,9 +35,9 @@ impl Decimals {
 /// Appends the first digits of the nine of a nanosecond.
 #[inline(always)]
 #[tactic(auto, using(time_fmt::proofs::DecimalLemmas::three_of_second, time_fmt::proofs::DecimalLemmas::six_of_second))]
-pub(crate) fn put_decimals(output: &mut Vec<u8>, nanosecond: Nanoseconds, decimals: Decimals)
-    requires room { HasRoom output.old (digits_of decimals) }
-    ensures writes { Puts (vec_buffer output.old) (vec_buffer output.new) (digits_of decimals)
+pub(crate) fn put_decimals<S: Sink>(output: &mut S, nanosecond: Nanoseconds, decimals: Decimals)
+    requires room { Fits (S.buffer output.old) (digits_of decimals) }
+    ensures writes { Puts (S.buffer output.old) (S.buffer output.new) (digits_of decimals)
         (decimals_of nanosecond 1_000_000_000 (digits_of decimals)) }
 {
     let _count = match decimals {

@@ -1,18 +1,19 @@
 //! The times of the lines of one log.
-ghost use Rattle.std.specs.Prelude.{◌≡◌, ◌≢◌, ◌↔◌, ◌+◌, ◌<◌, ◌≤◌, ◌++◌, ◌+ℤ◌, pos, codes, nat_le, unsigned_abs, IsOk, is_err, IfOk, IfErr, OnErr, if◌then◌else◌, vec_len, vec_capacity};
+ghost use Rattle.std.specs.Prelude.{◌≡◌, ◌≢◌, ◌↔◌, ◌+◌, ◌<◌, ◌≤◌, ◌++◌, ◌+ℤ◌, pos, codes, nat_le, unsigned_abs, IfSome, IsSome, IsOk, is_err, IfOk, IfErr, OnErr, if◌then◌else◌, vec_len, vec_capacity};
 ghost use Rattle.time_below.specs.Offset.{offset_seconds, utc};
+ghost use Rattle.time_digits.specs.Shown.{shown};
 ghost use Rattle.time_fmt.specs.Outcome.{Names, invalid_component};
 ghost use Rattle.time_fmt.specs.Room.{HasRoom, Reserves};
 ghost use Rattle.time_log.specs.LogText.{HasLogText, IsLogOffset, log_length, log_text};
 
 use crate::decimals::Decimals;
 use crate::head::{LENGTH, head_at};
-use crate::text::append_text;
+use crate::text::{append_text, text_in_array};
 use crate::zone::{zone_len, zone_of};
 use std::fmt::{self, Debug};
 use std::marker::Model;
 use time_below::{Timestamp, UtcOffset};
-use time_digits::ru32;
+use time_digits::{StackStr, ru32};
 use time_fmt::{Format, make_room};
 use time_known::accepted::OutOfRange;
 
@@ -95,7 +96,8 @@ impl LogTime {
 
     /// The offset of all times.
     pub fn offset(&self) -> UtcOffset
-        ensures { result ≡ self.now.offset }
+        ensures value { result ≡ self.now.offset }
+        ensures accepted { IsLogOffset result }
     {
         self.offset
     }
@@ -157,6 +159,31 @@ impl LogTime {
             self.is_utc,
         );
         Ok(self.length)
+    }
+
+    /// The text of a moment, which [`append`](LogTime::append) would append, in memory of its own. There is none
+    /// where the year at the offset is outside 0 to 9,999. Nothing is allocated.
+    pub fn text(&mut self, moment: Timestamp) -> Option<StackStr<35>>
+        ensures same { self.new ≡ self.old }
+        ensures text { IfSome result (λ t. shown t ≡ log_text self.old moment) }
+        ensures year { IsSome result ↔ HasLogText self.old moment }
+    {
+        let (seconds, nanosecond) = moment.as_parts();
+        if self.second != seconds {
+            let Some(text) = head_at(moment, self.offset) else {
+                return None;
+            };
+            self.second = seconds;
+            self.head = text;
+        }
+        let nanosecond = ru32::within(nanosecond);
+        Some(text_in_array(
+            &self.head,
+            nanosecond,
+            self.decimals,
+            &self.zone,
+            self.is_utc,
+        ))
     }
 }
 

@@ -1,14 +1,18 @@
 //! The text of a moment, from what is kept.
-ghost use Rattle.std.specs.Prelude.{◌≡◌, ◌+◌, ◌++◌, codes, if◌then◌else◌, length};
+ghost use Rattle.std.specs.Prelude.{◌≡◌, ◌≤◌, ◌+◌, ◌++◌, IsAscii, codes, if◌then◌else◌, length, take};
+ghost use Rattle.time_digits.specs.Shown.{shown};
 ghost use Rattle.time_fmt.specs.Decimals.{decimals as decimals_of};
 ghost use Rattle.time_fmt.specs.Room.{HasRoom};
-ghost use Rattle.time_fmt.specs.Sink.{Puts, vec_buffer};
+ghost use Rattle.time_fmt.specs.Sink.{Fits, Puts, vec_buffer};
 ghost use Rattle.time_log.specs.LogText.{digits_of, zone_length};
 
 use crate::decimals::{Decimals, put_decimals};
 use crate::head::LENGTH;
-use crate::zone::put_zone;
-use time_fmt::writers::{put_back, take_out};
+use crate::zone::{put_zone, zone_text};
+use std::marker::Brand;
+use time_digits::StackStr;
+use time_fmt::writers::{put_back, take_out, write_bytes};
+use time_fmt::{Before, RoomSink, Sink};
 use time_provide::ranges::Nanoseconds;
 
 /// Appends the text up to the decimals, these and the offset.
@@ -47,4 +51,76 @@ pub(crate) fn push_each<const N: usize>(output: &mut Vec<u8>, bytes: [u8; N])
     for byte in bytes {
         output.push_reserved(byte);
     }
+}
+
+/// The most bytes of a text.
+pub(crate) const LONGEST: usize = 35;
+
+/// The same text in memory of its own.
+#[inline]
+pub(crate) fn text_in_array(
+    head: &[u8; LENGTH],
+    nanosecond: Nanoseconds,
+    decimals: Decimals,
+    zone: &[u8; 6],
+    is_utc: bool,
+) -> StackStr<LONGEST>
+    requires head { length head.now ≡ LENGTH }
+    requires zone { length zone.now ≡ 6 }
+    requires ascii { IsAscii (head.now ++ decimals_of nanosecond 1_000_000_000 (digits_of decimals)
+        ++ (if is_utc then codes "Z" else zone.now)) }
+    ensures { shown result ≡ head.now ++ decimals_of nanosecond 1_000_000_000 (digits_of decimals)
+        ++ (if is_utc then codes "Z" else zone.now) }
+{
+    let mut bytes = [0u8; LONGEST];
+    let len = put_at_start::<Brand>(&mut bytes, head, nanosecond, decimals, zone, is_utc);
+    StackStr::new(bytes, len)
+}
+
+/// Puts it at the start of a buffer that held these bytes before.
+#[inline(always)]
+fn put_at_start<B: Before>(
+    room: &mut [u8],
+    head: &[u8; LENGTH],
+    nanosecond: Nanoseconds,
+    decimals: Decimals,
+    zone: &[u8; 6],
+    is_utc: bool,
+) -> usize
+    requires before { room.old ≡ B.before }
+    requires head { length head.now ≡ LENGTH }
+    requires zone { length zone.now ≡ 6 }
+    requires room { length room.old ≡ LONGEST }
+    ensures fits { result ≤ LONGEST }
+    ensures text { take result room.new ≡ head.now
+        ++ decimals_of nanosecond 1_000_000_000 (digits_of decimals)
+        ++ (if is_utc then codes "Z" else zone.now) }
+    ensures len { length room.new ≡ LONGEST }
+{
+    let mut sink = RoomSink::<B>::new(room);
+    put_pieces(&mut sink, head, nanosecond, decimals, zone, is_utc);
+    sink.len()
+}
+
+/// Puts the text up to the decimals, these and the offset.
+#[inline(always)]
+fn put_pieces<S: Sink>(
+    output: &mut S,
+    head: &[u8; LENGTH],
+    nanosecond: Nanoseconds,
+    decimals: Decimals,
+    zone: &[u8; 6],
+    is_utc: bool,
+)
+    requires head { length head.now ≡ LENGTH }
+    requires zone { length zone.now ≡ 6 }
+    requires room { Fits (S.buffer output.old) LONGEST }
+    ensures writes { Puts (S.buffer output.old) (S.buffer output.new)
+        (LENGTH + digits_of decimals + zone_length is_utc)
+        (head.now ++ decimals_of nanosecond 1_000_000_000 (digits_of decimals)
+        ++ (if is_utc then codes "Z" else zone.now)) }
+{
+    let _head = write_bytes(output, head);
+    put_decimals(output, nanosecond, decimals);
+    let _zone = write_bytes(output, zone_text(zone, is_utc));
 }

@@ -28,6 +28,16 @@ pub(crate) fn zone_of(offset: UtcOffset) -> [u8; 6]
     [sign, h, o, b':', m, i]
 }
 
+/// The text of an offset: `Z` for UTC, else these bytes.
+#[inline(always)]
+pub(crate) fn zone_text(zone: &[u8; 6], is_utc: bool) -> &[u8]
+    requires six { length zone.now ≡ 6 }
+    ensures text { result.now ≡ (if is_utc then codes "Z" else zone.now) }
+    ensures length { length result.now ≡ zone_length is_utc }
+{
+    if is_utc { b"Z" } else { zone }
+}
+
 /// Appends `Z` for UTC, else these bytes.
 #[inline(always)]
 pub(crate) fn put_zone(output: &mut Vec<u8>, zone: &[u8; 6], is_utc: bool)

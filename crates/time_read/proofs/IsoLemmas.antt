@@ -22,7 +22,7 @@ use Rattle.time_known.proofs.StampLemmas.{default_is_whole, stamps_are_completed
 use Rattle.time_known.proofs.iso8601.WholeLemmas.{iso8601_is_written}
 
 -- a date of four digits of the year
-date_as : (d : OrdinalDate) (text : List ℕ) → CanonicalIsoDate default_choices d text → FullDate d text
+pub date_as : (d : OrdinalDate) (text : List ℕ) → CanonicalIsoDate default_choices d text → FullDate d text
 date_as d text f = record {
   year = f.year;
   month = f.month;

@@ -1,10 +1,10 @@
 -- Numbers of one, two and four digits as parts of a text.
-use Rattle.std.proofs.Common.{◌≡◌, ◌≢◌, append_assoc, ℕ, ◌+◌, ◌-◌, ◌*◌, ◌/◌, ◌<◌, ◌≤◌, List, [], ◌∷◌, ◌++◌, length, get_or, take, drop}
+use Rattle.std.proofs.Common.{◌≡◌, ℕ, ◌+◌, ◌-◌, ◌*◌, ◌/◌, ◌<◌, ◌≤◌, List, [], ◌∷◌, ◌++◌, length, get_or, take, drop}
 use Rattle.std.proofs.Common.{refl, sym, ap, ap₂, subst, ◌∙◌, arith, inl}
 use Rattle.std.specs.Int.{IsInRange}
 use Rattle.std.specs.Char.{digit_value}
 use Rattle.std.specs.Str.Parse.{digits_value}
-use Rattle.std.proofs.lemmas.List.{drop_at, take_all}
+use Rattle.std.proofs.lemmas.List.{take_all}
 use Rattle.std.proofs.lemmas.Str.{digit_value_digit}
 use Rattle.std.proofs.lemmas.Str.Parse.{digit_from_value}
 use Rattle.time_known.specs.Rules.{Rule, Digits, Literal, ◌▹◌}
@@ -250,30 +250,6 @@ front_byte b h p = record {
   is = record { front = b ∷ []; rest = p.front; whole = refl; first = refl; second = p.is };
 }
 
-two_behind : (b least greatest n : ℕ) {text rest : List ℕ} (p : Front (TwoAfter b least greatest n) text rest)
-    → text ≡ b ∷ (p.is.rest ++ rest)
-two_behind b least greatest n {text} {rest} p =
-    p.whole ∙ ap (λ t. t ++ rest) (p.is.whole ∙ ap (λ t. t ++ p.is.rest) p.is.first)
-
--- the byte is not there
-pub no_byte : (b least greatest : ℕ) (text : List ℕ) → ((rest : List ℕ) → text ≢ b ∷ rest) → NoFront (TwoAfter b least greatest) text
-no_byte b least greatest text none n rest p = none (p.is.rest ++ rest) (two_behind b least greatest n p)
-
--- the number is not there behind the byte
-pub no_two_after : (b least greatest : ℕ) (text rest : List ℕ) → text ≡ b ∷ rest → NoFront (Two least greatest) rest
-    → NoFront (TwoAfter b least greatest) text
-no_two_after b least greatest text rest e none n last p =
-    none n last (record {
-      front = p.is.rest;
-      whole = ap (drop 1) (sym e ∙ two_behind b least greatest n p);
-      is = p.is.second;
-    })
-
--- what follows the byte does not begin with the number
-pub no_two_behind : (b least greatest : ℕ) (text rest : List ℕ) → NoFront (TwoAfter b least greatest) text → text ≡ b ∷ rest
-    → NoFront (Two least greatest) rest
-no_two_behind b least greatest text rest none e n last p = none n last (front_byte b e p)
-
 -- ---- a letter
 
 pub reads_letter : (p : Profile) (l : ℕ) → Reads 1 (TheLetter p l)
@@ -292,11 +268,6 @@ letter_at p l (b ∷ bs) some h = record {
   whole = ap (λ t. b ∷ t) (sym (take_all (length (b ∷ bs) - 1) bs (omega arith)));
   is = record { byte = b; whole = refl; is = h };
 }
-
--- the letter is not there
-pub no_letter : (p : Profile) (l : ℕ) (text : List ℕ) → ((b : ℕ) (after : List ℕ) → text ≡ b ∷ after → ¬ IsLetter p l b)
-    → NoFront (TheLetter p l) text
-no_letter p l text none u rest f = none f.is.byte rest (f.whole ∙ ap (λ t. t ++ rest) f.is.whole) f.is.is
 
 pub begins_letter : (p : Profile) (l : ℕ) → Begins (SpellsSome (TheLetter p l)) []
 begins_letter p l = record {
@@ -372,7 +343,7 @@ to_four p text s =
     subst (λ m. Digits 4 m text) n (subst (Digits 4 _) (sym whole)
     (four_of d.tens d.units e.tens e.units d.tens_fit d.units_fit e.tens_fit e.units_fit))
 
-four_to : (n : ℕ) (text : List ℕ) → Digits 4 n text → SpellsSome TwoTwos text
+pub four_to : (n : ℕ) (text : List ℕ) → Digits 4 n text → SpellsSome TwoTwos text
 four_to n [] d = absurd (omega (arith, d.count))
 four_to n (a ∷ []) d = absurd (omega (arith, d.count))
 four_to n (a ∷ b ∷ []) d = absurd (omega (arith, d.count))
@@ -390,25 +361,6 @@ four_to n (a ∷ b ∷ c ∷ x ∷ []) d =
           let t = two_is _ (u ∷ v ∷ []) d in
           (digits_value 10 (u ∷ v ∷ []), (d, (omega arith, omega (arith, t.value, t.tens_fit, t.units_fit))))
 four_to n (a ∷ b ∷ c ∷ x ∷ y ∷ ys) d = absurd (omega (arith, d.count))
-
--- the first two digits are not there, or the last two
-pub no_century : (text : List ℕ) → NoFront (Two 0 99) text → NoFront (Digits 4) text
-no_century text none n rest p =
-    let s = (four_to n p.front p.is).spelled in
-    none (four_to n p.front p.is).value.0 (s.rest ++ rest) (record {
-      front = s.front;
-      whole = p.whole ∙ ap (λ t. t ++ rest) s.whole ∙ append_assoc s.front s.rest rest;
-      is = s.first;
-    })
-
-pub no_year : (century : ℕ) (text behind : List ℕ) → Front (Two 0 99 century) text behind → NoFront (Two 0 99) behind
-    → NoFront (Digits 4) text
-no_year century text behind q none n rest p =
-    let s = (four_to n p.front p.is).spelled in
-    let whole : text ≡ s.front ++ (s.rest ++ rest) = p.whole ∙ ap (λ t. t ++ rest) s.whole ∙ append_assoc s.front s.rest rest in
-    let same : behind ≡ s.rest ++ rest =
-    sym (drop_at q.front behind 2 q.is.0.count) ∙ ap (drop 2) (sym q.whole ∙ whole) ∙ drop_at s.front (s.rest ++ rest) 2 s.first.0.count in
-    none (four_to n p.front p.is).value.1 rest (record { front = s.rest; whole = same; is = s.second })
 
 four_goes_on : CanGoOn 2 (Two 0 99) (λ _. Two 0 99)
 four_goes_on = record { width = (reads_two 0 99).width; on = λ n front d. begins_two 0 99 (omega arith, omega arith) }

@@ -3,7 +3,7 @@ use Rattle.std.proofs.Common.{◌≡◌, ◌≢◌, ℕ, zero, suc, ◌≤◌, L
 use Rattle.std.proofs.Common.{refl, sym, ap, ap₂, subst, ◌∙◌, arith, inl, inr, Bool, true, false}
 use Rattle.std.specs.Prelude.{codes, if◌then◌else◌, ◌==◌}
 use Rattle.std.proofs.lemmas.Bool.Decides.{nat_tests}
-use Rattle.std.proofs.lemmas.List.{append-nil, drop_at}
+use Rattle.std.proofs.lemmas.List.{append-nil}
 use Rattle.time_below.specs.Offset.{signed_offset}
 use Rattle.time_digits.specs.Digits.{fixed}
 use Rattle.time_known.specs.Laws.{OneValue}
@@ -15,12 +15,12 @@ use Rattle.time_known.proofs.Rules.Texts.{HasWidth, reads_digits, one_then, one_
 use Rattle.time_read.specs.Fault.{SpellsSome, Begins, IsFirstFault, IsLetter}
 use Rattle.time_read.specs.Lenient.{MeansOffset, IsOffsetFor}
 use Rattle.time_read.specs.Profiles.{EndOffset, RestOfOffset}
-use Rattle.time_read.specs.Front.{Front, FieldFault, NoFront, TextFault}
+use Rattle.time_read.specs.Front.{Front, FieldFault, TextFault}
 use Rattle.time_read.specs.Shapes.{Two, TwoAfter, HoursAndMinutes, is_some, least_minute, sign_byte, IsTrailing}
 use Rattle.time_read.specs.declared.fault.Fault.{Fault}
 use Rattle.time_read.specs.declared.fault.Profile.{Profile}
 use Rattle.time_read.specs.declared.fault.Profile.TheVariants as profile
-use Rattle.time_read.proofs.Fields.{CanGoOn, begins_first, field_first, field_after, front_then, one_front, text_as, text_of_field}
+use Rattle.time_read.proofs.Fields.{CanGoOn, begins_first, field_first, field_after, front_then, text_as, text_of_field}
 use Rattle.time_read.proofs.Numbers.{reads_two, reads_two_after, begins_two, begins_two_after}
 
 -- ---- the end of a text
@@ -391,27 +391,6 @@ offset_end p b q text rest e h t = as_offset p b (text_end (HoursAndMinutes (is_
 pub offset_is : (p : Profile) (b : Bool) (q : ℕ × ℕ) (text rest : List ℕ) → Front (HoursAndMinutes (is_some p b) q) text rest
     → rest ≡ [] → EndOffset p (signed_offset b q.0 q.1) (sign_byte b ∷ text)
 offset_is p b q text rest h e = offset_by p b q text (text_whole h e)
-
--- an offset whose hour is not there, and one whose minute is not
-pub no_hour : (p : Profile) (b : Bool) (text : List ℕ) → NoFront (Two 0 23) text → ¬ RestOfOffset p (sign_byte b) text
-no_hour p b text none s =
-    let h = by_offset p b s.value text s.spelled in
-    none h.value.0 h.spelled.rest (record { front = h.spelled.front; whole = h.spelled.whole; is = h.spelled.first })
-
-pub no_minute : (p : Profile) (b : Bool) (hour : ℕ) (text rest : List ℕ) → Front (Two 0 23 hour) text rest
-    → NoFront (TwoAfter 58 (least_minute (is_some p b) hour) 59) rest → ¬ RestOfOffset p (sign_byte b) text
-no_minute p b hour text rest q none s =
-    let h = by_offset p b s.value text s.spelled in
-    let r : Front (Two 0 23 h.value.0) text h.spelled.rest =
-    record { front = h.spelled.front; whole = h.spelled.whole; is = h.spelled.first } in
-    let same : h.value.0 ≡ hour = one_front (reads_two 0 23) h.value.0 hour r q in
-    let after : rest ≡ h.spelled.rest =
-    sym (drop_at q.front rest 2 q.is.0.count) ∙ ap (drop 2) (sym q.whole ∙ r.whole) ∙ drop_at r.front h.spelled.rest 2 r.is.0.count in
-    none h.value.1 [] (record {
-      front = h.spelled.rest;
-      whole = after ∙ sym (append-nil h.spelled.rest);
-      is = subst (λ (k : ℕ). TwoAfter 58 (least_minute (is_some p b) k) 59 h.value.1 h.spelled.rest) same h.spelled.second;
-    })
 
 -- an offset goes on after its sign
 pub begins_rest : (p : Profile) (b : Bool) → Begins (SpellsSome (EndOffset p)) (sign_byte b ∷ [])

@@ -36,7 +36,7 @@ pub digits_join : (a b : List ℕ) → AllDigits 10 a → AllDigits 10 b → All
 digits_join [] b h k = k
 digits_join (c ∷ cs) b h k = (h.0, digits_join cs b h.1 k)
 
-zeros_are_digits : (n : ℕ) → AllDigits 10 (replicate n 48)
+pub zeros_are_digits : (n : ℕ) → AllDigits 10 (replicate n 48)
 zeros_are_digits zero = tt
 zeros_are_digits (suc n) = (omega arith, zeros_are_digits n)
 
@@ -522,12 +522,6 @@ tail_after p {text} {n} {rest} {after} first e a h lead f =
       };
       none = λ s. f.none (tail_cut p n a.front first after a.is lead (subst (SpellsSome (Tail p)) whole s));
     }
-
--- nothing that begins the rest goes on as an offset
-pub no_rest : (p : Profile) {text : List ℕ} {n : ℕ} {rest after : List ℕ} {x : Expected} (first : ℕ) → AtFraction p text n rest x
-    → rest ≡ first ∷ after → BeginsOffset p first → ¬ RestOfOffset p first after → ¬ SpellsSome (Tail p) text
-no_rest p {text} {n} {rest} {after} first a h lead none s =
-    none (tail_cut p n a.front first after a.is lead (subst (SpellsSome (Tail p)) (a.whole ∙ ap (λ t. a.front ++ t) h) s))
 
 pub tail_is : (p : Profile) {text : List ℕ} {n : ℕ} {rest after : List ℕ} {x : Expected} (first : ℕ) (o : Offset) → AtFraction p text n rest x
     → rest ≡ first ∷ after → EndOffset p o (first ∷ after) → Tail p (n, o) text

@@ -1,25 +1,25 @@
 -- Whole texts of RFC 3339.
-use Rattle.std.proofs.Common.{◌≡◌, ℕ, ◌-◌, ◌≤◌, List, [], ◌∷◌, length, length-append, take, drop}
+use Rattle.std.proofs.Common.{◌≡◌, ℕ, ◌-◌, ◌≤◌, List, [], ◌∷◌, ◌++◌, length, length-append, take, drop}
+use Rattle.std.specs.Prelude.{◌↔◌, IsTrue}
 use Rattle.std.proofs.Common.{refl, sym, ap, subst, ◌∙◌, arith, inl, inr}
 use Rattle.std.proofs.lemmas.List.{take_at, drop_at}
 use Rattle.time_known.specs.Rfc3339Grammar.{FullDate, WholeTime}
 use Rattle.time_known.specs.Rules.{Rule, Literal, ◌▹◌}
 use Rattle.time_known.specs.Values.{OrdinalDate, OffsetDateAndTime, Offset}
-use Rattle.time_read.specs.Fault.{SpellsSome, IsFirstFault, IsLetter}
+use Rattle.time_read.specs.Fault.{SpellsSome, IsFirstFault, IsLetter, IsSecond60}
 use Rattle.time_read.specs.Front.{Front, FieldFault, TextFault}
 use Rattle.time_read.specs.Lenient.{EitherT}
 use Rattle.time_read.specs.Profiles.{ReadsAs, Tail, TheLetter}
-use Rattle.time_read.specs.Shapes.{Clock, Seq, OfClock}
+use Rattle.time_read.specs.Refused.{IsRefused}
+use Rattle.time_read.specs.Shapes.{Clock, OfClock, OneDigit, Seq}
 use Rattle.time_read.specs.declared.fault.Profile.{Profile}
 use Rattle.time_read.specs.declared.fault.Profile.TheVariants as profile
 use Rattle.time_read.specs.declared.fault.Fault.{Fault}
+use Rattle.time_read.specs.declared.fault.NotRead.{NotRead}
 use Rattle.time_read.proofs.Fields.{CanGoOn, begins_first, text_as, text_first, text_after}
-use Rattle.time_read.proofs.Numbers.{reads_letter, begins_letter}
-use Rattle.time_read.proofs.PartLemmas.{reads_full_date, reads_clock, begins_clock}
-use Rattle.time_read.proofs.Tails.{begins_any_tail, offset_leads}
-use Rattle.time_known.proofs.Rules.Parts.{width_clock}
-use Rattle.time_known.proofs.Rules.Texts.{length-concatenation}
-use Rattle.std.specs.Prelude.{codes}
+use Rattle.time_read.proofs.Numbers.{begins_letter, four_first, reads_letter, two_first}
+use Rattle.time_read.proofs.PartLemmas.{begins_clock, date_first, reads_clock, reads_full_date}
+use Rattle.time_read.proofs.Tails.{begins_any_tail}
 
 -- a time of day and an offset, and these after a letter
 abbrev ClockAndTail : Profile → Clock × (ℕ × Offset) → Rule
@@ -195,6 +195,21 @@ whole_is p d c n o text rest last end h l q t =
       };
     })
 
+-- the first digit of the year
+pub no_digit : (p : Profile) (text : List ℕ) (e : Fault) → FieldFault 1 (SpellsSome (OneDigit 0 9)) text e
+    → TextFault (SpellsSome (ReadsAs p)) text e
+no_digit p text e f = whole_date p text e (date_first text e (four_first text e (two_first 0 99 text e (omega arith, omega arith) f)))
+
+-- the date is in front
+pub date_there : (d : OrdinalDate) (front rest : List ℕ) → FullDate d front → Front (FullDate d) (front ++ rest) rest
+date_there d front rest h = record { front = front; whole = refl; is = h }
+
+-- ---- places
+
+-- no more bytes are left than there are
+pub left_within : {P : Rule} (text : List ℕ) (e : Fault) → TextFault P text e → e.left ≤ length text
+left_within text e f = omega (arith, ap length f.whole, length-append f.right f.rest, f.left)
+
 -- the place by the bytes that are left
 pub place_is : (P : Rule) (text : List ℕ) (e : Fault) (at : ℕ) → at ≡ length text - e.left → TextFault P text e
     → IsFirstFault P (take at text) (drop at text) e.expected
@@ -205,21 +220,12 @@ place_is P text e at h f =
     subst (λ (t : List ℕ). IsFirstFault P t (drop at text) e.expected) right
     (subst (λ (t : List ℕ). IsFirstFault P f.right t e.expected) rest f.first)
 
--- no text is shorter
-pub shortest : (p : Profile) (v : OffsetDateAndTime) (text : List ℕ) → ReadsAs p v text → 20 ≤ length text
-shortest p v text s =
-    let d = in_parts p v text s in
-    let l = d.second in
-    let c = l.second in
-    let t = c.second in
-    omega (
-      arith,
-      length-concatenation d,
-      length-concatenation l,
-      length-concatenation c,
-      length-concatenation t,
-      (reads_full_date.width v.date).width d.front d.first,
-      ((reads_letter p 84).width tt).width l.front (to_letter p l.front l.first),
-      (width_clock (codes ":") v.time).width c.front c.first,
-      ap length (offset_leads p v.offset t.rest t.second).is,
-    )
+pub is_refused : {V : Type 0} (Spells : V → Rule) (seconds : ℕ) (text : List ℕ) (e : Fault) (place : NotRead)
+    → place.at ≡ length text - e.left → place.expected ≡ e.expected → (IsTrue place.is_second_60 ↔ IsSecond60 seconds place.at text)
+    → TextFault (SpellsSome Spells) text e → IsRefused Spells seconds text place
+is_refused Spells seconds text e place at expected second_60 f = record {
+  refused = λ v s. f.none (record { value = v; spelled = s });
+  first = rw expected (place_is (SpellsSome Spells) text e place.at at f);
+  within = omega (arith, at);
+  second_60 = second_60;
+}

@@ -1,7 +1,11 @@
 -- The first place at which a text is none of a rule.
-use Rattle.std.specs.Prelude.{◌≡◌, ◌↔◌, ℕ, ◌+◌, ◌⊎◌, List, [], ◌∷◌, ◌++◌, slice_get, Some}
+use Rattle.std.specs.Prelude.{◌≡◌, ◌↔◌, ℕ, ◌+◌, ◌%◌, ◌⊎◌, List, [], ◌∷◌, ◌++◌, slice_get, Some}
+use Rattle.std.specs.Prelude.{slice_index_or, take}
 use Rattle.std.specs.Int.{IsInRange}
+use Rattle.time_below.specs.Weekday.{days_from_monday}
+use Rattle.time_known.specs.Rfc2822Grammar.{day_names}
 use Rattle.time_known.specs.Rules.{Rule}
+use Rattle.time_read.specs.Names.{NameOf}
 use Rattle.time_read.specs.declared.fault.Expected.{Expected}
 use Rattle.time_read.specs.declared.fault.Expected.TheVariants as expected
 use Rattle.time_read.specs.declared.fault.Profile.{Profile}
@@ -16,16 +20,6 @@ IsLetter profile.Lenient letter b = (b ≡ letter) ⊎ (b ≡ letter + 32)
 abbrev pub BeginsOffset : Profile → ℕ → Type 0
 BeginsOffset p b = IsLetter p 90 b ⊎ ((b ≡ 43) ⊎ (b ≡ 45))
 
--- a byte is one of those that could have come
-abbrev pub Allows : Expected → ℕ → Type 0
-Allows (expected.Digit first last) b = IsInRange (48 + first) (48 + last) b
-Allows (expected.Byte wanted) b = b ≡ wanted
-Allows (expected.Letter letter p) b = IsLetter p letter b
-Allows (expected.Offset p) b = BeginsOffset p b
-Allows (expected.PointOrOffset p) b = (b ≡ 46) ⊎ BeginsOffset p b
-Allows (expected.DigitOrOffset p) b = IsInRange 48 57 b ⊎ BeginsOffset p b
-Allows expected.End b = ⊥
-
 -- a text spells some value
 pub record SpellsSome {V : Type 0} (Spells : V → Rule) (text : List ℕ) : Type 0 where
   pub value : V
@@ -36,6 +30,23 @@ pub record Begins (P : Rule) (front : List ℕ) : Type 0 where
   pub more : List ℕ
   pub whole : P (front ++ more)
 
+-- a byte is one of those that could have come
+abbrev pub Allows : Expected → ℕ → Type 0
+Allows (expected.Digit first last) b = IsInRange (48 + first) (48 + last) b
+Allows (expected.Byte wanted) b = b ≡ wanted
+Allows (expected.Letter letter p) b = IsLetter p letter b
+Allows (expected.Offset p) b = BeginsOffset p b
+Allows (expected.PointOrOffset p) b = (b ≡ 46) ⊎ BeginsOffset p b
+Allows (expected.DigitOrOffset p) b = IsInRange 48 57 b ⊎ BeginsOffset p b
+Allows expected.End b = ⊥
+Allows expected.Sign b = (b ≡ 43) ⊎ (b ≡ 45)
+Allows (expected.EachFourth first last) b =
+    IsInRange (48 + first) (48 + last) b × (b % 4 ≡ first % 4)
+Allows (expected.Name names count first second) b =
+    Begins (SpellsSome (NameOf names)) (take count (first ∷ second ∷ []) ++ b ∷ [])
+Allows (expected.Weekday weekday) b =
+    slice_index_or (slice_index_or day_names (days_from_monday weekday) []) 0 0 ≡ b
+
 -- The right bytes begin a text of the rule. With one more they do so exactly if it is expected, and none
 -- that is expected follows.
 pub record IsFirstFault (P : Rule) (right rest : List ℕ) (e : Expected) : Type 0 where
@@ -43,8 +54,8 @@ pub record IsFirstFault (P : Rule) (right rest : List ℕ) (e : Expected) : Type
   pub expected : (b : ℕ) → Begins P (right ++ b ∷ []) ↔ Allows e b
   pub found : (b : ℕ) (after : List ℕ) → rest ≡ b ∷ after → ¬ Allows e b
 
--- second 60 stands there, at its place in a text
-pub record IsSecond60 (at : ℕ) (text : List ℕ) : Type 0 where
-  pub place : at ≡ 17
-  pub tens : slice_get text 17 ≡ Some 54
-  pub units : slice_get text 18 ≡ Some 48
+-- second 60 stands there, in a text whose seconds stand at this place
+pub record IsSecond60 (seconds at : ℕ) (text : List ℕ) : Type 0 where
+  pub place : at ≡ seconds
+  pub tens : slice_get text seconds ≡ Some 54
+  pub units : slice_get text (seconds + 1) ≡ Some 48

@@ -1,7 +1,11 @@
 pub mod Fault
 pub mod Front
 pub mod Kept
+pub mod Keys
 pub mod Lenient
+pub mod Mail
+pub mod Names
 pub mod Profiles
+pub mod Refused
 pub mod Shapes
-pub mod Stops
+pub mod Stamp

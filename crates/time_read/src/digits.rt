@@ -160,32 +160,6 @@ pub(crate) fn two_within(text: &[u8], least: u8, greatest: u8) -> Option<(u8, &[
     Some((number, rest))
 }
 
-// Reads this byte, and then two digits of a number from the least to the greatest, or nothing.
-#[inline(always)]
-pub(crate) fn two_after(text: &[u8], before: u8, least: u8, greatest: u8) -> Option<(u8, &[u8])>
-    requires { greatest < 100 }
-    ensures read { IfSome result (λ r.
-        Front (TwoAfter before least greatest r.0) text.now r.1.now) }
-    ensures range { IfSome result (λ r. r.0 ≤ greatest) }
-    ensures none { IfNone result (NoFront (TwoAfter before least greatest) text.now) }
-{
-    let rest = after(text, before)?;
-    let (number, rest) = two_within(rest, least, greatest)?;
-    Some((number, rest))
-}
-
-// Reads four digits, or nothing.
-#[inline(always)]
-pub(crate) fn four(text: &[u8]) -> Option<(u16, &[u8])>
-    ensures read { IfSome result (λ r. Front (Digits 4 r.0) text.now r.1.now) }
-    ensures range { IfSome result (λ r. r.0 < 10_000) }
-    ensures none { IfNone result (NoFront (Digits 4) text.now) }
-{
-    let (high, rest) = two(text)?;
-    let (low, rest) = two(rest)?;
-    Some((100 * high as u16 + low as u16, rest))
-}
-
 // Reads two digits of a number from the least to the greatest, one after the other.
 #[inline(always)]
 fn digit_by_digit(text: &[u8], least: u8, greatest: u8) -> Result<(u8, &[u8]), Fault>
@@ -244,20 +218,6 @@ pub(crate) fn pair_after(
     let rest = byte(text, before)?;
     let (number, rest) = pair(rest, least, greatest)?;
     Ok((number, rest))
-}
-
-// The fault of a text that does not begin with this byte and two digits of such a number.
-#[inline(always)]
-pub(crate) fn pair_after_fault(text: &[u8], before: u8, least: u8, greatest: u8) -> Fault
-    requires order { least ≤ greatest }
-    requires pairs { greatest < 100 }
-    requires none { NoFront (TwoAfter before least greatest) text.now }
-    ensures { FieldFault 3 (SpellsSome (TwoAfter before least greatest)) text.now result }
-{
-    match byte(text, before) {
-        Ok(rest) => pair_fault(rest, least, greatest),
-        Err(fault) => fault,
-    }
 }
 
 // Reads four digits.

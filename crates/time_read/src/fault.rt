@@ -1,6 +1,7 @@
 //! Where a text could not be read.
 use std::fmt;
 use thiserror::Error;
+use time_below::Weekday;
 
 /// Which texts are read.
 #[derive(Debug, Clone, Copy, PartialEq, Eq)]
@@ -9,6 +10,15 @@ pub enum Profile {
     Strict,
     /// These, and the texts of other writers that mean one of them.
     Lenient,
+}
+
+/// Which names may stand in a text, of three letters each.
+#[derive(Debug, Clone, Copy, PartialEq, Eq)]
+pub enum Names {
+    /// Those of the days of the week.
+    Weekday,
+    /// Those of the months that have this day in some year.
+    MonthWith(u8),
 }
 
 /// What could have come next in a text.
@@ -28,6 +38,16 @@ pub enum Expected {
     DigitOrOffset(Profile),
     /// Nothing: the text is complete.
     End,
+    /// `+` or `-`.
+    Sign,
+    /// A digit from the first to the last, by their numbers 0 to 9, in steps of four: the last
+    /// digit of a leap year.
+    EachFourth(u8, u8),
+    /// The next letter of one of these names. The first number says how many of its letters are
+    /// right, 0 to 2. The other two are these letters, and 0 where there are fewer.
+    Name(Names, u8, u8, u8),
+    /// The name of this weekday, which is that of the date. The name of another one stands there.
+    Weekday(Weekday),
 }
 
 /// A text is none of its format: the first place at which it is none.
@@ -59,6 +79,27 @@ fn letters(letter: u8, profile: Profile) -> &'static str {
     }
 }
 
+// Names, in words.
+fn names_in_words(names: Names) -> &'static str {
+    match names {
+        Names::Weekday => "the name of a weekday",
+        Names::MonthWith(_) => "the name of a month that has this day",
+    }
+}
+
+// The name of a weekday, in words.
+fn weekday_in_words(weekday: Weekday) -> &'static str {
+    match weekday {
+        Weekday::Monday => "`Mon`",
+        Weekday::Tuesday => "`Tue`",
+        Weekday::Wednesday => "`Wed`",
+        Weekday::Thursday => "`Thu`",
+        Weekday::Friday => "`Fri`",
+        Weekday::Saturday => "`Sat`",
+        Weekday::Sunday => "`Sun`",
+    }
+}
+
 impl fmt::Display for Expected {
     fn fmt<W: fmt::Write>(&self, f: &mut fmt::Formatter<W>) -> fmt::Result {
         match *self {
@@ -74,6 +115,18 @@ impl fmt::Display for Expected {
                 write!(f, "a digit, {}, `+` or `-`", letters(b'Z', profile))
             }
             Expected::End => f.write_str("the end"),
+            Expected::Sign => f.write_str("`+` or `-`"),
+            Expected::EachFourth(first, last) => {
+                write!(
+                    f,
+                    "a digit from {first} to {last} in steps of four, of a leap year"
+                )
+            }
+            Expected::Name(names, 0, _, _) => f.write_str(names_in_words(names)),
+            Expected::Name(names, _, _, _) => write!(f, "the rest of {}", names_in_words(names)),
+            Expected::Weekday(weekday) => {
+                write!(f, "{}, the weekday of this date", weekday_in_words(weekday))
+            }
         }
     }
 }

@@ -1,4 +1,4 @@
-//! Texts of RFC 3339, read back. No call allocates.
+//! Texts of RFC 3339 and RFC 2822, and stamps, read back. No call allocates.
 #![tactic(auto)]
 
 mod days;
@@ -6,12 +6,18 @@ mod decimals;
 mod digits;
 mod fault;
 pub mod laws;
+mod letters;
+mod mail;
+mod names;
 mod offset;
+mod parts;
 mod places;
 mod reader;
+pub mod rfc2822;
 pub mod rfc3339;
+pub mod stamp;
 mod tail;
 mod value;
 
-pub use fault::{Expected, NotRead, Profile};
+pub use fault::{Expected, Names, NotRead, Profile};
 pub use reader::LenientReader;

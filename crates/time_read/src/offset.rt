@@ -1,18 +1,18 @@
 //! Offsets at the end of a text.
-ghost use Rattle.std.specs.Prelude.{◌≡◌, ◌<◌, ◌≤◌, ◌∷◌, ℕ, [], IfOk, IfErr, IfSome, IfNone, OnOk, pos};
+ghost use Rattle.std.specs.Prelude.{◌≡◌, ◌<◌, ◌≤◌, ◌∷◌, ℕ, [], IfOk, IfErr, OnOk, pos};
 ghost use Rattle.time_below.specs.Offset.{signed_offset};
 ghost use Rattle.time_read.specs.Fault.{IsLetter, SpellsSome};
 ghost use Rattle.time_read.specs.Front.{Front, FieldFault, TextFault};
 ghost use Rattle.time_read.specs.Profiles.{EndOffset, RestOfOffset};
 ghost use Rattle.time_read.specs.Shapes.{HoursAndMinutes, IsTrailing, is_some, least_minute, sign_byte};
 
-use crate::digits::{pair, pair_after, two_after, two_within};
+use crate::digits::{pair, pair_after};
 use crate::fault::{Expected, Fault, Profile};
 use time_below::UtcOffset;
 
 // Reads the end of a text.
 #[inline(always)]
-fn end(text: &[u8]) -> Result<(), Fault>
+pub(crate) fn end(text: &[u8]) -> Result<(), Fault>
     ensures read { OnOk result (text.now ≡ []) }
     ensures fault { IfErr result (λ e. IsTrailing text.now e) }
 {
@@ -28,8 +28,8 @@ fn end(text: &[u8]) -> Result<(), Fault>
 
 // The offset of hours and minutes with one sign.
 #[inline(always)]
-fn signed_offset(is_negative: bool, hour: u8, minute: u8) -> UtcOffset
-    requires hour { hour < 24 }
+pub(crate) fn signed_offset(is_negative: bool, hour: u8, minute: u8) -> UtcOffset
+    requires hour { hour < 26 }
     requires minute { minute < 60 }
     ensures { result ≡ signed_offset is_negative hour minute }
 {
@@ -53,7 +53,7 @@ fn is_some(profile: Profile, is_negative: bool) -> bool
 
 // The least minute of an offset that may not be zero, or may.
 #[inline(always)]
-fn least_minute(some: bool, hour: u8) -> u8
+pub(crate) fn least_minute(some: bool, hour: u8) -> u8
     ensures least { result ≡ least_minute some hour }
     ensures small { result ≤ 1 }
 {
@@ -99,19 +99,4 @@ pub(crate) fn rest_of_signed(
     let (hour, minute, rest) = hours_and_minutes(text, is_some(profile, is_negative))?;
     end(rest)?;
     Ok(signed_offset(is_negative, hour, minute))
-}
-
-// Reads what is left of an offset after its sign, or nothing.
-#[inline(always)]
-pub(crate) fn after_sign(text: &[u8], is_negative: bool, profile: Profile) -> Option<UtcOffset>
-    ensures read { IfSome result (λ o. EndOffset profile o (sign_byte is_negative ∷ text.now)) }
-    ensures none { IfNone result (¬ RestOfOffset profile (sign_byte is_negative) text.now) }
-{
-    let (hour, rest) = two_within(text, 0, 23)?;
-    let least = least_minute(is_some(profile, is_negative), hour);
-    let (minute, rest) = two_after(rest, b':', least, 59)?;
-    let Ok(_) = end(rest) else {
-        return None;
-    };
-    Some(signed_offset(is_negative, hour, minute))
 }

@@ -10,7 +10,7 @@ ghost use Rattle.time_read.specs.Lenient.{Rfc3339Means};
 use crate::fault::{NotRead, Profile};
 use crate::places::place_of;
 use crate::rfc3339::read_lenient;
-use crate::value::{SHORTEST, after_date, date};
+use crate::value::{after_date, date};
 use time_below::{Date, Month, OffsetDateTime};
 
 // The bytes of a date.
@@ -43,16 +43,15 @@ impl LenientReader {
             (take e.at text.now) (drop e.at text.now) e.expected) }
         ensures within { IfErr result (λ e. e.at ≤ length text.now) }
         ensures second_60 { IfErr result (λ e.
-            IsTrue e.is_second_60 ↔ IsSecond60 e.at text.now) }
+            IsTrue e.is_second_60 ↔ IsSecond60 17 e.at text.now) }
     {
-        if text.len() < SHORTEST || !self.keeps(text) {
+        if text.len() < LENGTH || !self.keeps(text) {
             return read_lenient(text);
         }
-        let field = match after_date(self.date, &text[LENGTH..], Profile::Lenient) {
-            Ok(value) => return Ok(value),
-            Err(field) => field,
-        };
-        Err(place_of(text, field, Profile::Lenient))
+        match after_date(self.date, &text[LENGTH..], Profile::Lenient) {
+            Ok(value) => Ok(value),
+            Err(fault) => Err(place_of(text, fault, Profile::Lenient)),
+        }
     }
 
     // Whether a text begins with a date, which then is the one that is kept.

@@ -1,35 +1,37 @@
 //! RFC 3339.
-ghost use Rattle.std.specs.Prelude.{◌≡◌, ◌<◌, ◌≤◌, ◌↔◌, IfOk, IfErr, IsTrue, drop, length, take};
+ghost use Rattle.std.specs.Prelude.{◌≡◌, ◌≤◌, ◌↔◌, IfOk, IfErr, IsTrue, drop, length, take};
 ghost use Rattle.time_below.specs.Moment.{OffsetDateAndTime};
 ghost use Rattle.time_known.specs.Rfc3339Grammar.{Rfc3339Spells};
 ghost use Rattle.time_read.specs.Fault.{IsFirstFault, IsSecond60, SpellsSome};
 ghost use Rattle.time_read.specs.Lenient.{Rfc3339Means};
 ghost use Rattle.time_read.specs.Profiles.{ReadsAs};
-ghost use Rattle.time_read.specs.Stops.{IsPlace};
+ghost use Rattle.time_read.specs.Refused.{IsRefused};
 ghost use Rattle.time_read.specs.declared.fault.Profile.TheVariants.{Lenient, Strict};
 
+use crate::digits::digit;
 use crate::fault::{NotRead, Profile};
-use crate::places::{place_in_short, place_of};
-use crate::value::{SHORTEST, value_of};
+use crate::places::{SECONDS, place_of};
+use crate::value::value_of;
 use time_below::OffsetDateTime;
 
-// The value of a text that is long enough, or the place at which it is refused.
+// The value of a text, or the place at which it is refused.
 #[inline(always)]
 fn value_or_place(text: &[u8], profile: Profile) -> Result<OffsetDateTime, NotRead>
     ensures read { IfOk result (λ v. ReadsAs profile v text.now) }
-    ensures place { IfErr result (λ e. IsPlace profile text.now e) }
+    ensures place { IfErr result (λ e. IsRefused (ReadsAs profile) SECONDS text.now e) }
 {
     match value_of(text, profile) {
         Ok(value) => Ok(value),
-        Err(field) => Err(place_of(text, field, profile)),
+        Err(fault) => Err(place_of(text, fault, profile)),
     }
 }
 
-// The same by the grammar alone. It is a call, so that a short text is refused before registers are saved.
+// The same by the grammar alone. It is a call, so that a text that does not begin with a digit is
+// refused before registers are saved.
 #[inline(never)]
 fn strictly(text: &[u8]) -> Result<OffsetDateTime, NotRead>
     ensures read { IfOk result (λ v. ReadsAs Strict v text.now) }
-    ensures place { IfErr result (λ e. IsPlace Strict text.now e) }
+    ensures place { IfErr result (λ e. IsRefused (ReadsAs Strict) SECONDS text.now e) }
 {
     value_or_place(text, Profile::Strict)
 }
@@ -38,7 +40,7 @@ fn strictly(text: &[u8]) -> Result<OffsetDateTime, NotRead>
 #[inline(never)]
 fn leniently(text: &[u8]) -> Result<OffsetDateTime, NotRead>
     ensures read { IfOk result (λ v. ReadsAs Lenient v text.now) }
-    ensures place { IfErr result (λ e. IsPlace Lenient text.now e) }
+    ensures place { IfErr result (λ e. IsRefused (ReadsAs Lenient) SECONDS text.now e) }
 {
     value_or_place(text, Profile::Lenient)
 }
@@ -52,12 +54,12 @@ pub fn read(text: &[u8]) -> Result<OffsetDateTime, NotRead>
     ensures place { IfErr result (λ e. IsFirstFault (SpellsSome Rfc3339Spells)
         (take e.at text.now) (drop e.at text.now) e.expected) }
     ensures within { IfErr result (λ e. e.at ≤ length text.now) }
-    ensures second_60 { IfErr result (λ e. IsTrue e.is_second_60 ↔ IsSecond60 e.at text.now) }
+    ensures second_60 { IfErr result (λ e. IsTrue e.is_second_60 ↔ IsSecond60 17 e.at text.now) }
 {
-    if text.len() < SHORTEST {
-        return Err(place_in_short(text, Profile::Strict));
+    match digit(text, 0, 9) {
+        Ok(_) => strictly(text),
+        Err(fault) => Err(place_of(text, fault, Profile::Strict)),
     }
-    strictly(text)
 }
 
 /// The value that a text of RFC 3339, section 5.6, means, also one with a small `t` or `z`, with more than
@@ -70,10 +72,10 @@ pub fn read_lenient(text: &[u8]) -> Result<OffsetDateTime, NotRead>
     ensures place { IfErr result (λ e. IsFirstFault (SpellsSome Rfc3339Means)
         (take e.at text.now) (drop e.at text.now) e.expected) }
     ensures within { IfErr result (λ e. e.at ≤ length text.now) }
-    ensures second_60 { IfErr result (λ e. IsTrue e.is_second_60 ↔ IsSecond60 e.at text.now) }
+    ensures second_60 { IfErr result (λ e. IsTrue e.is_second_60 ↔ IsSecond60 17 e.at text.now) }
 {
-    if text.len() < SHORTEST {
-        return Err(place_in_short(text, Profile::Lenient));
+    match digit(text, 0, 9) {
+        Ok(_) => leniently(text),
+        Err(fault) => Err(place_of(text, fault, Profile::Lenient)),
     }
-    leniently(text)
 }

@@ -1,5 +1,5 @@
 //! Fractions and offsets at the end of a text.
-ghost use Rattle.std.specs.Prelude.{◌≡◌, ◌<◌, ◌∷◌, ◌^◌, IfOk, IfErr, IfSome, IfNone};
+ghost use Rattle.std.specs.Prelude.{◌≡◌, ◌<◌, ◌∷◌, ◌^◌, IfOk, IfErr};
 ghost use Rattle.time_read.specs.Fault.{SpellsSome};
 ghost use Rattle.time_read.specs.Front.{TextFault};
 ghost use Rattle.time_read.specs.Profiles.{Tail};
@@ -8,7 +8,7 @@ ghost use Rattle.time_read.specs.Shapes.{AtFraction, Skipped, next_after};
 use crate::decimals::{after_digits, nanosecond};
 use crate::digits::{after, after_letter};
 use crate::fault::{Expected, Fault, Profile};
-use crate::offset::{after_sign, rest_of_signed, rest_of_utc};
+use crate::offset::{rest_of_signed, rest_of_utc};
 use time_below::UtcOffset;
 
 // Reads a fraction, if there is one, and an offset, to the end of the text.
@@ -35,33 +35,6 @@ pub(crate) fn fraction_and_offset(text: &[u8], profile: Profile) -> Result<(u32,
         left: rest.len(),
         expected,
     })
-}
-
-// Reads the same, or nothing: what is expected is not kept.
-#[inline(always)]
-pub(crate) fn tail(text: &[u8], profile: Profile) -> Option<(u32, UtcOffset)>
-    ensures read { IfSome result (λ r. Tail profile (r.0, r.1) text.now) }
-    ensures range { IfSome result (λ r. r.0 < 10 ^ 9) }
-    ensures none { IfNone result (¬ SpellsSome (Tail profile) text.now) }
-{
-    let Ok((nanosecond, rest, _)) = fraction(text, profile) else {
-        return None;
-    };
-    if let Some(rest) = after_letter(rest, b'Z', profile) {
-        let Ok(offset) = rest_of_utc(rest, profile) else {
-            return None;
-        };
-        return Some((nanosecond, offset));
-    }
-    if let Some(rest) = after(rest, b'+') {
-        let offset = after_sign(rest, false, profile)?;
-        return Some((nanosecond, offset));
-    }
-    if let Some(rest) = after(rest, b'-') {
-        let offset = after_sign(rest, true, profile)?;
-        return Some((nanosecond, offset));
-    }
-    None
 }
 
 // Reads a fraction, if there is one: its nanosecond, what is left, and what may come there.

@@ -13,8 +13,8 @@ use crate::weekday::Weekday;
 const FIRST_JULIAN_DAY: i32 = -363_521_074;
 
 impl Date {
-    /// The date of a Julian day number, -363,521,074 to 366,963,559. It is the number of the Julian day
-    /// that begins at noon of the date. Refuses any other number as `julian_day`.
+    /// The date of a Julian day number, -363,521,074 to 366,963,559. It is the number of the Julian
+    /// day that begins at noon of the date. Refuses any other number as `julian_day`.
     pub fn from_julian_day(julian_day: i32) -> Result<Date, ComponentRange>
         ensures accepted { IsOk result ↔ IsDayNumber (julian_day -ℤ pos 1_721_426) }
         ensures value { IfOk result (λ d. julian_day_of d ≡ julian_day) }
@@ -31,8 +31,8 @@ impl Date {
         Ok(Date::from_days(days as u32))
     }
 
-    /// The Julian day number, which is 2,451,545 on 2000-01-01. It is the number of the Julian day that
-    /// begins at noon of the date.
+    /// The Julian day number, which is 2,451,545 on 2000-01-01. It is the number of the Julian day
+    /// that begins at noon of the date.
     pub fn to_julian_day(self) -> i32
         ensures value { result ≡ julian_day_of self }
         ensures range { unsigned_abs result < 2 ^ 29 }
@@ -135,8 +135,8 @@ impl Date {
         self.before(self.days_from_last(weekday))
     }
 
-    /// The nth date with this weekday after the date, where the first has the number 1. There have to
-    /// be as many, until 999999-12-31.
+    /// The nth date with this weekday after the date, where the first has the number 1. There have
+    /// to be as many, until 999999-12-31.
     pub fn nth_next_occurrence(self, weekday: Weekday, n: u8) -> Date
         requires counted { 0 < n }
         requires range { IsDayNumber (day_number self
@@ -147,8 +147,8 @@ impl Date {
         self.after(self.days_to_next(weekday) + 7 * (n as u32 - 1))
     }
 
-    /// The nth date with this weekday before the date, where the last has the number 1. There have to
-    /// be as many, from -999999-01-01 on.
+    /// The nth date with this weekday before the date, where the last has the number 1. There have
+    /// to be as many, from -999999-01-01 on.
     pub fn nth_prev_occurrence(self, weekday: Weekday, n: u8) -> Date
         requires counted { 0 < n }
         requires range { IsDayNumber (day_number self

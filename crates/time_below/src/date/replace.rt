@@ -9,8 +9,8 @@ use crate::component_range::ComponentRange;
 use crate::month::Month;
 
 impl Date {
-    /// The date with this month and day in another year, -999,999 to 999,999. Refuses the year, then
-    /// 29 February of a common year as `day`.
+    /// The date with this month and day in another year, -999,999 to 999,999. Refuses the year,
+    /// then 29 February of a common year as `day`.
     pub fn replace_year(self, year: i32) -> Result<Date, ComponentRange>
         ensures accepted { IsOk result
             ↔ (IsYear year × IsDayOfMonth year (month_of self) (day_of self)) }
@@ -23,11 +23,13 @@ impl Date {
         Date::from_calendar_date(year, month, day)
     }
 
-    /// The date with this year and day in another month. Refuses a day that the month lacks, as `day`.
+    /// The date with this year and day in another month. Refuses a day that the month lacks, as
+    /// `day`.
     pub fn replace_month(self, month: Month) -> Result<Date, ComponentRange>
         ensures accepted { IsOk result
             ↔ IsDayOfMonth self.year (month_number month) (day_of self) }
-        ensures value { IfOk result (λ d. d ≡ date_of self.year (month_number month) (day_of self)) }
+        ensures value { IfOk result (λ d. d
+            ≡ date_of self.year (month_number month) (day_of self)) }
         ensures refusal { IfErr result (λ e. range_refusal e ≡ conditional_range (codes "day")) }
     {
         let (year, _, day) = self.to_calendar_date();
@@ -49,7 +51,8 @@ impl Date {
     pub fn replace_ordinal(self, ordinal: u16) -> Result<Date, ComponentRange>
         ensures accepted { IsOk result ↔ IsDate (record { year = self.year; ordinal = ordinal }) }
         ensures value { IfOk result (λ d. d ≡ record { year = self.year; ordinal = ordinal }) }
-        ensures refusal { IfErr result (λ e. range_refusal e ≡ conditional_range (codes "ordinal")) }
+        ensures refusal { IfErr result (λ e. range_refusal e
+            ≡ conditional_range (codes "ordinal")) }
     {
         Date::from_ordinal_date(self.year, ordinal)
     }

@@ -36,8 +36,8 @@ impl Date {
     }
 }
 
-/// Writes the year, the month and the day, as `2026-11-22`, by the width of the formatter, as a text.
-/// The year has at least four digits, and a sign before 0 and after 9999.
+/// Writes the year, the month and the day, as `2026-11-22`, by the width of the formatter, as a
+/// text. The year has at least four digits, and a sign before 0 and after 9999.
 impl fmt::Display for Date {
     ghost output = { λ date. Some (date_text date) };
 

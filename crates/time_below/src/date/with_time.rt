@@ -1,16 +1,19 @@
 //! Dates at a time of day.
-ghost use Rattle.std.specs.Prelude.{◌≡◌};
+ghost use Rattle.std.specs.Prelude.{◌≡◌, ◌↔◌, ◌*◌, IsOk, IfOk, IfErr, codes};
+ghost use Rattle.time_below.specs.ComponentRange.{range_refusal, unconditional_range};
+ghost use Rattle.time_below.specs.TimeOfDay.{IsTimeOfDay, first_outside, time_of};
 
 use super::Date;
+use crate::component_range::ComponentRange;
 use crate::plain_date_time::PlainDateTime;
 use crate::time::Time;
 
 impl Date {
     /// The first nanosecond of the date.
     pub fn midnight(self) -> PlainDateTime
-        ensures { result ≡ record { date = self; time = record { hour = 0; minute = 0; second = 0; nanosecond = 0 } } }
+        ensures { result ≡ record { date = self; time = time_of 0 0 0 0 } }
     {
-        PlainDateTime::new(self, Time::from_valid_hms_nano(0, 0, 0, 0))
+        self.with_time(Time::MIDNIGHT)
     }
 
     /// The date at this time of day.
@@ -18,5 +21,81 @@ impl Date {
         ensures { result ≡ record { date = self; time = time } }
     {
         PlainDateTime::new(self, time)
+    }
+
+    /// The date at the time that `Time::from_hms` gives. Refuses what that does.
+    pub fn with_hms(self, hour: u8, minute: u8, second: u8) -> Result<PlainDateTime, ComponentRange>
+        ensures accepted { IsOk result ↔ IsTimeOfDay (time_of hour minute second 0) }
+        ensures value { IfOk result (λ t. t
+            ≡ record { date = self; time = time_of hour minute second 0 }) }
+        ensures refusal { IfErr result (λ e. range_refusal e
+            ≡ unconditional_range (first_outside hour minute second (codes "second"))) }
+    {
+        match Time::from_hms(hour, minute, second) {
+            Ok(time) => Ok(self.with_time(time)),
+            Err(refusal) => Err(refusal),
+        }
+    }
+
+    /// The date at the time that `Time::from_hms_milli` gives. Refuses what that does.
+    pub fn with_hms_milli(
+        self,
+        hour: u8,
+        minute: u8,
+        second: u8,
+        millisecond: u16,
+    ) -> Result<PlainDateTime, ComponentRange>
+        ensures accepted { IsOk result
+            ↔ IsTimeOfDay (time_of hour minute second (millisecond * 1_000_000)) }
+        ensures value { IfOk result (λ t. t
+            ≡ record { date = self; time = time_of hour minute second (millisecond * 1_000_000) }) }
+        ensures refusal { IfErr result (λ e. range_refusal e
+            ≡ unconditional_range (first_outside hour minute second (codes "millisecond"))) }
+    {
+        match Time::from_hms_milli(hour, minute, second, millisecond) {
+            Ok(time) => Ok(self.with_time(time)),
+            Err(refusal) => Err(refusal),
+        }
+    }
+
+    /// The date at the time that `Time::from_hms_micro` gives. Refuses what that does.
+    pub fn with_hms_micro(
+        self,
+        hour: u8,
+        minute: u8,
+        second: u8,
+        microsecond: u32,
+    ) -> Result<PlainDateTime, ComponentRange>
+        ensures accepted { IsOk result
+            ↔ IsTimeOfDay (time_of hour minute second (microsecond * 1_000)) }
+        ensures value { IfOk result (λ t. t
+            ≡ record { date = self; time = time_of hour minute second (microsecond * 1_000) }) }
+        ensures refusal { IfErr result (λ e. range_refusal e
+            ≡ unconditional_range (first_outside hour minute second (codes "microsecond"))) }
+    {
+        match Time::from_hms_micro(hour, minute, second, microsecond) {
+            Ok(time) => Ok(self.with_time(time)),
+            Err(refusal) => Err(refusal),
+        }
+    }
+
+    /// The date at the time that `Time::from_hms_nano` gives. Refuses what that does.
+    pub fn with_hms_nano(
+        self,
+        hour: u8,
+        minute: u8,
+        second: u8,
+        nanosecond: u32,
+    ) -> Result<PlainDateTime, ComponentRange>
+        ensures accepted { IsOk result ↔ IsTimeOfDay (time_of hour minute second nanosecond) }
+        ensures value { IfOk result (λ t. t
+            ≡ record { date = self; time = time_of hour minute second nanosecond }) }
+        ensures refusal { IfErr result (λ e. range_refusal e
+            ≡ unconditional_range (first_outside hour minute second (codes "nanosecond"))) }
+    {
+        match Time::from_hms_nano(hour, minute, second, nanosecond) {
+            Ok(time) => Ok(self.with_time(time)),
+            Err(refusal) => Err(refusal),
+        }
     }
 }

@@ -22,8 +22,8 @@ pub fn dates_compare_by_their_days()
 /// The date of a year, a week and a weekday of the week calendar has them.
 #[tactic(auto, using(crate::proofs::WeekLawLemmas::week_date_parts))]
 pub fn a_week_date_has_its_week()
-    ensures { (y : ℤ) (week weekday : ℕ) → IsYear y → IsInRange 1 (weeks_in_year y) week → weekday < 7
-        → IsDayNumber (week_day_number y week weekday)
+    ensures { (y : ℤ) (week weekday : ℕ) → IsYear y → IsInRange 1 (weeks_in_year y) week
+        → weekday < 7 → IsDayNumber (week_day_number y week weekday)
         → (iso_year_of (date_at (week_day_number y week weekday)) ≡ y)
         × (iso_week_of (date_at (week_day_number y week weekday)) ≡ week)
         × (weekday_of (date_at (week_day_number y week weekday)) ≡ weekday) }

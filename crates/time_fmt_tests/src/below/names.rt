@@ -8,7 +8,7 @@ use time_below::{Date, InvalidVariant, Month, Weekday};
 use time_compare::date_at;
 
 /// Fails unless the printed text is this one.
-fn assert_printed<T: Display>(rt: &impl Abort, alloc: Global, value: T, text: &str) {
+fn assert_printed<T: Display + Drop>(rt: &impl Abort, alloc: Global, value: T, text: &str) {
     let Ok(printed) = format!(in alloc; "{value}") else {
         panic!(rt; "no memory");
     };

@@ -2,7 +2,7 @@
 use super::refusal_of;
 use crate::texts::{assert_same, some};
 use std::process::Abort;
-use time_below::{ComponentRange, Date, Month};
+use time_below::{ComponentRange, Date, Month, PlainDateTime};
 use time_compare::{date_at, time_at};
 
 /// Fails unless this date was made.
@@ -53,4 +53,29 @@ fn a_date_has_a_time_of_day(rt: HostRuntime) {
     let evening = date.with_time(some(&rt, time_at((23, 59, 59, 5))));
     assert_same(&rt, evening.time().as_hms_nano(), (23, 59, 59, 5));
     assert_same(&rt, evening.date(), date);
+}
+
+/// The time of day that was made, and the date.
+fn parts(rt: &impl Abort, made: Result<PlainDateTime, ComponentRange>) -> (i32, (u8, u8, u8, u32)) {
+    let Ok(made) = made else {
+        panic!(rt; "no date and time");
+    };
+    (made.date().year(), made.time().as_hms_nano())
+}
+
+#[test]
+fn a_date_has_a_time_by_its_numbers(rt: HostRuntime) {
+    let date = some(&rt, date_at((2024, 2, 29)));
+    assert_same(
+        &rt,
+        parts(&rt, date.with_hms(1, 2, 3)),
+        (2024, (1, 2, 3, 0)),
+    );
+    let milli = date.with_hms_milli(1, 2, 3, 4);
+    assert_same(&rt, parts(&rt, milli), (2024, (1, 2, 3, 4_000_000)));
+    let micro = date.with_hms_micro(1, 2, 3, 4);
+    assert_same(&rt, parts(&rt, micro), (2024, (1, 2, 3, 4_000)));
+    let nano = date.with_hms_nano(1, 2, 3, 4);
+    assert_same(&rt, parts(&rt, nano), (2024, (1, 2, 3, 4)));
+    assert_same(&rt, refusal_of(&date.with_hms(24, 60, 0)), ("hour", false));
 }

@@ -6,7 +6,7 @@ use time_below::OffsetDateTime;
 use time_read::{NotRead, rfc3339};
 
 /// The seconds since 1970, the nanosecond, and the hours and minutes of the offset.
-type Parts = (i64, u32, i8, i8);
+pub(crate) type Parts = (i64, u32, i8, i8);
 
 fn parts_of(value: OffsetDateTime) -> Parts {
     let (_, _, _, nanosecond) = value.time().as_hms_nano();
@@ -23,17 +23,22 @@ fn leniently(text: &str) -> Result<OffsetDateTime, NotRead> {
     rfc3339::read_lenient(text.as_bytes())
 }
 
-fn assert_value(rt: &impl Abort, read: Result<OffsetDateTime, NotRead>, text: &str, parts: Parts) {
+pub(crate) fn assert_value(
+    rt: &impl Abort,
+    read: Result<OffsetDateTime, NotRead>,
+    text: &str,
+    parts: Parts,
+) {
     match read {
         Ok(value) => assert!(rt; parts_of(value) == parts, "another value of {text}"),
         Err(place) => panic!(rt; "{text}: {place}"),
     }
 }
 
-fn assert_place(
+pub(crate) fn assert_place<V>(
     rt: &impl Abort,
     alloc: Global,
-    read: Result<OffsetDateTime, NotRead>,
+    read: Result<V, NotRead>,
     text: &str,
     words: &str,
 ) {

@@ -1,4 +1,5 @@
+use Rattle.time_read.proofs.Wholes.{whole_date}
 use Rattle.time_read.proofs.value.value_of.Goals as goal
 
-pub returns-in-Err-clause-stops : goal.returns-in-Err-clause-stops
-returns-in-Err-clause-stops c = c.in-Err.ensures.stops c.args.profile
+pub returns-in-Err-clause-fault : goal.returns-in-Err-clause-fault
+returns-in-Err-clause-fault c = whole_date c.args.profile c.args.text.now _ c.in-Err.ensures.fault

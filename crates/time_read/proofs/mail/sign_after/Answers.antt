@@ -1,0 +1,18 @@
+use Rattle.std.proofs.lemmas.Result.{err_from_is_err_and}
+use Rattle.time_known.specs.Rules.{Sign}
+use Rattle.time_read.proofs.MailLemmas.{begins_sign}
+use Rattle.time_read.proofs.Numbers.{byte_then_first, byte_then_after, front_byte}
+use Rattle.time_read.proofs.mail.sign_after.Goals as goal
+
+pub returns-in_err-rest-clause-fault : goal.returns-in_err-rest-clause-fault
+returns-in_err-rest-clause-fault c =
+    let p = err_from_is_err_and c.from_residual.result c.from_residual.ensures.1 in
+    rw (p.1, p.2) (byte_then_first 1 Sign 32 begins_sign c.in_err-rest.ensures.fault)
+
+pub returns-in_err-is_negative-clause-fault : goal.returns-in_err-is_negative-clause-fault
+returns-in_err-is_negative-clause-fault c =
+    let p = err_from_is_err_and c.from_residual-in_err-is_negative.result c.from_residual-in_err-is_negative.ensures.1 in
+    rw (p.1, p.2) (byte_then_after Sign 32 c.in_ok-rest.ensures.read c.in_err-is_negative.ensures.fault)
+
+pub returns-clause-read : goal.returns-clause-read
+returns-clause-read c = front_byte 32 c.in_ok-rest.ensures.read c.in_ok-is_negative.ensures.read

@@ -1,0 +1,24 @@
+//! What is said of a moment that is not written or not read.
+use std::fmt::InlineText;
+use time_below::ComponentRange;
+use time_fmt::Format;
+use time_known::accepted::OutOfRange;
+use time_read::NotRead;
+
+// The most bytes that are said.
+const WORDS: usize = 100;
+
+/// The words of `time_fmt` for a component that RFC 3339 cannot write.
+pub(crate) fn unwritten(component: OutOfRange) -> InlineText<WORDS> {
+    InlineText::of(Format::InvalidComponent(component.name()))
+}
+
+/// The words of `time_read` for the place at which a text is none of RFC 3339.
+pub(crate) fn unread(place: NotRead) -> InlineText<WORDS> {
+    InlineText::of(place)
+}
+
+/// The words of `time_below` for seconds that are outside their range.
+pub(crate) fn out_of_range() -> InlineText<WORDS> {
+    InlineText::of(ComponentRange::unconditional("seconds"))
+}
