@@ -82,7 +82,7 @@ COMMANDS = {
         has("crates/movaliren_cli/src/arguments.rt", '"local"'),
     "./gate --tests": has("gate", "--tests"),
     "(cd crates/time_example && rt try <stdin)": example_output,
-    "tools/take ../mine time_known": has("gate", "tools/test_take.py"),
+    "tools/take ../mine time": has("gate", "tools/test_take.py"),
     "(cd crates/movaliren_c && rt lib) && make -C bindings/c install PREFIX=$HOME/.local":
         has("bindings/c/Makefile", "install: "),
     "export PKG_CONFIG_PATH=$HOME/.local/lib/pkgconfig LD_RUN_PATH=$HOME/.local/lib":

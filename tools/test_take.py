@@ -9,24 +9,22 @@ import sys
 import tempfile
 
 TOP = pathlib.Path(__file__).resolve().parent.parent
-# The crate that is taken, what the program names beside it, the program, and what it prints.
-CRATE = "time_known"
-BESIDE = "time_below time_fmt"
+# The crate that is taken, a program over it alone, and what the program prints.
+CRATE = "time"
 PROGRAM = """\
 //! Prints the first moment of Unix time.
 #![tactic(auto)]
 
-use std::default::Default;
 use std::io;
 use std::io::Write;
-use time_below::Timestamp;
-use time_fmt::{Formattable, TimestampState};
-use time_known::Rfc3339;
+use time::Timestamp;
+use time::format_description::well_known::Rfc3339;
+use time::prelude::*;
 
 fn main(rt: HostRuntime) -> io::Result<()> {
     let mut line = Vec::new(rt.alloc());
     if let Ok(moment) = Timestamp::new(0, 0) {
-        let _ = Rfc3339.format_into(&mut line, &moment, &mut TimestampState::default());
+        let _ = moment.format_into(&mut line, &Rfc3339);
     }
     io::writer(&rt).write_all(line.as_slice())
 }
@@ -216,7 +214,7 @@ def runs_where_it_was_taken(room):
     (room / "crates/shows/src").mkdir(parents=True)
     (room / "crates/shows/src/main.rt").write_text(PROGRAM)
     with open(room / "crates.txt", "a", encoding="utf-8") as lines:
-        lines.write(f"shows: {BESIDE} {CRATE}\n")
+        lines.write(f"shows: {CRATE}\n")
     environment = {"RT_SECONDS": "180", **os.environ}
     ran = subprocess.run(["rt", "try"], cwd=room / "crates/shows", capture_output=True, text=True, stdin=subprocess.DEVNULL,
                          env=environment)
