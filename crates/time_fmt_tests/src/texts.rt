@@ -2,7 +2,7 @@
 //! more than it compares.
 use std::alloc::Global;
 use std::default::Default;
-use std::fmt::Debug;
+use std::fmt::{Debug, Display};
 use std::process::Abort;
 use time_below::format_description::modifier::{Day, Padding};
 use time_below::format_description::{BorrowedFormatItem as Item, Component, component_width};
@@ -24,6 +24,14 @@ pub(crate) fn assert_same<T: PartialEq + Debug + Copy>(rt: &impl Abort, found: T
 /// Asserts a condition, by one function for all tests.
 pub(crate) fn assert_that(rt: &impl Abort, is_so: bool) {
     assert!(rt; is_so);
+}
+
+/// Compares a printed text.
+pub(crate) fn assert_printed<T: Display>(rt: &impl Abort, alloc: Global, value: &T, text: &str) {
+    let Ok(printed) = value.to_string(alloc) else {
+        panic!(rt; "no memory");
+    };
+    assert_same(rt, printed.as_str(), text);
 }
 
 /// What is there.

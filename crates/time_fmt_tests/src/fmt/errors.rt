@@ -1,19 +1,10 @@
 //! Printed texts of errors, and what they are converted to.
-use crate::texts::{assert_same, assert_that};
+use crate::texts::{assert_printed, assert_same, assert_that};
 use std::alloc::Global;
 use std::convert::TryFrom;
-use std::fmt::Display;
 use std::process::Abort;
 use time_below::{ComponentRange, DifferentVariant};
 use time_fmt::{Error, Format};
-
-/// Compares a printed text.
-fn assert_printed<T: Display>(rt: &impl Abort, alloc: Global, value: &T, text: &str) {
-    let Ok(printed) = value.to_string(alloc) else {
-        panic!(rt; "no memory");
-    };
-    assert_same(rt, printed.as_str(), text);
-}
 
 /// Compares the printed text of an error alone, and inside the outer one.
 fn assert_both_printed(rt: &impl Abort, alloc: Global, error: Format, text: &str) {
