@@ -1,7 +1,7 @@
 -- Dates by the number of their day.
-use Rattle.std.proofs.Common.{◌≡◌, ℕ, ◌+◌, ◌-◌, ◌<◌, ◌≤◌, sym, ap, ◌∙◌, arith, ℤ, pos, ◌+ℤ◌, ◌-ℤ◌}
+use Rattle.std.proofs.Common.{◌≡◌, ℕ, ◌+◌, ◌-◌, ◌<◌, ap, ◌∙◌, arith, ℤ, pos, ◌+ℤ◌, ◌-ℤ◌}
 use Rattle.std.proofs.lemmas.Int.{ints}
-use Rattle.time_below.specs.Calendar.{OrdinalDate, day_number, date_at, days_before, days_in_all, IsDayNumber}
+use Rattle.time_below.specs.Calendar.{OrdinalDate, date_at, days_before, days_in_all, IsDayNumber}
 use Rattle.time_below.specs.Calendar.{julian_day_of}
 use Rattle.time_below.proofs.YearLemmas.{day_number-date_at}
 

@@ -5,10 +5,10 @@ use Rattle.std.proofs.lemmas.Bool.Decides.{nat_tests}
 use Rattle.std.proofs.lemmas.Grind.{common_steps}
 use Rattle.std.proofs.lemmas.Int.{ints}
 use Rattle.std.specs.Int.{int_rem_euclid, int_div_euclid}
-use Rattle.time_below.specs.Calendar.{OrdinalDate, IsYear, day_number, days_before, greatest_year, weekday_of, days_in_year}
-use Rattle.time_below.specs.Calendar.{is_leap_year, days_of_name}
+use Rattle.time_below.specs.Calendar.{day_number, days_before, weekday_of, days_in_year}
+use Rattle.time_below.specs.Calendar.{is_leap_year}
 use Rattle.time_below.specs.WeekDate.{weeks_in_year, first_monday, week_day_number}
-use Rattle.time_below.proofs.CalendarLemmas.{days_of_years, day_number_from_start, weekday_from_start}
+use Rattle.time_below.proofs.CalendarLemmas.{days_of_years}
 use Rattle.time_below.proofs.DayLemmas.{date_after, is_numbered, is_before_end}
 use Rattle.time_below.proofs.WeekCountLemmas.{days_of_name_counted, sevenths_after}
 

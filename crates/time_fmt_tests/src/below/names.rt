@@ -1,19 +1,10 @@
 //! Texts of dates, months and weekdays, and months and weekdays by steps.
-use crate::texts::{assert_same, assert_that, some};
+use crate::texts::{assert_printed, assert_same, assert_that, some};
 use std::alloc::Global;
-use std::fmt::Display;
 use std::process::Abort;
 use std::str::FromStr;
 use time_below::{Date, InvalidVariant, Month, Weekday};
 use time_compare::date_at;
-
-/// Fails unless the printed text is this one.
-fn assert_printed<T: Display + Drop>(rt: &impl Abort, alloc: Global, value: T, text: &str) {
-    let Ok(printed) = format!(in alloc; "{value}") else {
-        panic!(rt; "no memory");
-    };
-    assert_same(rt, printed.as_str(), text);
-}
 
 const TEXTS: &[((i32, u8, u8), &str)] = &[
     ((2026, 11, 22), "2026-11-22"),
@@ -31,7 +22,7 @@ const TEXTS: &[((i32, u8, u8), &str)] = &[
 #[test]
 fn a_year_has_four_digits_and_a_sign_where_it_needs_one(rt: HostRuntime) {
     for &(day, text) in TEXTS {
-        assert_printed(&rt, rt.alloc(), some(&rt, date_at(day)), text);
+        assert_printed(&rt, rt.alloc(), &some(&rt, date_at(day)), text);
     }
 }
 
@@ -67,8 +58,8 @@ fn a_date_is_padded_as_a_text(rt: HostRuntime) {
 
 #[test]
 fn a_name_is_printed_and_read(rt: HostRuntime) {
-    assert_printed(&rt, rt.alloc(), Month::November, "November");
-    assert_printed(&rt, rt.alloc(), Weekday::Wednesday, "Wednesday");
+    assert_printed(&rt, rt.alloc(), &Month::November, "November");
+    assert_printed(&rt, rt.alloc(), &Weekday::Wednesday, "Wednesday");
     assert_same(&rt, Month::from_str("May"), Ok(Month::May));
     assert_same(&rt, Weekday::from_str("Friday"), Ok(Weekday::Friday));
     for text in ["", "may", "May ", "Friday"] {
@@ -78,7 +69,7 @@ fn a_name_is_printed_and_read(rt: HostRuntime) {
     assert_printed(
         &rt,
         rt.alloc(),
-        InvalidVariant,
+        &InvalidVariant,
         "value was not a valid variant",
     );
 }
