@@ -1,3 +1,4 @@
+pub mod Timed
 pub mod TimedLine
 pub mod Times
 pub mod ZoneTimes

@@ -36,9 +36,14 @@ struct Lines<T, W> {
 }
 
 impl<C: Clock, T: Times, W: Write> Timed<C, T, W> {
+    ghost use Rattle.log_time.specs.Timed.{clock_of, place_of};
+
     /// A sink over `out`, whose lines are those of `env_logger`, as
     /// `[2026-11-22T09:55:06.120Z INFO  app] started`.
-    pub fn new(clock: C, times: T, out: W) -> Timed<C, T, W> {
+    pub fn new(clock: C, times: T, out: W) -> Timed<C, T, W>
+        ensures clock { clock_of result ≡ clock }
+        ensures place { place_of result ≡ TimePlace.Inside }
+    {
         Timed {
             clock,
             place: TimePlace::Inside,
@@ -50,7 +55,10 @@ impl<C: Clock, T: Times, W: Write> Timed<C, T, W> {
     }
 
     /// The sink whose lines have the time at this place.
-    pub fn with_place(mut self, place: TimePlace) -> Timed<C, T, W> {
+    pub fn with_place(mut self, place: TimePlace) -> Timed<C, T, W>
+        ensures clock { clock_of result ≡ clock_of self }
+        ensures place { place_of result ≡ place }
+    {
         self.place = place;
         self
     }
