@@ -174,9 +174,11 @@ fn digit_by_digit(text: &[u8], least: u8, greatest: u8) -> Result<(u8, &[u8]), F
     Ok((10 * tens + ones, rest))
 }
 
-// The fault of a text that does not begin with two digits of such a number.
-#[inline(always)]
-pub(crate) fn pair_fault(text: &[u8], least: u8, greatest: u8) -> Fault
+// The fault of a text that does not begin with two digits of such a number. It is a call, since the
+// functions that read pairs would otherwise be too large to be inlined.
+#[cold]
+#[inline(never)]
+fn pair_fault(text: &[u8], least: u8, greatest: u8) -> Fault
     requires order { least ≤ greatest }
     requires pairs { greatest < 100 }
     requires none { NoFront (Two least greatest) text.now }
