@@ -2,6 +2,7 @@
 //! library shows its caller.
 #![tactic(auto)]
 
+pub mod clocks;
 pub mod dates;
 pub mod digits;
 pub mod faults;
