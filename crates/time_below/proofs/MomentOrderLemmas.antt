@@ -50,7 +50,9 @@ parts_total : (v w : DateAndTime) → IsDate v.date → IsDate w.date → IsTime
 parts_total v w h k t u =
     let rest = nat_cmp v.time.nanosecond w.time.nanosecond in
     ap (λ o. ordering_then o (time_cmp v.time w.time))
-    (date_cmp v.date w.date h k ∙ int_cmp_shifted _ _ _ _ days_before (days_counted v h) (days_counted w k))
+    (date_cmp v.date w.date h k
+    ∙ int_cmp_shifted (day_number v.date) (day_number w.date) (days_of v) (days_of w) days_before (days_counted v h)
+    (days_counted w k))
     ∙ ap (ordering_then (nat_cmp (days_of v) (days_of w)))
     (clock_cmp v.time.hour w.time.hour v.time.minute w.time.minute v.time.second w.time.second rest t.1 u.1 t.2 u.2)
     ∙ total_cmp (days_of v) (days_of w) (seconds_from_midnight v.time) (seconds_from_midnight w.time) rest

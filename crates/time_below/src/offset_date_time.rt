@@ -7,6 +7,7 @@ mod order;
 mod parts;
 mod replace;
 mod text;
+mod truncate;
 
 use crate::date::Date;
 use crate::time::Time;

@@ -5,6 +5,7 @@ ghost use Rattle.time_below.specs.Moment.{in_utc};
 mod parts;
 mod replace;
 mod text;
+mod truncate;
 
 use crate::date::Date;
 use crate::offset_date_time::OffsetDateTime;

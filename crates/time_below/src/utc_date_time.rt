@@ -7,6 +7,7 @@ ghost use Rattle.time_below.specs.Offset.{offset_seconds};
 mod parts;
 mod replace;
 mod text;
+mod truncate;
 
 use crate::component_range::ComponentRange;
 use crate::date::Date;

@@ -1,10 +1,14 @@
 //! From the Rust crates `time` and `chrono`.
 use crate::values::{assert_text, assert_that, date, instant, local, moment};
+use jiff::tz::TimeZone;
+use serde::Serialize;
 use std::default::Default;
 use std::test::Fail;
+use time_below::{OffsetDateTime, UtcOffset};
 use time_digits::ru8;
 use time_fmt::TimestampState;
 use time_fmt::parts::*;
+use time_jiff::{LocalOffset, NowLocal};
 use time_known::iso8601::{Config, TimePrecision};
 use time_known::{Iso8601, Rfc2822, Rfc3339};
 use time_plan::Plan;
@@ -30,6 +34,42 @@ fn well_known_formats(rt: HostRuntime) -> Result<(), Fail> {
     let mut out = Vec::new(alloc);
     let count = Rfc3339.format_into(&mut out, &moment, state)?;
     assert_that(&rt, count == 28);
+    Ok(())
+}
+
+#[derive(Drop, Serialize)]
+struct Entry {
+    #[serde(with = "time_serde::rfc3339")]
+    opened: OffsetDateTime,
+    #[serde(with = "time_serde::timestamp::option")]
+    seen: Option<OffsetDateTime>,
+}
+
+#[test]
+fn moments_in_json(rt: HostRuntime) -> Result<(), Fail> {
+    let moment = moment(&rt);
+    let entry = Entry {
+        opened: moment,
+        seen: Some(moment),
+    };
+    assert_text(
+        &rt,
+        serde_json::to_string(rt.alloc(), &entry)?,
+        r#"{"opened":"2026-11-22T09:55:06.12-06:00","seen":1795362906}"#,
+    );
+    Ok(())
+}
+
+#[test]
+fn now_and_the_offset_of_a_zone(rt: HostRuntime) -> Result<(), Fail> {
+    let zone = TimeZone::posix("EST6")?;
+    let now = OffsetDateTime::now_local(&rt, &zone)?;
+    assert_that(&rt, now.offset().as_hms() == (-6, 0, 0));
+    let offset = UtcOffset::current_local_offset(&rt, &zone)?;
+    assert_that(&rt, offset.as_hms() == (-6, 0, 0));
+    let moment = moment(&rt);
+    let offset = UtcOffset::local_offset_at(moment, &zone)?;
+    assert_that(&rt, offset.as_hms() == (-6, 0, 0));
     Ok(())
 }
 

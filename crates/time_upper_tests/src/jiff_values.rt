@@ -1,11 +1,14 @@
 //! A worked row of each function, by the moment that GNU `date -u -d @1795341306` shows as
 //! `Sun Nov 22 09:55:06 UTC 2026`, and the bounds of the years.
 use crate::values::assert_that;
+use jiff::error::Bound;
 use jiff::tz::{Offset, TimeZone};
-use jiff::{Timestamp as Instant, civil};
+use jiff::{Error, Timestamp as Instant, civil};
+use std::io;
 use std::process::Abort;
+use std::time::{Clock, Duration};
 use time_below::{Date, Month, OffsetDateTime, PlainDateTime, Time, Timestamp, UtcOffset};
-use time_jiff::ZoneClock;
+use time_jiff::{LocalOffset, NowLocal, ZoneClock};
 
 fn moment(rt: &impl Abort, seconds: i64, nanosecond: u32) -> Timestamp {
     match Timestamp::new(seconds, nanosecond) {
@@ -145,4 +148,84 @@ fn a_clock_has_the_offset_of_its_zone_at_each_moment(rt: HostRuntime) {
         let offset = clock.offset_at(&moment(&rt, *seconds, 0));
         assert_that(&rt, offset.as_hms() == (*hours, 0, 0));
     }
+}
+
+/// A clock that stands so long after 1970.
+#[derive(Drop)]
+struct Standing(Duration);
+
+impl Clock for Standing {
+    fn monotonic(&self) -> io::Result<Duration> {
+        Ok(Duration::from_secs(0))
+    }
+
+    fn since_1970(&self) -> io::Result<Duration> {
+        Ok(self.0)
+    }
+}
+
+/// The moments about the change from 2:00 to 3:00 of 2026-03-29 in Berlin, as GNU `date` shows them: seconds of Unix
+/// time, and the hour and the offset of the clock there.
+const NOWS: &[(u32, u8, i8)] = &[(1_774_745_999, 1, 1), (1_774_746_000, 3, 2)];
+
+#[test]
+fn now_is_shown_with_the_offset_of_its_zone(rt: HostRuntime) {
+    let zone = TimeZone::posix("CET-1CEST,M3.5.0,M10.5.0/3").expect(&rt, "no zone");
+    for (second, hour, offset) in NOWS {
+        let clock = Standing(Duration::new(u64::from(*second), 120_000_000));
+        let now = OffsetDateTime::now_local(&clock, &zone).expect(&rt, "no moment");
+        assert_that(&rt, now.unix_timestamp() == i64::from(*second));
+        let (shown, _, _, nanosecond) = now.time().as_hms_nano();
+        assert_that(&rt, (shown, nanosecond) == (*hour, 120_000_000));
+        assert_that(&rt, now.offset().as_hms() == (*offset, 0, 0));
+        let current = UtcOffset::current_local_offset(&clock, &zone).expect(&rt, "no offset");
+        assert_that(&rt, current.as_hms() == (*offset, 0, 0));
+        let at = UtcOffset::local_offset_at(now, &zone).expect(&rt, "no offset");
+        assert_that(&rt, at.as_hms() == (*offset, 0, 0));
+    }
+}
+
+/// The first second after the moments of jiff.
+#[test]
+fn a_clock_outside_jiff_is_refused(rt: HostRuntime) {
+    let clock = Standing(Duration::from_secs(253_402_207_201));
+    let now = OffsetDateTime::now_local(&clock, &TimeZone::UTC);
+    assert_that(&rt, now.is_err_and(|error| error.is_range()));
+    let offset = UtcOffset::current_local_offset(&clock, &TimeZone::UTC);
+    assert_that(&rt, offset.is_err_and(|error| error.is_range()));
+}
+
+#[test]
+fn each_refusal_names_its_range(rt: HostRuntime) {
+    let Ok(date) = Date::from_calendar_date(10_000, Month::January, 1) else {
+        panic!(rt; "no date")
+    };
+    let Ok(time) = Time::from_hms_nano(0, 0, 0, 0) else {
+        panic!(rt; "no time")
+    };
+    let Ok(utc) = UtcOffset::from_hms(0, 0, 0) else {
+        panic!(rt; "no offset")
+    };
+    let (year, seconds) = (
+        Error::Range(Bound::Year),
+        Error::Range(Bound::UnixEpochSeconds),
+    );
+    assert_that(&rt, time_jiff::jiff_date(date).is_err_and(|e| e == year));
+    let both = PlainDateTime::new(date, time);
+    assert_that(
+        &rt,
+        time_jiff::jiff_date_time(both).is_err_and(|e| e == year),
+    );
+    let late = moment(&rt, 253_402_207_201, 0);
+    assert_that(
+        &rt,
+        time_jiff::jiff_timestamp(late).is_err_and(|e| e == seconds),
+    );
+    let shown = OffsetDateTime::new_in_offset(date, time, utc);
+    assert_that(
+        &rt,
+        time_jiff::jiff_zoned(shown).is_err_and(|e| e == seconds),
+    );
+    let offset = UtcOffset::local_offset_at(shown, &TimeZone::UTC);
+    assert_that(&rt, offset.is_err_and(|e| e == seconds));
 }

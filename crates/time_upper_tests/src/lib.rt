@@ -1,5 +1,5 @@
 //! Tests of the crates above the formatter by public calls: of `time_describe`, `time_plan`, `line_streams`,
-//! `time_lines` and `time_jiff`, and of the lines of `docs/FROM.md` in Rattle. One library reads all crates below once,
+//! `time_lines`, `time_jiff` and `time_serde`, and of the lines of `docs/FROM.md` in Rattle. One library reads all crates below once,
 //! and `time_describe` stands on `time_below` alone.
 #![tactic(auto)]
 
@@ -17,6 +17,8 @@ mod jiff_values;
 mod lines;
 #[cfg(test)]
 mod recipes;
+#[cfg(test)]
+mod serde_moments;
 #[cfg(test)]
 mod streams;
 #[cfg(test)]

@@ -1,6 +1,6 @@
 //! Days by their number, days near a date, and dates of the week calendar. Julian day numbers and dates of weeks
 //! are those of Python's `datetime`, and -4713-11-24 is the day 0 of that count.
-use super::refusal_of;
+use super::{date_on, refusal_of};
 use crate::texts::{assert_same, assert_that, some};
 use std::process::Abort;
 use time_below::util::{days_in_month, days_in_year, weeks_in_year};
@@ -118,16 +118,24 @@ fn days_follow_one_another_from_the_first_to_the_last(rt: HostRuntime) {
     assert_that(&rt, Date::MIN.previous_day().is_none());
 }
 
+/// Fails unless the Sunday and the dates of Mondays, by their days of the year, are found from this date.
+fn assert_weekdays(rt: &impl Abort, sunday: Date, days: [u16; 4]) {
+    let day = sunday.to_julian_day();
+    if day < 0 || day > 366_000_000 {
+        panic!(rt; "a date near the first or the last");
+    }
+    let found = [
+        sunday.next_occurrence(Weekday::Sunday).ordinal(),
+        sunday.prev_occurrence(Weekday::Sunday).ordinal(),
+        sunday.nth_next_occurrence(Weekday::Monday, 3).ordinal(),
+        sunday.nth_prev_occurrence(Weekday::Monday, 2).ordinal(),
+    ];
+    assert_same(rt, found, days);
+}
+
 #[test]
 fn a_weekday_comes_again(rt: HostRuntime) {
-    let sunday = some(&rt, date_at((2026, 11, 22)));
-    let next = some(&rt, date_at((2026, 11, 29)));
-    assert_same(&rt, sunday.next_occurrence(Weekday::Sunday), next);
-    assert_same(&rt, next.prev_occurrence(Weekday::Sunday), sunday);
-    let third = some(&rt, date_at((2026, 12, 7)));
-    assert_same(&rt, sunday.nth_next_occurrence(Weekday::Monday, 3), third);
-    let before = some(&rt, date_at((2026, 11, 9)));
-    assert_same(&rt, sunday.nth_prev_occurrence(Weekday::Monday, 2), before);
+    assert_weekdays(&rt, date_on(&rt, 2026, 326), [333, 319, 341, 313]);
 }
 
 #[test]

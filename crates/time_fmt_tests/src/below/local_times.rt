@@ -227,6 +227,24 @@ fn a_date_and_time_with_another_part(rt: HostRuntime) {
 }
 
 #[test]
+fn a_date_and_time_without_its_smaller_parts(rt: HostRuntime) {
+    let local = some(&rt, there());
+    let to_minute = local.truncate_to_minute();
+    assert_same(&rt, to_minute.as_hms_nano(), (9, 55, 0, 0));
+    assert_same(
+        &rt,
+        local.truncate_to_second(),
+        local.replace_time(local.time().truncate_to_second()),
+    );
+    let plain = PlainDateTime::new(local.date(), local.time());
+    assert_same(&rt, plain.truncate_to_day().as_hms_nano(), (0, 0, 0, 0));
+    assert_same(&rt, plain.truncate_to_millisecond(), plain);
+    let utc = plain.as_utc();
+    assert_same(&rt, utc.truncate_to_hour().as_hms_nano(), (9, 0, 0, 0));
+    assert_same(&rt, utc.truncate_to_microsecond(), utc);
+}
+
+#[test]
 fn another_offset_is_another_moment_by_the_same_clock(rt: HostRuntime) {
     let local = some(&rt, there());
     let (date, time) = (
