@@ -20,7 +20,6 @@ CALLERS = TOP / "crates/time_callers"
 # Libraries without a page: of programs, of tests and of C, and some that stand in a README.md alone.
 WITHOUT = {
     "time_answers", "time_callers", "time_compare", "time_fmt_tests", "time_known_tests", "time_upper_tests", "movaliren_c",
-    "log_time", "time", "time_serde",
 }
 HEAD = re.compile(r"^(?:impl|(?:pub )?trait)\b.*$", re.M)
 FUNCTION = re.compile(r"^( *)(?:(?:pub(?:\(\w+\))?|final|const|unsafe) )*fn (\w+)", re.M)

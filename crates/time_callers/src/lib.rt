@@ -2,15 +2,18 @@
 //! library shows its caller.
 #![tactic(auto)]
 
+pub mod clocks;
 pub mod dates;
 pub mod digits;
 pub mod faults;
 pub mod filters;
 pub mod formats;
 pub mod journals;
+pub mod logged;
 pub mod providers;
 pub mod readers;
 pub mod rows;
 pub mod texts;
 pub mod unix_lines;
+pub mod visits;
 pub mod zones;
