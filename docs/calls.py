@@ -15,7 +15,7 @@ import sys
 TOP = pathlib.Path(__file__).resolve().parent.parent
 PAGE = TOP / "docs/CALLS.md"
 CRATES = [
-    "time_below", "time_fmt", "time_known", "time_describe", "time_plan", "time_log", "time_read", "time_jiff", "time_provide",
+    "time", "time_below", "time_fmt", "time_known", "time_describe", "time_plan", "time_log", "time_read", "time_jiff", "time_provide",
     "time_digits", "line_streams", "time_lines", "movaliren", "movaliren_time",
 ]
 RUST = {"movaliren": "bindings/rust", "movaliren_time": "bindings/rust-time"}
@@ -160,7 +160,7 @@ class Crate:
         text, name, kind = self.files[path], item["name"], item["kind"]
         place = path.relative_to(self.source.parent)
         lines = [f"### `{name}`", "", f"{paragraph(item['doc'])} ({kind}, `{place}`)", ""]
-        body = block(text, item.end()) if item["rest"].rstrip().endswith("{") else ""
+        body = block(text, item.end()) if kind == "trait" or item["rest"].rstrip().endswith("{") else ""
         derived = [it for words in re.findall(r"derive\(([^)]*)\)", item["attributes"]) for it in words.split(", ")]
         rows, traits = self.methods(name)
         if kind == "trait":

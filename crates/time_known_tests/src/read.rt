@@ -1,4 +1,3 @@
 //! The rows of `time_read`: texts and their values, places and their words, and what each format writes read back.
-mod recipes;
 mod rows;
 mod there_and_back;
