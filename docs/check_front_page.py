@@ -11,12 +11,9 @@ import sys
 
 TOP = pathlib.Path(__file__).resolve().parent.parent
 RECIPES = [
-    "crates/time_known_tests/src/recipes.rt",
     "crates/time_upper_tests/src/describe/recipes.rt",
     "crates/time_upper_tests/src/describe/plans/recipes.rt",
-    "crates/time_known_tests/src/log/recipes.rt",
-    "crates/time_known_tests/src/read/recipes.rt",
-    "crates/time_upper_tests/src/recipes.rt",
+    *(f"crates/time_upper_tests/src/recipes/{name}.rt" for name in ("formats", "log", "reading", "zones")),
 ]
 
 

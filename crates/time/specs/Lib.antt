@@ -1,1 +1,14 @@
 pub mod Literals
+pub use Rattle.time_below.specs.Calendar
+pub use Rattle.time_below.specs.Facts
+pub use Rattle.time_below.specs.Moment
+pub use Rattle.time_below.specs.Month
+pub use Rattle.time_below.specs.Offset
+pub use Rattle.time_below.specs.TimeOfDay
+pub use Rattle.time_below.specs.Weekday
+pub use Rattle.time_fmt.specs.Outcome
+pub use Rattle.time_fmt.specs.Room
+pub use Rattle.time_known.specs.Iso8601
+pub use Rattle.time_known.specs.Rfc2822
+pub use Rattle.time_known.specs.Rfc3339
+pub use Rattle.time_known.specs.Stamps

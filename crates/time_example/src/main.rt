@@ -3,20 +3,19 @@
 
 ghost use Rattle.std.specs.Prelude.{◌+◌, ◌≤◌, vec_len};
 
-use std::default::Default;
 use std::io;
 use std::io::Write;
-use time_below::Timestamp;
-use time_fmt::parts::*;
-use time_fmt::{Format, TimestampState};
-use time_known::Rfc3339;
+use time::Timestamp;
+use time::error::Format;
+use time::format_description::well_known::Rfc3339;
+use time::parts::*;
 
 /// Appends a line such as `2026-11-22T09:55:06Z (Sunday, 22 November): opened`.
 fn append_line(log: &mut Vec<u8>, moment: &Timestamp) -> Result<usize, Format>
     ensures at_most { vec_len log.new ≤ vec_len log.old + 70 }
 {
     let stamp = text!(Rfc3339, b" (", WEEKDAY, b", ", DAY, b" ", MONTH_LONG, b")");
-    text!(stamp, b": opened\n").format_into(log, moment, &mut TimestampState::default())
+    moment.format_into(log, &text!(stamp, b": opened\n"))
 }
 
 fn main(rt: HostRuntime) -> io::Result<()> {

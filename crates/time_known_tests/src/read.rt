@@ -1,5 +1,4 @@
 //! The rows of `time_read`: texts and their values, places and their words, and what each format writes read back.
-mod recipes;
 mod rfc2822;
 mod rows;
 mod stamps;

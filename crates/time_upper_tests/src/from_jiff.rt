@@ -2,13 +2,11 @@
 use crate::values::assert_text;
 use jiff::tz::TimeZone;
 use jiff::{Timestamp, ToSpan, Zoned};
-use std::default::Default;
 use std::process::Abort;
 use std::test::Fail;
-use time_fmt::TimestampState;
-use time_fmt::parts::*;
-use time_known::{Rfc2822, Rfc3339};
-use time_plan::Plan;
+use time::format_description::Plan;
+use time::format_description::well_known::{Rfc2822, Rfc3339};
+use time::prelude::*;
 
 fn instant(rt: &impl Abort) -> Timestamp {
     let Ok(instant) = Timestamp::from_second(1_774_746_000) else {
@@ -41,11 +39,7 @@ fn values_have_these_texts_by_jiff(rt: HostRuntime) -> Result<(), Fail> {
 #[test]
 fn an_instant_has_the_same_text(rt: HostRuntime) -> Result<(), Fail> {
     let (alloc, instant) = (rt.alloc(), instant(&rt));
-    let text = Rfc3339.format(
-        alloc,
-        &time_jiff::timestamp(instant),
-        &mut TimestampState::default(),
-    )?;
+    let text = time_jiff::timestamp(instant).format(alloc, &Rfc3339)?;
     assert_text(&rt, text, "2026-03-29T01:00:00Z");
     Ok(())
 }
@@ -53,11 +47,7 @@ fn an_instant_has_the_same_text(rt: HostRuntime) -> Result<(), Fail> {
 #[test]
 fn a_zoned_value_has_the_same_text(rt: HostRuntime) -> Result<(), Fail> {
     let (alloc, zoned) = (rt.alloc(), zoned(&rt));
-    let text = Rfc2822.format(
-        alloc,
-        &time_jiff::offset_date_time(&zoned),
-        &mut DateState::default(),
-    )?;
+    let text = time_jiff::offset_date_time(&zoned).format(alloc, &Rfc2822)?;
     assert_text(&rt, text, "Sun, 29 Mar 2026 03:00:00 +0200");
     Ok(())
 }
@@ -66,11 +56,7 @@ fn a_zoned_value_has_the_same_text(rt: HostRuntime) -> Result<(), Fail> {
 fn a_zoned_value_has_the_same_text_by_a_plan(rt: HostRuntime) -> Result<(), Fail> {
     let (alloc, zoned) = (rt.alloc(), zoned(&rt));
     let plan = Plan::parse_strftime(alloc, b"%A, %-d %B, %H:%M")?;
-    let text = plan.format(
-        alloc,
-        &time_jiff::offset_date_time(&zoned),
-        &mut DateState::default(),
-    )?;
+    let text = time_jiff::offset_date_time(&zoned).format(alloc, &plan)?;
     assert_text(&rt, text, "Sunday, 29 March, 03:00");
     Ok(())
 }
@@ -79,11 +65,7 @@ fn a_zoned_value_has_the_same_text_by_a_plan(rt: HostRuntime) -> Result<(), Fail
 fn a_day_later_has_the_same_clock(rt: HostRuntime) -> Result<(), Fail> {
     let (alloc, zoned) = (rt.alloc(), zoned(&rt));
     let later = zoned.checked_add(1i64.day())?;
-    let text = Rfc3339.format(
-        alloc,
-        &time_jiff::offset_date_time(&later),
-        &mut DateState::default(),
-    )?;
+    let text = time_jiff::offset_date_time(&later).format(alloc, &Rfc3339)?;
     assert_text(&rt, text, "2026-03-30T03:00:00+02:00");
     Ok(())
 }

@@ -1,9 +1,8 @@
 //! From `strftime`: its text, as a `Plan`.
 use crate::values::{assert_text, moment};
-use std::default::Default;
 use std::test::Fail;
-use time_fmt::parts::*;
-use time_plan::Plan;
+use time::format_description::Plan;
+use time::prelude::*;
 
 #[test]
 fn conversions(rt: HostRuntime) -> Result<(), Fail> {
@@ -11,7 +10,7 @@ fn conversions(rt: HostRuntime) -> Result<(), Fail> {
     let moment = moment(&rt);
     for (conversions, wanted) in ROWS {
         let plan = Plan::parse_strftime(alloc, conversions.as_bytes())?;
-        let text = plan.format(alloc, &moment, &mut DateState::default())?;
+        let text = moment.format(alloc, &plan)?;
         assert_text(&rt, text, wanted);
     }
     Ok(())

@@ -2,38 +2,45 @@
 use crate::values::{assert_text, assert_that, date, instant, local, moment};
 use jiff::tz::TimeZone;
 use serde::Serialize;
-use std::default::Default;
 use std::test::Fail;
-use time_below::{OffsetDateTime, UtcOffset};
-use time_digits::ru8;
-use time_fmt::TimestampState;
-use time_fmt::parts::*;
+use time::format_description::well_known::iso8601::{Config, TimePrecision, ru8};
+use time::format_description::well_known::{Iso8601, Rfc2822, Rfc3339};
+use time::format_description::{Plan, parse_owned};
+use time::macros::datetime;
+use time::parsing::rfc3339;
+use time::parts::*;
+use time::{OffsetDateTime, UtcOffset};
 use time_jiff::{LocalOffset, NowLocal};
-use time_known::iso8601::{Config, TimePrecision};
-use time_known::{Iso8601, Rfc2822, Rfc3339};
-use time_plan::Plan;
-use time_read::rfc3339;
 
 #[test]
 fn well_known_formats(rt: HostRuntime) -> Result<(), Fail> {
     let alloc = rt.alloc();
     let moment = moment(&rt);
-    let state = &mut DateState::default();
-    let text = Rfc3339.format(alloc, &moment, state)?;
+    let text = moment.format(alloc, &Rfc3339)?;
     assert_text(&rt, text, "2026-11-22T09:55:06.12-06:00");
-    let text = Rfc2822.format(alloc, &moment, state)?;
+    let text = moment.format(alloc, &Rfc2822)?;
     assert_text(&rt, text, "Sun, 22 Nov 2026 09:55:06 -0600");
-    let text = Iso8601::default().format(alloc, &moment, state)?;
+    let text = moment.format(alloc, &Iso8601::default())?;
     assert_text(&rt, text, "2026-11-22T09:55:06.120000000-06:00");
     let milliseconds = TimePrecision::Second {
         decimal_digits: ru8::new(3),
     };
     let iso = Iso8601::new(Config::default().set_time_precision(milliseconds));
-    let text = iso.format(alloc, &moment, state)?;
+    let text = moment.format(alloc, &iso)?;
     assert_text(&rt, text, "2026-11-22T09:55:06.120-06:00");
-    let mut out = Vec::new(alloc);
-    let count = Rfc3339.format_into(&mut out, &moment, state)?;
+    Ok(())
+}
+
+#[test]
+fn a_moment_of_the_program(rt: HostRuntime) -> Result<(), Fail> {
+    let moment = datetime!(2026-11-22 9:55:06.12 -6);
+    let mut out = Vec::new(rt.alloc());
+    let count = moment.format_into(&mut out, &Rfc3339)?;
     assert_that(&rt, count == 28);
+    assert_that(
+        &rt,
+        out.as_slice() == b"2026-11-22T09:55:06.12-06:00".as_slice(),
+    );
     Ok(())
 }
 
@@ -77,8 +84,7 @@ fn now_and_the_offset_of_a_zone(rt: HostRuntime) -> Result<(), Fail> {
 fn descriptions(rt: HostRuntime) -> Result<(), Fail> {
     let alloc = rt.alloc();
     let moment = moment(&rt);
-    let state = &mut DateState::default();
-    let text = text!(YEAR, b"-", MONTH, b"-", DAY).format(alloc, &moment, state)?;
+    let text = moment.format(alloc, &text!(YEAR, b"-", MONTH, b"-", DAY))?;
     assert_text(&rt, text, "2026-11-22");
     Ok(())
 }
@@ -87,9 +93,18 @@ fn descriptions(rt: HostRuntime) -> Result<(), Fail> {
 fn descriptions_from_a_text(rt: HostRuntime) -> Result<(), Fail> {
     let alloc = rt.alloc();
     let moment = moment(&rt);
-    let state = &mut DateState::default();
+    let format = parse_owned(alloc, b"[hour]:[minute]:[second]")?;
+    let text = moment.format(alloc, &format)?;
+    assert_text(&rt, text, "09:55:06");
+    Ok(())
+}
+
+#[test]
+fn plans_of_a_text(rt: HostRuntime) -> Result<(), Fail> {
+    let alloc = rt.alloc();
+    let moment = moment(&rt);
     let plan = Plan::parse(alloc, b"[hour]:[minute]:[second].[subsecond digits:3]")?;
-    let text = plan.format(alloc, &moment, state)?;
+    let text = moment.format(alloc, &plan)?;
     assert_text(&rt, text, "09:55:06.120");
     Ok(())
 }
@@ -104,9 +119,9 @@ fn a_date_has_its_day_and_week(rt: HostRuntime) {
 #[test]
 fn an_instant_has_its_texts(rt: HostRuntime) -> Result<(), Fail> {
     let alloc = rt.alloc();
-    let text = Rfc3339.format(alloc, &instant(&rt), &mut TimestampState::default())?;
+    let text = instant(&rt).format(alloc, &Rfc3339)?;
     assert_text(&rt, text, "2026-11-22T15:55:06.12Z");
-    let text = Rfc3339.format(alloc, &local(&rt), &mut DateState::default())?;
+    let text = local(&rt).format(alloc, &Rfc3339)?;
     assert_text(&rt, text, "2026-11-22T09:55:06.12-06:00");
     Ok(())
 }

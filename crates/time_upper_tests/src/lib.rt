@@ -1,6 +1,6 @@
-//! Tests of the crates above the formatter by public calls: of `time_describe`, `time_plan`, `line_streams`,
-//! `time_lines`, `time_jiff` and `time_serde`, and of the lines of `docs/FROM.md` in Rattle. One library reads all crates below once,
-//! and `time_describe` stands on `time_below` alone.
+//! Tests of the crates above the formatter by public calls: of `time_describe`, `time_plan`, `time`, `line_streams`,
+//! `time_lines`, `time_jiff` and `time_serde`, of the lines of `docs/FROM.md` in Rattle, and of the recipes. One
+//! library reads all crates below once, and `time_describe` stands on `time_below` alone.
 #![tactic(auto)]
 
 #[cfg(test)]
@@ -21,5 +21,7 @@ mod recipes;
 mod serde_moments;
 #[cfg(test)]
 mod streams;
+#[cfg(test)]
+mod time_calls;
 #[cfg(test)]
 mod values;

@@ -1,6 +1,6 @@
 //! The values of the page, and the comparison of texts.
 use std::process::Abort;
-use time_below::{Date, Month, OffsetDateTime, Time, Timestamp, UtcOffset};
+use time::{Date, Month, OffsetDateTime, Time, Timestamp, UtcOffset};
 
 pub fn date(rt: &impl Abort) -> Date {
     let Ok(date) = Date::from_calendar_date(2026, Month::November, 22) else {

@@ -3,11 +3,10 @@
 mod tests;
 
 use std::alloc::Global;
-use std::default::Default;
-use time_below::format_description::OwnedFormatItem;
-use time_below::{Date, OffsetDateTime};
-use time_describe::{parse_owned, parse_strftime_owned};
-use time_fmt::{DateState, Format, Formattable};
+use time::error::Format;
+use time::format_description::{OwnedFormatItem, parse_owned, parse_strftime_owned};
+use time::prelude::*;
+use time::{Date, OffsetDateTime};
 
 /// The description of a configuration, such as `[day padding:none] [month repr:long]`, or a message
 /// such as ``unknown component `dai` at byte 1``. The message is empty if memory ran out for it too.
@@ -28,7 +27,7 @@ pub fn append_described(
     description: &OwnedFormatItem,
     date: &Date,
 ) -> Result<usize, Format> {
-    description.format_into(line, date, &mut DateState::default())
+    date.format_into(line, description)
 }
 
 /// Appends a moment by a pattern, such as `22/Nov/2026:09:55:06 +0000` by `%d/%b/%Y:%H:%M:%S %z`.
@@ -41,5 +40,5 @@ pub fn append_by_pattern(
     let Ok(description) = parse_strftime_owned(alloc, pattern.as_bytes()) else {
         return None;
     };
-    Some(description.format_into(line, moment, &mut DateState::default()))
+    Some(moment.format_into(line, &description))
 }

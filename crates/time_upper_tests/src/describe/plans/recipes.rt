@@ -3,15 +3,13 @@
 mod tests;
 
 use std::alloc::{AllocError, Global};
-use std::default::Default;
-use time_below::OffsetDateTime;
-use time_below::format_description::BorrowedFormatItem as Item;
-use time_below::format_description::Component::{
+use time::OffsetDateTime;
+use time::error::{Format, InvalidFormatDescription};
+use time::format_description::Component::{
     CalendarYearFullExtendedRange, Day, Hour24, Minute, MonthNumerical, Second,
 };
-use time_fmt::Format;
-use time_fmt::parts::*;
-use time_plan::{InvalidDescription, Plan};
+use time::format_description::{BorrowedFormatItem as Item, Plan};
+use time::parts::*;
 
 /// The description of times such as `2026-11-22 09:55:06`, made once.
 pub fn plan_of_times(alloc: Global) -> Result<Plan, AllocError> {
@@ -34,7 +32,7 @@ pub fn plan_of_times(alloc: Global) -> Result<Plan, AllocError> {
 }
 
 /// The description that a configuration names, such as `[day]/[month]/[year]`, made once.
-pub fn plan_of_text(alloc: Global, text: &str) -> Result<Plan, InvalidDescription> {
+pub fn plan_of_text(alloc: Global, text: &str) -> Result<Plan, InvalidFormatDescription> {
     Plan::parse(alloc, text.as_bytes())
 }
 
@@ -44,7 +42,7 @@ pub fn append_line(
     plan: &Plan,
     moment: &OffsetDateTime,
 ) -> Result<(), Format> {
-    plan.format_into(lines, moment, &mut DateState::default())?;
+    moment.format_into(lines, plan)?;
     match lines.push(b'\n') {
         Ok(()) => Ok(()),
         Err(_) => Err(Format::OutOfMemory),

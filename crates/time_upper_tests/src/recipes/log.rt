@@ -1,9 +1,9 @@
-//! The recipe of times of log lines in `docs/RECIPES.md`, which shows it word for word.
+//! The recipe of times of log lines.
 mod tests;
 
-use time_below::Timestamp;
-use time_fmt::Format;
-use time_log::{Decimals, LogTime};
+use time::Timestamp;
+use time::error::Format;
+use time::log::{Decimals, LogTime};
 
 /// The times of a log in UTC, to the millisecond.
 pub fn times_of_log() -> LogTime {

@@ -2,9 +2,9 @@
 use super::{append_line, times_of_log};
 use std::process::Abort;
 use std::test::Fail;
-use time_below::Timestamp;
-use time_fmt::Format;
-use time_log::LogTime;
+use time::Timestamp;
+use time::error::Format;
+use time::log::LogTime;
 
 /// Appends the line. No clause is handed on.
 fn append(

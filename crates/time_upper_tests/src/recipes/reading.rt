@@ -1,8 +1,8 @@
-//! The recipes of `docs/RECIPES.md` that read, which shows each of them word for word.
+//! The recipes that read.
 use std::process::Abort;
 use std::test::Fail;
-use time_below::OffsetDateTime;
-use time_read::{NotRead, rfc3339};
+use time::OffsetDateTime;
+use time::parsing::{NotRead, rfc3339};
 
 /// The moment of an entry such as `2026-11-22T09:55:06.120000000Z up`, by its stamp of 30 bytes.
 pub fn moment_of_entry(entry: &[u8]) -> Option<OffsetDateTime> {
