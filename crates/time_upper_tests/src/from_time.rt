@@ -69,6 +69,8 @@ fn moments_in_json(rt: HostRuntime) -> Result<(), Fail> {
 
 #[test]
 fn now_and_the_offset_of_a_zone(rt: HostRuntime) -> Result<(), Fail> {
+    let now = OffsetDateTime::now_utc(&rt)?;
+    assert_that(&rt, now.offset().is_utc());
     let zone = TimeZone::posix("EST6")?;
     let now = OffsetDateTime::now_local(&rt, &zone)?;
     assert_that(&rt, now.offset().as_hms() == (-6, 0, 0));
