@@ -1,6 +1,5 @@
 //! The sink.
-ghost use Rattle.std.specs.Prelude.{◌≡◌, ◌↔◌, ◌≤◌, ◌/◌, ◌%◌, [], Some, true, pos, IfSome, IsSome};
-ghost use Rattle.std.specs.Duration.{as_nanos};
+ghost use Rattle.std.specs.Prelude.{◌≡◌, [], Some, true};
 
 use crate::line::{TimePlace, TimedLine};
 use crate::out::Out;
@@ -10,9 +9,8 @@ use log::span::Spans;
 use log::{Log, Metadata, Record};
 use std::cell::RefCell;
 use std::fmt::Display;
-use std::io::Write;
+use std::io::{self, Write};
 use std::rt::Clock;
-use std::time::Duration;
 use time_below::Timestamp;
 
 /// Writes each record to `W` with the time that the clock `C` shows, for one thread. The times are
@@ -90,7 +88,7 @@ impl<C: Clock, T: Times, W: Write> Log for Timed<C, T, W> {
 
     fn log<D: Display, K: Source, S: Spans>(&self, record: &Record<'_, D, K, S>) {
         if let Ok(mut lines) = self.lines.try_borrow_mut() {
-            lines.put(self.place, moment_now(&self.clock), record);
+            lines.put(self.place, Timestamp::now(&self.clock), record);
         }
     }
 
@@ -106,46 +104,21 @@ impl<C: Clock, T: Times, W: Write> Log for Timed<C, T, W> {
 }
 
 impl<T: Times, W: Write> Lines<T, W> {
-    /// Writes a record with the text of a moment.
+    /// Writes a record with the text of a moment, if it is known.
     fn put<D: Display, K: Source, S: Spans>(
         &mut self,
         place: TimePlace,
-        moment: Option<Timestamp>,
+        moment: io::Result<Timestamp>,
         record: &Record<'_, D, K, S>,
     ) {
         let text = match moment {
-            Some(moment) => self.times.time_text(moment),
-            None => None,
+            Ok(moment) => self.times.time_text(moment),
+            Err(_) => None,
         };
         let time = match &text {
             Some(text) => Some(text.as_str()),
             None => None,
         };
         self.out.line(TimedLine::new(place, time, record));
-    }
-}
-
-/// The moment that the clock shows, if it can be read and is in range.
-fn moment_now<C: Clock>(clock: &C) -> Option<Timestamp> {
-    match clock.since_1970() {
-        Ok(passed) => moment_after(passed),
-        Err(_) => None,
-    }
-}
-
-/// The moment so long after the beginning of 1970.
-fn moment_after(passed: Duration) -> Option<Timestamp>
-    ensures value { IfSome result (λ m. m ≡ record {
-      seconds = pos (as_nanos passed / 1_000_000_000);
-      nanosecond = as_nanos passed % 1_000_000_000;
-    }) }
-    ensures range { IsSome result ↔ (as_nanos passed / 1_000_000_000 ≤ 31_494_784_780_799) }
-{
-    let Ok(seconds) = i64::try_from(passed.as_secs()) else {
-        return None;
-    };
-    match Timestamp::new(seconds, passed.subsec_nanos()) {
-        Ok(moment) => Some(moment),
-        Err(_) => None,
     }
 }

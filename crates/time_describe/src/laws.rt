@@ -1,5 +1,6 @@
 //! Laws of descriptions, for all texts.
-ghost use Rattle.std.specs.Prelude.{◌≡◌, ◌<◌, ◌≤◌, ℕ, List, [], length, Ok, Some};
+ghost use Rattle.std.specs.Prelude.{◌≡◌, ◌↔◌, ◌<◌, ◌≤◌, IsTrue, ℕ, List, [], length, Ok, Some};
+ghost use Rattle.time_below.specs.Clones.{AreSame};
 ghost use Rattle.time_below.specs.Tree.{Tree};
 ghost use Rattle.time_describe.specs.Conversions.{composition, composed};
 ghost use Rattle.time_describe.specs.Grammar.{Parts, spelling, Means};
@@ -9,6 +10,13 @@ ghost use Rattle.time_describe.specs.Strftime as strftime;
 ghost use Rattle.time_describe.specs.StrftimeGrammar as strftime_grammar;
 ghost use Rattle.time_describe.specs.StrftimeGrammar.{Part};
 ghost use Rattle.time_describe.specs.declared.strftime.fault.StrftimeReason.TheVariants as StrftimeReason;
+
+use crate::description::InvalidDescription;
+use crate::fault::Reason;
+use crate::in_text::InText;
+use crate::pieces::Nest;
+use crate::strftime::InvalidStrftime;
+use crate::strftime::fault::StrftimeReason;
 
 /// Each text that the grammar spells is a description, of the items that the grammar says.
 pub fn what_is_spelled_is_described()
@@ -43,4 +51,38 @@ pub fn what_strftime_describes_is_spelled()
 /// A composition is what its text describes.
 pub fn what_a_composition_means()
     ensures { (letter : ℕ) (text : List ℕ) → composition letter ≡ Some text → strftime.described text ≡ Ok (composed text) }
+{}
+
+/// A clone of what is wrong, of an error or of what lists in brackets are is the same.
+pub fn clones_of_faults()
+    ensures reason { AreSame ⟦<Reason as Clone>⟧.is_clone }
+    ensures strftime_reason { AreSame ⟦<StrftimeReason as Clone>⟧.is_clone }
+    ensures description { AreSame ⟦<InvalidDescription as Clone>⟧.is_clone }
+    ensures strftime { AreSame ⟦<InvalidStrftime as Clone>⟧.is_clone }
+    ensures nest { AreSame ⟦<Nest as Clone>⟧.is_clone }
+{}
+
+/// A clone of an error beside its text has the same error and the same text.
+pub fn clones_of_errors_in_text(shown: InText<'_>, copy: InText<'_>)
+    ensures error { ⟦<InText<'static> as Clone>⟧.is_clone shown.entry copy.entry
+        → copy.entry.error ≡ shown.entry.error }
+    ensures text { ⟦<InText<'static> as Clone>⟧.is_clone shown.entry copy.entry
+        → copy.entry.text.now ≡ shown.entry.text.now }
+{}
+
+/// Two reasons of one syntax are equal exactly if they are the same.
+pub fn reason_equality(a: Reason, b: Reason, c: StrftimeReason, d: StrftimeReason)
+    ensures brackets { IsTrue (⟦<Reason as PartialEq>⟧.eq a b) ↔ (a ≡ b) }
+    ensures strftime { IsTrue (⟦<StrftimeReason as PartialEq>⟧.eq c d) ↔ (c ≡ d) }
+{}
+
+/// Two errors of one syntax are equal exactly if they are the same.
+pub fn error_equality(
+    a: InvalidDescription,
+    b: InvalidDescription,
+    c: InvalidStrftime,
+    d: InvalidStrftime,
+)
+    ensures brackets { IsTrue (⟦<InvalidDescription as PartialEq>⟧.eq a b) ↔ (a ≡ b) }
+    ensures strftime { IsTrue (⟦<InvalidStrftime as PartialEq>⟧.eq c d) ↔ (c ≡ d) }
 {}
