@@ -30,7 +30,7 @@ def sources():
     """The files that the gate compiles, by the language of the blocks that show them."""
     rust = [*TOP.glob("bindings/rust*/examples/*.rs"), *TOP.glob("bindings/rust*/src/*.rs")]
     texts = [path.read_text() for path in rust]
-    rattle = [read("crates/time_example/src/main.rt"), *map(read, RECIPES)]
+    rattle = [*(read(f"crates/{name}_example/src/main.rt") for name in ("log", "time")), *map(read, RECIPES)]
     return {
         "rust": [*rattle, *texts, *map(without_marks, texts)],
         "c": [path.read_text() for path in (TOP / "bindings/c").glob("*.c")],

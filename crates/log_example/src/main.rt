@@ -3,8 +3,7 @@
 #![tactic(auto)]
 
 use log::{Level, Log, Logged, info};
-use log_time::Timed;
-use time_log::{Decimals, LogTime};
+use log_time::{Decimals, LogTime, Timed};
 
 fn serve<R: Log>(rt: &R, id: u32) {
     let rt = rt.span("request").with("id", id);

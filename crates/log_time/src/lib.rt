@@ -9,5 +9,6 @@ mod zone;
 
 pub use line::{TimePlace, TimedLine};
 pub use sink::Timed;
+pub use time_log::{Decimals, LogTime};
 pub use times::Times;
 pub use zone::ZoneTimes;

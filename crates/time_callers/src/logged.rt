@@ -1,9 +1,8 @@
 //! A caller of `log_time`.
 use log::{Level, Log, Logged, info};
-use log_time::Timed;
+use log_time::{Decimals, LogTime, Timed};
 use std::io::Write;
 use std::rt::Clock;
-use time_log::{Decimals, LogTime};
 
 /// Logs a start to a writer, with its time in UTC, as `[2026-11-22T09:55:06.120Z INFO  app] started`
 /// in a program `app`.

@@ -1,6 +1,7 @@
-//! Tests of the crates above the formatter by public calls: of `time_describe`, `time_plan`, `time`, `line_streams`,
-//! `time_lines`, `time_jiff` and `time_serde`, of the lines of `docs/FROM.md` in Rattle, and of the recipes. One
-//! library reads all crates below once, and `time_describe` stands on `time_below` alone.
+//! Tests of the crates above the formatter by public calls: of `time_describe`, `time_plan`, `time`,
+//! `line_streams`, `time_lines`, `time_jiff`, `log_time` and `time_serde`, of the lines of `docs/FROM.md` in
+//! Rattle, and of the recipes. One library reads all crates below once, and `time_describe` stands on
+//! `time_below` alone.
 #![tactic(auto)]
 
 #[cfg(test)]
@@ -15,6 +16,8 @@ mod from_time;
 mod jiff_values;
 #[cfg(test)]
 mod lines;
+#[cfg(test)]
+mod log_lines;
 #[cfg(test)]
 mod recipes;
 #[cfg(test)]
