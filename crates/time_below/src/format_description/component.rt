@@ -14,7 +14,7 @@ use crate::format_description::modifier::{
 };
 
 /// A part of a text that is taken from a value.
-#[derive(Clone, Copy)]
+#[derive(Debug, Clone, Copy, PartialEq, Eq)]
 pub enum Component {
     /// The day of the month, 1 to 31, in two places.
     Day(modifier::Day),
@@ -106,7 +106,7 @@ pub enum Component {
 }
 
 /// The part of a value that a component is taken from.
-#[derive(Clone, Copy)]
+#[derive(Debug, Clone, Copy, PartialEq, Eq)]
 pub enum Group {
     /// The date: the years, the month, the days, the weekday and the weeks.
     Date,

@@ -1,7 +1,7 @@
 //! The choices that a component has.
 
 /// The padding before a number that is shorter than its places.
-#[derive(Clone, Copy)]
+#[derive(Debug, Clone, Copy, PartialEq, Eq)]
 pub enum Padding {
     /// Spaces.
     Space,
@@ -12,7 +12,7 @@ pub enum Padding {
 }
 
 /// How many decimals of a second are written. Those that are left out are not rounded.
-#[derive(Clone, Copy)]
+#[derive(Debug, Clone, Copy, PartialEq, Eq)]
 pub enum SubsecondDigits {
     /// Tenths of a second.
     One,
@@ -37,7 +37,7 @@ pub enum SubsecondDigits {
 }
 
 /// What may follow the end of a description, which is for parsers alone.
-#[derive(Clone, Copy)]
+#[derive(Debug, Clone, Copy, PartialEq, Eq)]
 pub enum TrailingInput {
     /// Nothing.
     Prohibit,
@@ -46,84 +46,84 @@ pub enum TrailingInput {
 }
 
 /// The day of the month, 1 to 31, in two places.
-#[derive(Clone, Copy)]
+#[derive(Debug, Clone, Copy, PartialEq, Eq)]
 pub struct Day {
     /// The padding before a number of one digit.
     pub padding: Padding,
 }
 
 /// The first three letters of the month's English name.
-#[derive(Clone, Copy)]
+#[derive(Debug, Clone, Copy, PartialEq, Eq)]
 pub struct MonthShort {
     /// Read by parsers alone.
     pub case_sensitive: bool,
 }
 
 /// The month's English name, at most nine letters.
-#[derive(Clone, Copy)]
+#[derive(Debug, Clone, Copy, PartialEq, Eq)]
 pub struct MonthLong {
     /// Read by parsers alone.
     pub case_sensitive: bool,
 }
 
 /// The month, 1 to 12, in two places.
-#[derive(Clone, Copy)]
+#[derive(Debug, Clone, Copy, PartialEq, Eq)]
 pub struct MonthNumerical {
     /// The padding before a number of one digit.
     pub padding: Padding,
 }
 
 /// The day of the year, 1 to 366, in three places (ISO 8601-1:2019, ordinal date).
-#[derive(Clone, Copy)]
+#[derive(Debug, Clone, Copy, PartialEq, Eq)]
 pub struct Ordinal {
     /// The padding before a number of fewer than three digits.
     pub padding: Padding,
 }
 
 /// The first three letters of the weekday's English name.
-#[derive(Clone, Copy)]
+#[derive(Debug, Clone, Copy, PartialEq, Eq)]
 pub struct WeekdayShort {
     /// Read by parsers alone.
     pub case_sensitive: bool,
 }
 
 /// The weekday's English name, at most nine letters.
-#[derive(Clone, Copy)]
+#[derive(Debug, Clone, Copy, PartialEq, Eq)]
 pub struct WeekdayLong {
     /// Read by parsers alone.
     pub case_sensitive: bool,
 }
 
 /// The weekday by one digit from Sunday on, 0 to 6 or 1 to 7.
-#[derive(Clone, Copy)]
+#[derive(Debug, Clone, Copy, PartialEq, Eq)]
 pub struct WeekdaySunday {
     /// Whether Sunday is 1, and not 0.
     pub one_indexed: bool,
 }
 
 /// The weekday by one digit from Monday on, 0 to 6 or 1 to 7.
-#[derive(Clone, Copy)]
+#[derive(Debug, Clone, Copy, PartialEq, Eq)]
 pub struct WeekdayMonday {
     /// Whether Monday is 1, and not 0.
     pub one_indexed: bool,
 }
 
 /// The week of the week calendar, 1 to 53, in two places (ISO 8601-1:2019, week date).
-#[derive(Clone, Copy)]
+#[derive(Debug, Clone, Copy, PartialEq, Eq)]
 pub struct WeekNumberIso {
     /// The padding before a number of one digit.
     pub padding: Padding,
 }
 
 /// The week of the year, 0 to 53, in two places, where week 1 begins on the first Sunday.
-#[derive(Clone, Copy)]
+#[derive(Debug, Clone, Copy, PartialEq, Eq)]
 pub struct WeekNumberSunday {
     /// The padding before a number of one digit.
     pub padding: Padding,
 }
 
 /// The week of the year, 0 to 53, in two places, where week 1 begins on the first Monday.
-#[derive(Clone, Copy)]
+#[derive(Debug, Clone, Copy, PartialEq, Eq)]
 pub struct WeekNumberMonday {
     /// The padding before a number of one digit.
     pub padding: Padding,
@@ -131,7 +131,7 @@ pub struct WeekNumberMonday {
 
 /// The year, -999,999 to 999,999, in at least four places, after a sign if it is negative or above
 /// 9,999.
-#[derive(Clone, Copy)]
+#[derive(Debug, Clone, Copy, PartialEq, Eq)]
 pub struct CalendarYearFullExtendedRange {
     /// The padding before a number of fewer than four digits.
     pub padding: Padding,
@@ -140,7 +140,7 @@ pub struct CalendarYearFullExtendedRange {
 }
 
 /// The year, -9,999 to 9,999, in four places. Every other year is refused.
-#[derive(Clone, Copy)]
+#[derive(Debug, Clone, Copy, PartialEq, Eq)]
 pub struct CalendarYearFullStandardRange {
     /// The padding before a number of fewer than four digits.
     pub padding: Padding,
@@ -150,7 +150,7 @@ pub struct CalendarYearFullStandardRange {
 
 /// The year without its last two digits, -9,999 to 9,999, in at least two places, after a sign if
 /// the year is negative or above 9,999.
-#[derive(Clone, Copy)]
+#[derive(Debug, Clone, Copy, PartialEq, Eq)]
 pub struct CalendarYearCenturyExtendedRange {
     /// The padding before a number of one digit.
     pub padding: Padding,
@@ -159,7 +159,7 @@ pub struct CalendarYearCenturyExtendedRange {
 }
 
 /// The year without its last two digits, -99 to 99, in two places. Every other one is refused.
-#[derive(Clone, Copy)]
+#[derive(Debug, Clone, Copy, PartialEq, Eq)]
 pub struct CalendarYearCenturyStandardRange {
     /// The padding before a number of one digit.
     pub padding: Padding,
@@ -168,7 +168,7 @@ pub struct CalendarYearCenturyStandardRange {
 }
 
 /// The last two digits of the year, 0 to 99, in two places, unsigned.
-#[derive(Clone, Copy)]
+#[derive(Debug, Clone, Copy, PartialEq, Eq)]
 pub struct CalendarYearLastTwo {
     /// The padding before a number of one digit.
     pub padding: Padding,
@@ -176,7 +176,7 @@ pub struct CalendarYearLastTwo {
 
 /// The year of the week calendar, -999,999 to 999,999, in at least four places, after a sign if it
 /// is negative or above 9,999 (ISO 8601-1:2019, week date).
-#[derive(Clone, Copy)]
+#[derive(Debug, Clone, Copy, PartialEq, Eq)]
 pub struct IsoYearFullExtendedRange {
     /// The padding before a number of fewer than four digits.
     pub padding: Padding,
@@ -185,7 +185,7 @@ pub struct IsoYearFullExtendedRange {
 }
 
 /// The year of the week calendar, -9,999 to 9,999, in four places. Every other year is refused.
-#[derive(Clone, Copy)]
+#[derive(Debug, Clone, Copy, PartialEq, Eq)]
 pub struct IsoYearFullStandardRange {
     /// The padding before a number of fewer than four digits.
     pub padding: Padding,
@@ -195,7 +195,7 @@ pub struct IsoYearFullStandardRange {
 
 /// The year of the week calendar without its last two digits, -9,999 to 9,999, in at least two
 /// places, after a sign if the year is negative or above 9,999.
-#[derive(Clone, Copy)]
+#[derive(Debug, Clone, Copy, PartialEq, Eq)]
 pub struct IsoYearCenturyExtendedRange {
     /// The padding before a number of one digit.
     pub padding: Padding,
@@ -205,7 +205,7 @@ pub struct IsoYearCenturyExtendedRange {
 
 /// The year of the week calendar without its last two digits, -99 to 99, in two places. Every
 /// other one is refused.
-#[derive(Clone, Copy)]
+#[derive(Debug, Clone, Copy, PartialEq, Eq)]
 pub struct IsoYearCenturyStandardRange {
     /// The padding before a number of one digit.
     pub padding: Padding,
@@ -214,35 +214,35 @@ pub struct IsoYearCenturyStandardRange {
 }
 
 /// The last two digits of the year of the week calendar, 0 to 99, in two places, unsigned.
-#[derive(Clone, Copy)]
+#[derive(Debug, Clone, Copy, PartialEq, Eq)]
 pub struct IsoYearLastTwo {
     /// The padding before a number of one digit.
     pub padding: Padding,
 }
 
 /// The hour of the 12-hour clock, 1 to 12, in two places.
-#[derive(Clone, Copy)]
+#[derive(Debug, Clone, Copy, PartialEq, Eq)]
 pub struct Hour12 {
     /// The padding before a number of one digit.
     pub padding: Padding,
 }
 
 /// The hour of the day, 0 to 23, in two places.
-#[derive(Clone, Copy)]
+#[derive(Debug, Clone, Copy, PartialEq, Eq)]
 pub struct Hour24 {
     /// The padding before a number of one digit.
     pub padding: Padding,
 }
 
 /// The minute of the hour, 0 to 59, in two places.
-#[derive(Clone, Copy)]
+#[derive(Debug, Clone, Copy, PartialEq, Eq)]
 pub struct Minute {
     /// The padding before a number of one digit.
     pub padding: Padding,
 }
 
 /// The half of the day by two letters: before noon, or from noon on.
-#[derive(Clone, Copy)]
+#[derive(Debug, Clone, Copy, PartialEq, Eq)]
 pub struct Period {
     /// Whether the letters are capitals.
     pub is_uppercase: bool,
@@ -251,21 +251,21 @@ pub struct Period {
 }
 
 /// The second of the minute, 0 to 59, in two places.
-#[derive(Clone, Copy)]
+#[derive(Debug, Clone, Copy, PartialEq, Eq)]
 pub struct Second {
     /// The padding before a number of one digit.
     pub padding: Padding,
 }
 
 /// The decimals of the second, one to nine digits, not rounded.
-#[derive(Clone, Copy)]
+#[derive(Debug, Clone, Copy, PartialEq, Eq)]
 pub struct Subsecond {
     /// How many decimals are written.
     pub digits: SubsecondDigits,
 }
 
 /// The hour of the offset from UTC, 0 to 25, in two places, after the sign of the whole offset.
-#[derive(Clone, Copy)]
+#[derive(Debug, Clone, Copy, PartialEq, Eq)]
 pub struct OffsetHour {
     /// The padding before a number of one digit.
     pub padding: Padding,
@@ -274,49 +274,49 @@ pub struct OffsetHour {
 }
 
 /// The minute of the offset from UTC, 0 to 59, in two places, without a sign.
-#[derive(Clone, Copy)]
+#[derive(Debug, Clone, Copy, PartialEq, Eq)]
 pub struct OffsetMinute {
     /// The padding before a number of one digit.
     pub padding: Padding,
 }
 
 /// The second of the offset from UTC, 0 to 59, in two places, without a sign.
-#[derive(Clone, Copy)]
+#[derive(Debug, Clone, Copy, PartialEq, Eq)]
 pub struct OffsetSecond {
     /// The padding before a number of one digit.
     pub padding: Padding,
 }
 
 /// The seconds since 1970-01-01T00:00:00 UTC, rounded down, at most 14 digits.
-#[derive(Clone, Copy)]
+#[derive(Debug, Clone, Copy, PartialEq, Eq)]
 pub struct UnixTimestampSecond {
     /// Whether a plus is written before a number that is not negative.
     pub sign_is_mandatory: bool,
 }
 
 /// The milliseconds since 1970-01-01T00:00:00 UTC, rounded toward zero, at most 17 digits.
-#[derive(Clone, Copy)]
+#[derive(Debug, Clone, Copy, PartialEq, Eq)]
 pub struct UnixTimestampMillisecond {
     /// Whether a plus is written before a number that is not negative.
     pub sign_is_mandatory: bool,
 }
 
 /// Nothing: bytes that a parser passes over.
-#[derive(Clone, Copy)]
+#[derive(Debug, Clone, Copy, PartialEq, Eq)]
 pub struct Ignore {
     /// How many bytes, for parsers alone.
     pub count: u16,
 }
 
 /// Nothing: the end of what a parser reads.
-#[derive(Clone, Copy)]
+#[derive(Debug, Clone, Copy, PartialEq, Eq)]
 pub struct End {
     /// What may follow, for parsers alone.
     pub trailing_input: TrailingInput,
 }
 
 /// How a month is written.
-#[derive(Clone, Copy)]
+#[derive(Debug, Clone, Copy, PartialEq, Eq)]
 pub enum MonthRepr {
     /// The number, 1 to 12.
     Numerical,
@@ -327,7 +327,7 @@ pub enum MonthRepr {
 }
 
 /// How a weekday is written.
-#[derive(Clone, Copy)]
+#[derive(Debug, Clone, Copy, PartialEq, Eq)]
 pub enum WeekdayRepr {
     /// The first three letters of the name.
     Short,
@@ -340,7 +340,7 @@ pub enum WeekdayRepr {
 }
 
 /// Which weeks of the year are counted.
-#[derive(Clone, Copy)]
+#[derive(Debug, Clone, Copy, PartialEq, Eq)]
 pub enum WeekNumberRepr {
     /// Those of the week calendar.
     Iso,
@@ -351,7 +351,7 @@ pub enum WeekNumberRepr {
 }
 
 /// What of a year is written.
-#[derive(Clone, Copy)]
+#[derive(Debug, Clone, Copy, PartialEq, Eq)]
 pub enum YearRepr {
     /// The whole year.
     Full,
@@ -362,7 +362,7 @@ pub enum YearRepr {
 }
 
 /// How great a year may be.
-#[derive(Clone, Copy)]
+#[derive(Debug, Clone, Copy, PartialEq, Eq)]
 pub enum YearRange {
     /// The years -9999 to 9999.
     Standard,
@@ -371,7 +371,7 @@ pub enum YearRange {
 }
 
 /// The unit in which a moment is counted.
-#[derive(Clone, Copy)]
+#[derive(Debug, Clone, Copy, PartialEq, Eq)]
 pub enum UnixTimestampPrecision {
     /// Whole seconds, rounded down.
     Second,
@@ -380,7 +380,7 @@ pub enum UnixTimestampPrecision {
 }
 
 /// Deprecated: a month, by its number or its name.
-#[derive(Clone, Copy)]
+#[derive(Debug, Clone, Copy, PartialEq, Eq)]
 pub struct Month {
     /// The padding of the number; names have none.
     pub padding: Padding,
@@ -391,7 +391,7 @@ pub struct Month {
 }
 
 /// Deprecated: a weekday, by its name or a digit.
-#[derive(Clone, Copy)]
+#[derive(Debug, Clone, Copy, PartialEq, Eq)]
 pub struct Weekday {
     /// The name or a digit.
     pub repr: WeekdayRepr,
@@ -402,7 +402,7 @@ pub struct Weekday {
 }
 
 /// Deprecated: a week of the year.
-#[derive(Clone, Copy)]
+#[derive(Debug, Clone, Copy, PartialEq, Eq)]
 pub struct WeekNumber {
     /// The padding before a number of one digit.
     pub padding: Padding,
@@ -411,7 +411,7 @@ pub struct WeekNumber {
 }
 
 /// Deprecated: an hour of the day.
-#[derive(Clone, Copy)]
+#[derive(Debug, Clone, Copy, PartialEq, Eq)]
 pub struct Hour {
     /// The padding before a number of one digit.
     pub padding: Padding,
@@ -420,7 +420,7 @@ pub struct Hour {
 }
 
 /// Deprecated: the time since 1970-01-01T00:00:00 UTC.
-#[derive(Clone, Copy)]
+#[derive(Debug, Clone, Copy, PartialEq, Eq)]
 pub struct UnixTimestamp {
     /// The unit that is counted.
     pub precision: UnixTimestampPrecision,
@@ -429,7 +429,7 @@ pub struct UnixTimestamp {
 }
 
 /// Deprecated: a year, or a part of one.
-#[derive(Clone, Copy)]
+#[derive(Debug, Clone, Copy, PartialEq, Eq)]
 pub struct Year {
     /// The padding before a number that is shorter than its places.
     pub padding: Padding,
