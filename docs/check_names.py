@@ -124,7 +124,7 @@ def is_there(name, tops, defined):
 
 def unknown_in_contributing(page, below):
     """What a step or a row of CONTRIBUTING.md names, and no crate that it names has; and how many names were looked for."""
-    walks = page.split("## What you add, which files")[1].split("## Goals not met")[0]
+    walks = page.split("## What you add, which files")[1].split("## The gate")[0]
     kinds = {it for path in (TOP / "bindings/rust/src").glob("*.rs") for pattern in DEFINED for it in pattern.findall(path.read_text())}
     wrong, count = [], 0
     for step in re.findall(r"^(?:\d+\. |\| (?!You add|---)).*$", walks, re.M):

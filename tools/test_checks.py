@@ -34,12 +34,12 @@ CHANGES = {
     ],
     "docs/check_figures.py": [
         ("README.md", r"^(\| RFC 2822, in Rattle \| )\d+", r"\g<1>1", "RFC 2822, in Rattle: 1 and "),
-        ("README.md", r"counted at commit \w+", "counted at commit 0", "chart names another commit"),
+        ("docs/speed.svg", r'<desc class="value">\d+', '<desc class="value">1', "docs/speed.svg: 6169-W33-6, {fmt}: 1, and "),
         ("docs/PERFORMANCE.md", r"takes (\d+ to )\d+ instructions in the first table", r"takes \g<1>1 instructions in the first table", "docs/PERFORMANCE.md does not say"),
     ],
     "docs/check_from.py": [
-        ("docs/FROM.md", r"`Rfc2822\.format\(alloc, ", "`Rfc2822.format(", "docs/FROM.md, in Rattle: Rfc2822.format("),
-        ("docs/FROM.md", r"`Sun, 22 Nov", "`Mon, 22 Nov", "docs/FROM.md, in Rattle: `Mon, 22 Nov".replace("`", "")),
+        ("docs/FROM.md", r"`moment\.format\(alloc, &Rfc3339\)", "`moment.format(&Rfc3339)", "docs/FROM.md, in Rattle: moment.format(&Rfc3339)"),
+        ("docs/FROM.md", r"`Sun, 22 Nov", "`Mon, 22 Nov", "docs/FROM.md, in Rust: Mon, 22 Nov"),
     ],
     "docs/check_front_page.py": [
         ("README.md", r"^\./gate --tests$", "./gate --test", "the documents and the code differ: ./gate --test"),
