@@ -14,3 +14,4 @@ pub mod StrftimeLemmas
 pub mod StrftimeConversions
 pub mod StrftimeParts
 pub mod StrftimeLaws
+pub mod CountedLemmas

@@ -1,5 +1,5 @@
 -- What a text is as a whole.
-use Rattle.std.specs.Prelude.{◌≡◌, ℕ, ◌-◌, ◌<◌, Bool, IsTrue, List, Result, Ok, Err}
+use Rattle.std.specs.Prelude.{◌≡◌, ℕ, ◌-◌, ◌<◌, Bool, IsTrue, IsOk, List, Result, Ok, Err}
 use Rattle.time_below.specs.Tree.{Tree, trees, all_of}
 use Rattle.time_describe.specs.declared.fault.Fault.{Fault}
 use Rattle.time_describe.specs.declared.description.InvalidDescription.{InvalidDescription}
@@ -24,3 +24,8 @@ IsWithin len (error.Invalid reason index) = index < len
 abbrev pub MayRefuse : Bool → InvalidDescription → Type 0
 MayRefuse can_refuse error.OutOfMemory = IsTrue can_refuse
 MayRefuse can_refuse (error.Invalid reason index) = Unit {0}
+
+-- an error of memory is said only where the text is a description, so what is wrong with another one is always said
+abbrev pub SaysFault : {A : Type 0} → Result A Fault → InvalidDescription → Type 0
+SaysFault read error.OutOfMemory = IsOk read
+SaysFault read (error.Invalid reason index) = Unit {0}

@@ -14,3 +14,4 @@ pub mod Conversions
 pub mod Strftime
 pub mod StrftimeOutcome
 pub mod StrftimeGrammar
+pub mod Counted

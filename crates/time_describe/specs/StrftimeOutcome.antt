@@ -1,5 +1,5 @@
 -- What calls return that read the syntax of strftime.
-use Rattle.std.specs.Prelude.{◌≡◌, ℕ, ◌+◌, ◌-◌, ◌<◌, Bool, true, false, IsTrue, List, [], ◌∷◌, take, drop, Some, Result, Ok, Err}
+use Rattle.std.specs.Prelude.{◌≡◌, ℕ, ◌+◌, ◌-◌, ◌<◌, Bool, true, false, IsTrue, IsOk, List, [], ◌∷◌, take, drop, Some, Result, Ok, Err}
 use Rattle.time_below.specs.Tree.{Tree, trees, of_component, all_of}
 use Rattle.time_below.specs.declared.format_description.component.Component.{Component}
 use Rattle.time_describe.specs.Conversions.{component_of, offset, composed}
@@ -59,6 +59,11 @@ IsWithin len (error.Invalid reason index) = index < len
 abbrev pub MayRefuse : Bool → InvalidStrftime → Type 0
 MayRefuse can_refuse error.OutOfMemory = IsTrue can_refuse
 MayRefuse can_refuse (error.Invalid reason index) = Unit {0}
+
+-- an error of memory is said only where the text is a description, so what is wrong with another one is always said
+abbrev pub SaysFault : {A : Type 0} → Result A Fault → InvalidStrftime → Type 0
+SaysFault read error.OutOfMemory = IsOk read
+SaysFault read (error.Invalid reason index) = Unit {0}
 
 -- a failure is of memory, where a list may refuse an item, or it is the fault
 abbrev pub Fails : {A : Type 0} → Bool → Failure → Result A Fault → Type 0

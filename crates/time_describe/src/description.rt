@@ -1,11 +1,12 @@
 //! Descriptions that own their parts, from a text.
 ghost use Rattle.std.specs.Prelude.{◌≡◌, [], length, Ok, IfOk, IfErr, OnOk};
 ghost use Rattle.time_below.specs.Tree.{owned_tree};
-ghost use Rattle.time_describe.specs.Description.{tree_of, IsWithin, MayRefuse, Says};
+ghost use Rattle.time_describe.specs.Description.{tree_of, IsWithin, MayRefuse, Says, SaysFault};
 ghost use Rattle.time_describe.specs.Outcome.{Fails, IsFound};
 ghost use Rattle.time_describe.specs.Reading.{described, read, outside};
 
 use crate::building::step;
+use crate::counted::Counted;
 use crate::fault::{Failure, Fault, Reason};
 use crate::frame::Frames;
 use crate::in_text::InText;
@@ -103,20 +104,35 @@ pub fn describe<I: Items>(items: &mut I, text: &[u8]) -> Result<(), InvalidDescr
     }
 }
 
+/// What is said of a text for which an allocation has failed: that, where the text is a description, and
+/// what is wrong with it elsewhere.
+fn refusal(text: &[u8]) -> InvalidDescription
+    ensures says { Says (length text.now) (described text.now) result }
+    ensures inside { IsWithin (length text.now) result }
+    ensures says_fault { SaysFault (described text.now) result }
+{
+    match describe(&mut Counted::new(), text) {
+        Ok(()) => InvalidDescription::OutOfMemory,
+        Err(error) => error,
+    }
+}
+
 /// The description that a text is, in the syntax of `time`'s format descriptions, version 2, as
 /// `[year]-[month]-[day]`.
 ///
-/// An error says the first fault and the index of its byte, or that an allocation failed; nothing
-/// is kept then. Lists may be 32 deep in one another, and 65,536 items may begin. Of a text in which more
+/// An error says the first fault and the index of its byte. Only of a text without a fault it says that an
+/// allocation failed. Nothing is kept then. Lists may be 32 deep in one another, and 65,536 items may begin. Of a text in which more
 /// begin, that alone is said.
 pub fn parse_owned(alloc: Global, text: &[u8]) -> Result<OwnedFormatItem, InvalidDescription>
     ensures found { IfOk result (λ item. tree_of (described text.now) ≡ Ok (owned_tree item)) }
     ensures says { IfErr result (Says (length text.now) (described text.now)) }
     ensures inside { IfErr result (IsWithin (length text.now)) }
+    ensures says_fault { IfErr result (SaysFault (described text.now)) }
 {
     let mut items = OwnedList::new(alloc);
     match describe(&mut items, text) {
         Ok(()) => Ok(OwnedFormatItem::Compound(items.into_items())),
+        Err(InvalidDescription::OutOfMemory) => Err(refusal(text)),
         Err(error) => Err(error),
     }
 }

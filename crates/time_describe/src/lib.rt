@@ -2,6 +2,7 @@
 #![tactic(auto)]
 
 mod building;
+mod counted;
 mod description;
 mod fault;
 mod frame;

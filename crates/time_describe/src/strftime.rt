@@ -8,8 +8,9 @@ ghost use Rattle.time_below.specs.Tree.{Tree, owned_tree};
 ghost use Rattle.time_describe.specs.Conversions.{composed, offset};
 ghost use Rattle.time_describe.specs.Items.{Adds, are_leaves};
 ghost use Rattle.time_describe.specs.Strftime.{described, first_part, read};
-ghost use Rattle.time_describe.specs.StrftimeOutcome.{AddsFront, AddsLetter, items_of_part, tree_of, Fails, GoesOn, IsFound, IsWithin, MayRefuse, Says};
+ghost use Rattle.time_describe.specs.StrftimeOutcome.{AddsFront, AddsLetter, items_of_part, tree_of, Fails, GoesOn, IsFound, IsWithin, MayRefuse, Says, SaysFault};
 
+use crate::counted::Counted;
 use crate::items::Items;
 use crate::literal::MOST_ITEMS;
 use crate::owned_list::OwnedList;
@@ -256,18 +257,36 @@ pub fn describe_strftime<I: Items>(items: &mut I, text: &[u8]) -> Result<(), Inv
     }
 }
 
+/// What is said of a text for which an allocation has failed: that, where the text is a description, and
+/// what is wrong with it elsewhere.
+fn refusal(text: &[u8]) -> InvalidStrftime
+    ensures says { Says (length text.now) (described text.now) result }
+    ensures inside { IsWithin (length text.now) result }
+    ensures says_fault { SaysFault (described text.now) result }
+{
+    match describe_strftime(&mut Counted::new(), text) {
+        Ok(()) => InvalidStrftime::OutOfMemory,
+        Err(error) => error,
+    }
+}
+
 /// The description that a text in the syntax of strftime is.
 ///
 /// Each run of bytes other than `%` is one literal, a text where it is UTF-8. Each conversion is
 /// the items that `specs/Conversions.antt` lists for it. There are at most 65,536 items.
+///
+/// An error says the first fault and the index of its byte. Only of a text without a fault it says that an
+/// allocation failed.
 pub fn parse_strftime_owned(alloc: Global, text: &[u8]) -> Result<OwnedFormatItem, InvalidStrftime>
     ensures found { IfOk result (λ item. tree_of (described text.now) ≡ Ok (owned_tree item)) }
     ensures says { IfErr result (Says (length text.now) (described text.now)) }
     ensures inside { IfErr result (IsWithin (length text.now)) }
+    ensures says_fault { IfErr result (SaysFault (described text.now)) }
 {
     let mut items = OwnedList::new(alloc);
     match describe_strftime(&mut items, text) {
         Ok(()) => Ok(OwnedFormatItem::Compound(items.into_items())),
+        Err(InvalidStrftime::OutOfMemory) => Err(refusal(text)),
         Err(error) => Err(error),
     }
 }

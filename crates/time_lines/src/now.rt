@@ -6,7 +6,7 @@ ghost use Rattle.time_lines.specs.Shown.{SameShown};
 use crate::shown::Shown;
 use line_streams::{FilterError, LineJob};
 use std::alloc::AllocError;
-use std::time::{Clock, SystemTime};
+use std::time::Clock;
 use time_below::Timestamp;
 
 /// Puts before each line what is shown of the moment at which it was read, and a space unless that is empty or
@@ -17,23 +17,6 @@ pub struct NowJob<'a, C: Clock, S: Shown + Drop> {
     pub shown: S,
     /// What stands before a line.
     pub stamp: Vec<u8>,
-}
-
-/// The moment that the clock shows, if it can be read and the year is in range.
-fn moment_now<C: Clock>(clock: &C) -> Option<Timestamp> {
-    let Ok(now) = SystemTime::now(clock) else {
-        return None;
-    };
-    let Ok(passed) = now.duration_since(SystemTime::UNIX_EPOCH) else {
-        return None;
-    };
-    let Ok(seconds) = i64::try_from(passed.as_secs()) else {
-        return None;
-    };
-    match Timestamp::new(seconds, passed.subsec_nanos()) {
-        Ok(moment) => Some(moment),
-        Err(_) => None,
-    }
 }
 
 /// Appends a space, unless the text is empty or ends with one.
@@ -70,7 +53,7 @@ impl<C: Clock, S: Shown + Drop> LineJob for NowJob<'_, C, S> {
     ghost is_ready = { λ job. IsStamp (S.shows job.shown) job.stamp.items };
 
     fn prepare(&mut self) -> Result<(), FilterError> {
-        let Some(moment) = moment_now(self.clock) else {
+        let Ok(moment) = Timestamp::now(self.clock) else {
             return Err(FilterError::Job);
         };
         put_stamp(&mut self.shown, &mut self.stamp, &moment)?;

@@ -1,5 +1,5 @@
 //! Unix time in lines, replaced by its text.
-ghost use Rattle.std.specs.Prelude.{◌≡◌, ◌≤◌, ◌-◌, ◌++◌, true, length, take, drop, OnOk, if◌then◌else◌};
+ghost use Rattle.std.specs.Prelude.{◌≡◌, ◌≤◌, ◌+◌, ◌-◌, min, ◌++◌, true, length, take, drop, OnOk, if◌then◌else◌};
 ghost use Rattle.line_streams.specs.Filter.{Adds};
 ghost use Rattle.time_lines.specs.Number.{digit_count, number_at};
 ghost use Rattle.time_lines.specs.Unix.{NumberBecomes, UnixBecomes};
@@ -127,8 +127,10 @@ fn append_found<S: Shown>(
     }
 }
 
-/// Counts one line more.
-pub(crate) fn count_passed(number: &mut u64) {
+/// Counts one line more, up to the greatest `u64`.
+pub(crate) fn count_passed(number: &mut u64)
+    ensures { number.new ≡ min (number.old + 1) 0xffff_ffff_ffff_ffff }
+{
     *number = number.saturating_add(1);
 }
 

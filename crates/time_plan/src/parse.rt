@@ -16,7 +16,8 @@ impl Plan {
     /// The plan of a text in the syntax of `time`'s format descriptions, version 2, as
     /// `[year]-[month]-[day]`.
     ///
-    /// An error is that of `parse_owned` of `time_describe`, or says that an allocation failed.
+    /// An error is that of `parse_owned` of `time_describe`. Only of a text without a fault it says that an
+    /// allocation failed.
     pub fn parse(alloc: Global, text: &[u8]) -> Result<Plan, InvalidDescription>
         ensures means { IfOk result (λ plan. IsOkAnd (brackets.tree_of (reading.described text.now))
             (Means
@@ -25,6 +26,7 @@ impl Plan {
             (⟦<Plan as ComputeMetadata>⟧.is_guaranteed plan))) }
         ensures says { IfErr result (brackets.Says (length text.now) (reading.described text.now)) }
         ensures inside { IfErr result (brackets.IsWithin (length text.now)) }
+        ensures says_fault { IfErr result (brackets.SaysFault (reading.described text.now)) }
     {
         match parse_owned(alloc, text) {
             Ok(item) => match Plan::of(alloc, &item) {
@@ -37,7 +39,8 @@ impl Plan {
 
     /// The plan of a text in the syntax of strftime, as `%Y-%m-%d`.
     ///
-    /// An error says the first fault and the index of its byte, or that an allocation failed.
+    /// An error says the first fault and the index of its byte. Only of a text without a fault it says that an
+    /// allocation failed.
     pub fn parse_strftime(alloc: Global, text: &[u8]) -> Result<Plan, InvalidStrftime>
         ensures means { IfOk result (λ plan. IsOkAnd (conversions.tree_of (strftime.described text.now))
             (Means
@@ -46,6 +49,7 @@ impl Plan {
             (⟦<Plan as ComputeMetadata>⟧.is_guaranteed plan))) }
         ensures says { IfErr result (conversions.Says (length text.now) (strftime.described text.now)) }
         ensures inside { IfErr result (conversions.IsWithin (length text.now)) }
+        ensures says_fault { IfErr result (conversions.SaysFault (strftime.described text.now)) }
     {
         match parse_strftime_owned(alloc, text) {
             Ok(item) => match Plan::of(alloc, &item) {
