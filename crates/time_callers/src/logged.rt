@@ -6,7 +6,7 @@ use std::rt::Clock;
 
 /// Logs a start to a writer, with its time in UTC, as `[2026-11-22T09:55:06.120Z INFO  app] started`
 /// in a program `app`.
-pub fn log_start<C: Clock + Copy + Drop, W: Write>(clock: C, out: W) {
+pub fn log_start<C: Clock + Copy + Drop, W: Write + Drop>(clock: C, out: W) {
     let sink = Timed::new(clock, LogTime::utc(Decimals::Milliseconds), out);
     let rt = Logged::new(clock, Level::Info, sink);
     info!(rt; "started");
