@@ -1,8 +1,41 @@
 //! Laws of the definitions: the contract of the function is the law, and its body does nothing.
-ghost use Rattle.std.specs.Prelude.{ℕ, List};
+ghost use Rattle.std.specs.Prelude.{◌≡◌, ◌↔◌, IsTrue, ℕ, List};
 ghost use Rattle.line_streams.specs.Lines.{LinesSpell};
+ghost use Rattle.time_below.specs.Clones.{AreSame};
+
+use crate::command::Name;
+use crate::formats::Formats;
+use crate::run::ShowError;
+use crate::value::{DateNumbers, DateTimeNumbers, OffsetNumbers, Part, TimeNumbers, UtcNumbers};
 
 /// The lines of a text and their line feeds are the text, and no line has a line feed inside.
 pub fn lines_spell_their_text()
     ensures { (bytes : List ℕ) → LinesSpell bytes }
+{}
+
+/// A clone of a part, of the name of a command, of an error or of the formats is the same.
+pub fn clones_of_names()
+    ensures part { AreSame ⟦<Part as Clone>⟧.is_clone }
+    ensures name { AreSame ⟦<Name as Clone>⟧.is_clone }
+    ensures error { AreSame ⟦<ShowError as Clone>⟧.is_clone }
+    ensures formats { AreSame ⟦<Formats as Clone>⟧.is_clone }
+{}
+
+/// A clone of the numbers of a value is the same.
+pub fn clones_of_numbers()
+    ensures date { AreSame ⟦<DateNumbers as Clone>⟧.is_clone }
+    ensures time { AreSame ⟦<TimeNumbers as Clone>⟧.is_clone }
+    ensures offset { AreSame ⟦<OffsetNumbers as Clone>⟧.is_clone }
+    ensures date_time { AreSame ⟦<DateTimeNumbers as Clone>⟧.is_clone }
+    ensures utc { AreSame ⟦<UtcNumbers as Clone>⟧.is_clone }
+{}
+
+/// Two parts are equal exactly if they are the same.
+pub fn part_equality(a: Part, b: Part)
+    ensures { IsTrue (⟦<Part as PartialEq>⟧.eq a b) ↔ (a ≡ b) }
+{}
+
+/// Two errors are equal exactly if they are the same.
+pub fn error_equality(a: ShowError, b: ShowError)
+    ensures { IsTrue (⟦<ShowError as PartialEq>⟧.eq a b) ↔ (a ≡ b) }
 {}

@@ -283,6 +283,28 @@ fn the_first_text_is_replaced(rt: HostRuntime) {
     assert_that(&rt, job.passed == 4);
 }
 
+#[test]
+fn a_line_whose_moment_has_no_text_is_counted(rt: HostRuntime) {
+    let mut job = ReadJob {
+        shown: InUtc {
+            description: Rfc2822,
+        },
+        reader: LenientReader::new(),
+        passed: 0,
+    };
+    let of_1899 = b"1899-12-31T23:59:59Z up\n";
+    assert_becomes(&rt, rt.alloc(), &mut job, of_1899, of_1899);
+    assert_that(&rt, job.passed == 1);
+    assert_becomes(
+        &rt,
+        rt.alloc(),
+        &mut job,
+        b"1900-01-01T00:00:00Z up\n",
+        b"Mon, 01 Jan 1900 00:00:00 +0000 up\n",
+    );
+    assert_that(&rt, job.passed == 1);
+}
+
 /// A clock that stands.
 struct Standing;
 
@@ -292,7 +314,7 @@ impl Clock for Standing {
     }
 
     fn since_1970(&self) -> io::Result<Duration> {
-        Ok(Duration::new(1_700_000_000, 5_000_000))
+        Ok(Duration::new(1_700_000_000, 123_456_789))
     }
 }
 
@@ -308,7 +330,13 @@ fn the_moment_stands_before_the_line(rt: HostRuntime) {
         rt.alloc(),
         &mut job,
         b"up\n",
-        b"2023-11-14T22:13:20.005Z up\n",
+        b"2023-11-14T22:13:20.123456789Z up\n",
     );
-    assert_becomes(&rt, rt.alloc(), &mut job, b"", b"2023-11-14T22:13:20.005Z ");
+    assert_becomes(
+        &rt,
+        rt.alloc(),
+        &mut job,
+        b"",
+        b"2023-11-14T22:13:20.123456789Z ",
+    );
 }

@@ -108,6 +108,40 @@ const FAULTS: &[(&str, Reason, usize, &str)] = &[
     ),
 ];
 
+/// Faults that no text of a row above has, and their words.
+const LIMITS: &[(InvalidDescription, &str)] = &[
+    (
+        InvalidDescription::Invalid {
+            reason: Reason::TooDeep,
+            index: 263,
+        },
+        "more than 32 lists in one another at byte 263",
+    ),
+    (
+        InvalidDescription::Invalid {
+            reason: Reason::TooManyItems,
+            index: 65_536,
+        },
+        "more than 65536 items at byte 65536",
+    ),
+    (
+        InvalidDescription::OutOfMemory,
+        "memory could not be reserved",
+    ),
+];
+
+/// Names of 33 and of 64 bytes, the longest that are displayed, and what is said of them.
+const LONG_WORDS: &[(&str, &str)] = &[
+    (
+        "[abcdefghijklmnopqrstuvwxyz0123456]",
+        "unknown component `abcdefghijklmnopqrstuvwxyz0123456` at byte 1",
+    ),
+    (
+        "[abcdefghijklmnopqrstuvwxyz012345abcdefghijklmnopqrstuvwxyz012345]",
+        "unknown component `abcdefghijklmnopqrstuvwxyz012345abcdefghijklmnopqrstuvwxyz012345` at byte 1",
+    ),
+];
+
 /// Texts of which no word is displayed: it is no text, there is none, or it is long.
 const WORDLESS: &[&[u8]] = &[b"[\xff]", b"", &[b'a'; 66]];
 
@@ -117,6 +151,25 @@ fn says_what_is_wrong_and_where(rt: HostRuntime) {
         let fault = fault_in_brackets(rt.alloc(), text.as_bytes());
         assert!(rt; fault == Some((reason, index)), "{text}");
         let error = InvalidDescription::Invalid { reason, index };
+        assert_displays(&rt, rt.alloc(), &error.in_text(text.as_bytes()), words);
+    }
+}
+
+#[test]
+fn says_which_limit_is_passed(rt: HostRuntime) {
+    for (error, words) in LIMITS {
+        assert_displays(&rt, rt.alloc(), error, words);
+        assert_displays(&rt, rt.alloc(), &error.in_text(b"[day]"), words);
+    }
+}
+
+#[test]
+fn displays_a_word_of_up_to_64_bytes(rt: HostRuntime) {
+    let error = InvalidDescription::Invalid {
+        reason: Reason::UnknownName,
+        index: 1,
+    };
+    for (text, words) in LONG_WORDS {
         assert_displays(&rt, rt.alloc(), &error.in_text(text.as_bytes()), words);
     }
 }

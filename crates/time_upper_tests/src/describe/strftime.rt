@@ -139,6 +139,18 @@ const REFUSED: &[(&str, &str)] = &[
     ("%_Q", "unknown conversion `%Q` at byte 2"),
 ];
 
+/// Faults that no text of a row above has, and their words.
+const LIMITS: &[(InvalidStrftime, &str)] = &[
+    (
+        InvalidStrftime::Invalid {
+            reason: StrftimeReason::TooManyItems,
+            index: 131_072,
+        },
+        "more than 65536 items at byte 131072",
+    ),
+    (InvalidStrftime::OutOfMemory, "memory could not be reserved"),
+];
+
 /// Texts of a megabyte, by what they repeat, with the first fault or none.
 const MEGABYTES: &[(&[u8], Option<(StrftimeReason, usize)>)] = &[
     (b"%c", Some((StrftimeReason::TooManyItems, 10_082))),
@@ -178,6 +190,13 @@ fn says_what_is_wrong_and_where(rt: HostRuntime) {
         };
         let error = InvalidStrftime::Invalid { reason, index };
         assert_displays(&rt, rt.alloc(), &error, wanted);
+    }
+}
+
+#[test]
+fn says_which_limit_is_passed(rt: HostRuntime) {
+    for (error, words) in LIMITS {
+        assert_displays(&rt, rt.alloc(), error, words);
     }
 }
 

@@ -34,5 +34,11 @@ fn a_text_has_a_plan_or_its_fault(rt: HostRuntime) -> Result<(), Fail> {
         matches!(fault, Err(InvalidDescription::Invalid { index: 7, .. })),
         true,
     );
+    let fault = plan_in_percents(rt.alloc(), b"%d/%Q");
+    assert_same(
+        &rt,
+        matches!(fault, Err(InvalidStrftime::Invalid { index: 4, .. })),
+        true,
+    );
     Ok(())
 }
