@@ -1,5 +1,5 @@
 -- Numbers of one, two and four digits as parts of a text.
-use Rattle.std.proofs.Common.{◌≡◌, ◌≢◌, ℕ, ◌+◌, ◌-◌, ◌*◌, ◌/◌, ◌<◌, ◌≤◌, List, [], ◌∷◌, ◌++◌, length, length-append, get_or, take, drop}
+use Rattle.std.proofs.Common.{◌≡◌, ◌≢◌, ℕ, ◌+◌, ◌-◌, ◌*◌, ◌/◌, ◌<◌, ◌≤◌, List, [], ◌∷◌, ◌++◌, length, get_or, take, drop}
 use Rattle.std.proofs.Common.{refl, sym, ap, ap₂, subst, ◌∙◌, arith, inl}
 use Rattle.std.specs.Int.{IsInRange}
 use Rattle.std.specs.Char.{digit_value}
@@ -343,11 +343,6 @@ no_two_after b least greatest text rest e none n last p =
 pub no_two_behind : (b least greatest : ℕ) (text rest : List ℕ) → NoFront (TwoAfter b least greatest) text → text ≡ b ∷ rest
     → NoFront (Two least greatest) rest
 no_two_behind b least greatest text rest none e n last p = none n last (front_byte b e p)
-
--- a text that is too short for them
-pub no_two_short : (b least greatest : ℕ) (text : List ℕ) → length text < 3 → NoFront (TwoAfter b least greatest) text
-no_two_short b least greatest text short n rest p =
-    omega (arith, ((reads_two_after b least greatest).width n).width p.front p.is, ap length p.whole, length-append p.front rest)
 
 -- ---- four digits
 
