@@ -1,5 +1,5 @@
 -- Numbers of one, two and four digits as parts of a text.
-use Rattle.std.proofs.Common.{◌≡◌, ℕ, ◌+◌, ◌-◌, ◌*◌, ◌/◌, ◌<◌, ◌≤◌, List, [], ◌∷◌, ◌++◌, length, get_or, take, drop}
+use Rattle.std.proofs.Common.{◌≡◌, ◌≢◌, ℕ, ◌+◌, ◌-◌, ◌*◌, ◌/◌, ◌<◌, ◌≤◌, List, [], ◌∷◌, ◌++◌, length, get_or, take, drop}
 use Rattle.std.proofs.Common.{refl, sym, ap, ap₂, subst, ◌∙◌, arith, inl}
 use Rattle.std.specs.Int.{IsInRange}
 use Rattle.std.specs.Char.{digit_value}
@@ -319,6 +319,30 @@ reads_two_after b least greatest = reads_after (b ∷ []) (reads_two least great
 
 pub begins_two_after : (b least greatest : ℕ) → IsPair least greatest → Begins (SpellsSome (TwoAfter b least greatest)) []
 begins_two_after b least greatest h = begins_byte (Two least greatest) b (begins_two least greatest h)
+
+two_behind : (b least greatest n : ℕ) {text rest : List ℕ} (p : Front (TwoAfter b least greatest n) text rest)
+    → text ≡ b ∷ (p.is.rest ++ rest)
+two_behind b least greatest n {text} {rest} p =
+    p.whole ∙ ap (λ t. t ++ rest) (p.is.whole ∙ ap (λ t. t ++ p.is.rest) p.is.first)
+
+-- the byte is not there
+pub no_byte : (b least greatest : ℕ) (text : List ℕ) → ((rest : List ℕ) → text ≢ b ∷ rest) → NoFront (TwoAfter b least greatest) text
+no_byte b least greatest text none n rest p = none (p.is.rest ++ rest) (two_behind b least greatest n p)
+
+-- the number is not there behind the byte
+pub no_two_after : (b least greatest : ℕ) (text rest : List ℕ) → text ≡ b ∷ rest → NoFront (Two least greatest) rest
+    → NoFront (TwoAfter b least greatest) text
+no_two_after b least greatest text rest e none n last p =
+    none n last (record {
+      front = p.is.rest;
+      whole = ap (drop 1) (sym e ∙ two_behind b least greatest n p);
+      is = p.is.second;
+    })
+
+-- what follows the byte does not begin with the number
+pub no_two_behind : (b least greatest : ℕ) (text rest : List ℕ) → NoFront (TwoAfter b least greatest) text → text ≡ b ∷ rest
+    → NoFront (Two least greatest) rest
+no_two_behind b least greatest text rest none e n last p = none n last (front_byte b e p)
 
 -- ---- four digits
 

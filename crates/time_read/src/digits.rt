@@ -202,6 +202,40 @@ pub(crate) fn pair(text: &[u8], least: u8, greatest: u8) -> Result<(u8, &[u8]), 
     }
 }
 
+// Reads this byte, and then two digits of a number from the least to the greatest, or nothing. The
+// length is tested once for the three.
+#[inline(always)]
+fn two_after(text: &[u8], before: u8, least: u8, greatest: u8) -> Option<(u8, &[u8])>
+    requires { greatest < 100 }
+    ensures read { IfSome result (λ r.
+        Front (TwoAfter before least greatest r.0) text.now r.1.now) }
+    ensures range { IfSome result (λ r. r.0 ≤ greatest) }
+    ensures none { IfNone result (NoFront (TwoAfter before least greatest) text.now) }
+{
+    if text.len() < 3 {
+        return None;
+    }
+    let rest = after(text, before)?;
+    let (number, rest) = two_within(rest, least, greatest)?;
+    Some((number, rest))
+}
+
+// The fault of a text that does not begin with this byte and two digits of such a number, by a call as
+// above.
+#[cold]
+#[inline(never)]
+fn pair_after_fault(text: &[u8], before: u8, least: u8, greatest: u8) -> Fault
+    requires order { least ≤ greatest }
+    requires pairs { greatest < 100 }
+    requires none { NoFront (TwoAfter before least greatest) text.now }
+    ensures { FieldFault 3 (SpellsSome (TwoAfter before least greatest)) text.now result }
+{
+    match byte(text, before) {
+        Ok(rest) => pair_fault(rest, least, greatest),
+        Err(fault) => fault,
+    }
+}
+
 // Reads this byte, and then two digits of a number from the least to the greatest.
 #[inline(always)]
 pub(crate) fn pair_after(
@@ -217,9 +251,10 @@ pub(crate) fn pair_after(
     ensures fault { IfErr result (λ e.
         FieldFault 3 (SpellsSome (TwoAfter before least greatest)) text.now e) }
 {
-    let rest = byte(text, before)?;
-    let (number, rest) = pair(rest, least, greatest)?;
-    Ok((number, rest))
+    match two_after(text, before, least, greatest) {
+        Some(read) => Ok(read),
+        None => Err(pair_after_fault(text, before, least, greatest)),
+    }
 }
 
 // Reads four digits.

@@ -62,7 +62,7 @@ pub(crate) fn after_date(date: Date, text: &[u8], profile: Profile) -> Result<Of
     Ok(OffsetDateTime::new_in_offset(date, time, offset))
 }
 
-// Reads a whole text. What follows the date stands here again: a call for it costs 70 instructions.
+// Reads a whole text. What follows the date stands here again, so that it is no call.
 #[inline(always)]
 pub(crate) fn value_of<P: Reads>(text: &[u8]) -> Result<OffsetDateTime, Fault>
     ensures read { IfOk result (λ v. ReadsAs P.PROFILE v text.now) }
