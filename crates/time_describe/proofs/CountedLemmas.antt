@@ -3,8 +3,7 @@ use Rattle.std.proofs.Common.{◌≡◌, ◌+◌, ◌++◌, ℕ, min, Bool, true
 use Rattle.std.specs.Prelude.{◌==◌, not}
 use Rattle.std.proofs.lemmas.List.{length-append}
 use Rattle.time_below.specs.Tree.{Tree}
-use Rattle.time_describe.specs.Counted.{Counts, outermost}
-use Rattle.time_describe.specs.Pieces.{is_nested}
+use Rattle.time_describe.specs.Counted.{Counts}
 use Rattle.time_describe.specs.Reading.{Frame}
 
 pub in_list : (fs : List Frame) (is_in_list : Bool) (count : ℕ) (items : List Tree) (item : Tree) → is_in_list ≡ true

@@ -104,8 +104,8 @@ pub fn describe<I: Items>(items: &mut I, text: &[u8]) -> Result<(), InvalidDescr
     }
 }
 
-/// What is said of a text for which an allocation has failed: that, where the text is a description, and
-/// what is wrong with it elsewhere.
+/// What is said of a text for which an allocation has failed: that, where the text is a
+/// description, and what is wrong with it elsewhere.
 fn refusal(text: &[u8]) -> InvalidDescription
     ensures says { Says (length text.now) (described text.now) result }
     ensures inside { IsWithin (length text.now) result }
@@ -120,9 +120,9 @@ fn refusal(text: &[u8]) -> InvalidDescription
 /// The description that a text is, in the syntax of `time`'s format descriptions, version 2, as
 /// `[year]-[month]-[day]`.
 ///
-/// An error says the first fault and the index of its byte. Only of a text without a fault it says that an
-/// allocation failed. Nothing is kept then. Lists may be 32 deep in one another, and 65,536 items may begin. Of a text in which more
-/// begin, that alone is said.
+/// An error says the first fault and the index of its byte. Only of a text without a fault it
+/// says that an allocation failed. Nothing is kept then. Lists may be 32 deep in one another, and
+/// 65,536 items may begin. Of a text in which more begin, that alone is said.
 pub fn parse_owned(alloc: Global, text: &[u8]) -> Result<OwnedFormatItem, InvalidDescription>
     ensures found { IfOk result (λ item. tree_of (described text.now) ≡ Ok (owned_tree item)) }
     ensures says { IfErr result (Says (length text.now) (described text.now)) }

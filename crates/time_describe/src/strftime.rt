@@ -257,8 +257,8 @@ pub fn describe_strftime<I: Items>(items: &mut I, text: &[u8]) -> Result<(), Inv
     }
 }
 
-/// What is said of a text for which an allocation has failed: that, where the text is a description, and
-/// what is wrong with it elsewhere.
+/// What is said of a text for which an allocation has failed: that, where the text is a
+/// description, and what is wrong with it elsewhere.
 fn refusal(text: &[u8]) -> InvalidStrftime
     ensures says { Says (length text.now) (described text.now) result }
     ensures inside { IsWithin (length text.now) result }
@@ -275,8 +275,8 @@ fn refusal(text: &[u8]) -> InvalidStrftime
 /// Each run of bytes other than `%` is one literal, a text where it is UTF-8. Each conversion is
 /// the items that `specs/Conversions.antt` lists for it. There are at most 65,536 items.
 ///
-/// An error says the first fault and the index of its byte. Only of a text without a fault it says that an
-/// allocation failed.
+/// An error says the first fault and the index of its byte. Only of a text without a fault it
+/// says that an allocation failed.
 pub fn parse_strftime_owned(alloc: Global, text: &[u8]) -> Result<OwnedFormatItem, InvalidStrftime>
     ensures found { IfOk result (λ item. tree_of (described text.now) ≡ Ok (owned_tree item)) }
     ensures says { IfErr result (Says (length text.now) (described text.now)) }

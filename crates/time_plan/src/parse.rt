@@ -16,8 +16,8 @@ impl Plan {
     /// The plan of a text in the syntax of `time`'s format descriptions, version 2, as
     /// `[year]-[month]-[day]`.
     ///
-    /// An error is that of `parse_owned` of `time_describe`. Only of a text without a fault it says that an
-    /// allocation failed.
+    /// An error is that of `parse_owned` of `time_describe`. Only of a text without a fault it says
+    /// that an allocation failed.
     pub fn parse(alloc: Global, text: &[u8]) -> Result<Plan, InvalidDescription>
         ensures means { IfOk result (λ plan. IsOkAnd (brackets.tree_of (reading.described text.now))
             (Means
@@ -39,8 +39,8 @@ impl Plan {
 
     /// The plan of a text in the syntax of strftime, as `%Y-%m-%d`.
     ///
-    /// An error says the first fault and the index of its byte. Only of a text without a fault it says that an
-    /// allocation failed.
+    /// An error says the first fault and the index of its byte. Only of a text without a fault it
+    /// says that an allocation failed.
     pub fn parse_strftime(alloc: Global, text: &[u8]) -> Result<Plan, InvalidStrftime>
         ensures means { IfOk result (λ plan. IsOkAnd (conversions.tree_of (strftime.described text.now))
             (Means

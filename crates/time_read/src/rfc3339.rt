@@ -6,23 +6,23 @@ ghost use Rattle.time_read.specs.Fault.{IsFirstFault, IsSecond60, SpellsSome};
 ghost use Rattle.time_read.specs.Lenient.{Rfc3339Means};
 ghost use Rattle.time_read.specs.Profiles.{ReadsAs};
 ghost use Rattle.time_read.specs.Refused.{IsRefused};
-ghost use Rattle.time_read.specs.declared.fault.Profile.TheVariants.{Lenient, Strict};
+ghost use Rattle.time_read.specs.declared.fault.Profile.TheVariants as profile;
 
 use crate::digits::digit;
 use crate::fault::{NotRead, Profile};
 use crate::places::{SECONDS, place_of};
-use crate::value::value_of;
+use crate::value::{Lenient, Reads, Strict, value_of};
 use time_below::OffsetDateTime;
 
 // The value of a text, or the place at which it is refused.
 #[inline(always)]
-fn value_or_place(text: &[u8], profile: Profile) -> Result<OffsetDateTime, NotRead>
-    ensures read { IfOk result (λ v. ReadsAs profile v text.now) }
-    ensures place { IfErr result (λ e. IsRefused (ReadsAs profile) SECONDS text.now e) }
+fn value_or_place<P: Reads>(text: &[u8]) -> Result<OffsetDateTime, NotRead>
+    ensures read { IfOk result (λ v. ReadsAs P.PROFILE v text.now) }
+    ensures place { IfErr result (λ e. IsRefused (ReadsAs P.PROFILE) SECONDS text.now e) }
 {
-    match value_of(text, profile) {
+    match value_of::<P>(text) {
         Ok(value) => Ok(value),
-        Err(fault) => Err(place_of(text, fault, profile)),
+        Err(fault) => Err(place_of(text, fault, P::PROFILE)),
     }
 }
 
@@ -30,19 +30,19 @@ fn value_or_place(text: &[u8], profile: Profile) -> Result<OffsetDateTime, NotRe
 // refused before registers are saved.
 #[inline(never)]
 fn strictly(text: &[u8]) -> Result<OffsetDateTime, NotRead>
-    ensures read { IfOk result (λ v. ReadsAs Strict v text.now) }
-    ensures place { IfErr result (λ e. IsRefused (ReadsAs Strict) SECONDS text.now e) }
+    ensures read { IfOk result (λ v. ReadsAs profile.Strict v text.now) }
+    ensures place { IfErr result (λ e. IsRefused (ReadsAs profile.Strict) SECONDS text.now e) }
 {
-    value_or_place(text, Profile::Strict)
+    value_or_place::<Strict>(text)
 }
 
 // The same by what other writers mean.
 #[inline(never)]
 fn leniently(text: &[u8]) -> Result<OffsetDateTime, NotRead>
-    ensures read { IfOk result (λ v. ReadsAs Lenient v text.now) }
-    ensures place { IfErr result (λ e. IsRefused (ReadsAs Lenient) SECONDS text.now e) }
+    ensures read { IfOk result (λ v. ReadsAs profile.Lenient v text.now) }
+    ensures place { IfErr result (λ e. IsRefused (ReadsAs profile.Lenient) SECONDS text.now e) }
 {
-    value_or_place(text, Profile::Lenient)
+    value_or_place::<Lenient>(text)
 }
 
 /// The value that a text of RFC 3339, section 5.6, spells: capital letters, one to nine decimals, if any, no

@@ -4,6 +4,8 @@ ghost use Rattle.time_known.specs.Rfc3339Grammar.{FullDate};
 ghost use Rattle.time_read.specs.Fault.{SpellsSome};
 ghost use Rattle.time_read.specs.Front.{Front, FieldFault, TextFault};
 ghost use Rattle.time_read.specs.Profiles.{ReadsAs};
+ghost use Rattle.time_read.specs.declared.fault.Profile.{Profile};
+ghost use Rattle.time_read.specs.declared.fault.Profile.TheVariants as profile;
 
 use crate::days::{Day, date_of};
 use crate::digits::letter;
@@ -11,6 +13,29 @@ use crate::fault::{Fault, Profile};
 use crate::parts::{clock, full_date};
 use crate::tail::fraction_and_offset;
 use time_below::{Date, OffsetDateTime, Time};
+
+// A profile as a type: each has a function of its own, in which the profile is known.
+pub(crate) trait Reads {
+    ghost PROFILE: { Profile };
+
+    const PROFILE: Profile;
+}
+
+pub(crate) struct Strict;
+
+pub(crate) struct Lenient;
+
+impl Reads for Strict {
+    ghost PROFILE = { profile.Strict };
+
+    const PROFILE: Profile = Profile::Strict;
+}
+
+impl Reads for Lenient {
+    ghost PROFILE = { profile.Lenient };
+
+    const PROFILE: Profile = Profile::Lenient;
+}
 
 // Reads a date.
 #[inline(always)]
@@ -39,15 +64,16 @@ pub(crate) fn after_date(date: Date, text: &[u8], profile: Profile) -> Result<Of
 
 // Reads a whole text. What follows the date stands here again: a call for it costs 70 instructions.
 #[inline(always)]
-pub(crate) fn value_of(text: &[u8], profile: Profile) -> Result<OffsetDateTime, Fault>
-    ensures read { IfOk result (λ v. ReadsAs profile v text.now) }
-    ensures fault { IfErr result (λ e. TextFault (SpellsSome (ReadsAs profile)) text.now e) }
+pub(crate) fn value_of<P: Reads>(text: &[u8]) -> Result<OffsetDateTime, Fault>
+    ensures read { IfOk result (λ v. ReadsAs P.PROFILE v text.now) }
+    ensures fault { IfErr result (λ e. TextFault (SpellsSome (ReadsAs P.PROFILE)) text.now e) }
 {
+    let profile = P::PROFILE;
     let (year, month, day, rest) = full_date(text)?;
+    let date = date_of(Day { year, month, day });
     let after_t = letter(rest, b'T', profile)?;
     let (hour, minute, second, rest) = clock(after_t)?;
     let (nanosecond, offset) = fraction_and_offset(rest, profile)?;
     let time = Time::from_valid_hms_nano(hour, minute, second, nanosecond);
-    let date = date_of(Day { year, month, day });
     Ok(OffsetDateTime::new_in_offset(date, time, offset))
 }
