@@ -1,58 +1,57 @@
-//! Laws of the texts that `Display` has: each is that of a description. The contract of each function is the
-//! law, and its body is empty.
-ghost use Rattle.time_below.specs.Calendar.{OrdinalDate};
-ghost use Rattle.time_below.specs.DateText.{date_text};
-ghost use Rattle.time_below.specs.DateTimeText.{plain_text, utc_text, local_text, moment_text};
-ghost use Rattle.time_below.specs.Facts.{facts_of_date, facts_of_time, facts_of_offset, facts_of_plain_date_time, facts_of_utc_date_time, facts_of_offset_date_time, facts_of_timestamp};
-ghost use Rattle.time_below.specs.Moment.{Moment, IsMoment, DateAndTime, OffsetDateAndTime};
-ghost use Rattle.time_below.specs.Offset.{Offset, IsOffset};
-ghost use Rattle.time_below.specs.OffsetText.{offset_text};
-ghost use Rattle.time_below.specs.TimeOfDay.{TimeOfDay, IsTimeOfDay};
-ghost use Rattle.time_below.specs.TimeText.{time_text};
+//! Laws of what `{}` prints of a value: it is the text of a description. The contract of each function is
+//! the law, and its body is empty.
+ghost use Rattle.std.specs.Prelude.{IsSomeAnd};
 ghost use Rattle.time.specs.DisplayText.{date_items, time_items, offset_items, date_time_items, utc_items, local_items, Spell};
 
-/// The text of a date is that of `[year]-[month]-[day]`.
+use std::fmt::Display;
+use time_below::{Date, OffsetDateTime, PlainDateTime, Time, Timestamp, UtcDateTime, UtcOffset};
+use time_provide::ComponentProvider;
+
+/// A date is printed as by `[year]-[month]-[day]`.
 #[tactic(auto, using(crate::proofs::DisplayLemmas::date_spelled))]
-pub fn date_is_shown_by_its_description()
-    ensures { (d : OrdinalDate) → Spell date_items (facts_of_date d) (date_text d) }
+pub fn date_is_shown_by_its_description(date: Date)
+    ensures { IsSomeAnd (⟦<Date as Display>⟧.output date)
+        (Spell date_items (⟦<Date as ComponentProvider>⟧.facts date)) }
 {}
 
-/// The text of a time is that of `[hour padding:none]:[minute]:[second].[subsecond]`.
+/// A time is printed as by `[hour padding:none]:[minute]:[second].[subsecond]`.
 #[tactic(auto, using(crate::proofs::DisplayLemmas::time_spelled))]
-pub fn time_is_shown_by_its_description()
-    ensures { (t : TimeOfDay) → IsTimeOfDay t → Spell time_items (facts_of_time t) (time_text t) }
+pub fn time_is_shown_by_its_description(time: Time)
+    ensures { IsSomeAnd (⟦<Time as Display>⟧.output time)
+        (Spell time_items (⟦<Time as ComponentProvider>⟧.facts time)) }
 {}
 
-/// The text of an offset is that of `[offset_hour sign:mandatory]:[offset_minute]:[offset_second]`.
+/// An offset is printed as by `[offset_hour sign:mandatory]:[offset_minute]:[offset_second]`.
 #[tactic(auto, using(crate::proofs::DisplayLemmas::offset_spelled))]
-pub fn offset_is_shown_by_its_description()
-    ensures { (o : Offset) → IsOffset o → Spell offset_items (facts_of_offset o) (offset_text o) }
+pub fn offset_is_shown_by_its_description(offset: UtcOffset)
+    ensures { IsSomeAnd (⟦<UtcOffset as Display>⟧.output offset)
+        (Spell offset_items (⟦<UtcOffset as ComponentProvider>⟧.facts offset)) }
 {}
 
-/// The text of a date with a time is that of the two with a space between them.
+/// A date with a time is printed as the two, with a space between them.
 #[tactic(auto, using(crate::proofs::DisplayLemmas::plain_spelled))]
-pub fn plain_date_time_is_shown_by_its_description()
-    ensures { (v : DateAndTime) → IsTimeOfDay v.time
-        → Spell date_time_items (facts_of_plain_date_time v) (plain_text v) }
+pub fn plain_date_time_is_shown_by_its_description(value: PlainDateTime)
+    ensures { IsSomeAnd (⟦<PlainDateTime as Display>⟧.output value)
+        (Spell date_time_items (⟦<PlainDateTime as ComponentProvider>⟧.facts value)) }
 {}
 
-/// The text of a date and time in UTC is that of the two, and ` +00`.
+/// A date and time in UTC is printed as the two, with ` +00` behind.
 #[tactic(auto, using(crate::proofs::DisplayLemmas::utc_spelled))]
-pub fn utc_date_time_is_shown_by_its_description()
-    ensures { (v : DateAndTime) → IsTimeOfDay v.time
-        → Spell utc_items (facts_of_utc_date_time v) (utc_text v) }
+pub fn utc_date_time_is_shown_by_its_description(value: UtcDateTime)
+    ensures { IsSomeAnd (⟦<UtcDateTime as Display>⟧.output value)
+        (Spell utc_items (⟦<UtcDateTime as ComponentProvider>⟧.facts value)) }
 {}
 
-/// The text of a date and time at an offset is that of the two, a space and the offset.
+/// A date and time at an offset is printed as the two, with a space and the offset behind.
 #[tactic(auto, using(crate::proofs::DisplayLemmas::local_spelled))]
-pub fn offset_date_time_is_shown_by_its_description()
-    ensures { (v : OffsetDateAndTime) → IsTimeOfDay v.time → IsOffset v.offset
-        → Spell local_items (facts_of_offset_date_time v) (local_text v) }
+pub fn offset_date_time_is_shown_by_its_description(value: OffsetDateTime)
+    ensures { IsSomeAnd (⟦<OffsetDateTime as Display>⟧.output value)
+        (Spell local_items (⟦<OffsetDateTime as ComponentProvider>⟧.facts value)) }
 {}
 
-/// The text of a timestamp is that of its date and time in UTC.
+/// A timestamp is printed as its date and time in UTC.
 #[tactic(auto, using(crate::proofs::DisplayLemmas::moment_spelled))]
-pub fn timestamp_is_shown_by_its_description()
-    ensures { (m : Moment) → IsMoment m
-        → Spell utc_items (facts_of_timestamp m) (moment_text m) }
+pub fn timestamp_is_shown_by_its_description(value: Timestamp)
+    ensures { IsSomeAnd (⟦<Timestamp as Display>⟧.output value)
+        (Spell utc_items (⟦<Timestamp as ComponentProvider>⟧.facts value)) }
 {}
