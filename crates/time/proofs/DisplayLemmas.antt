@@ -1,9 +1,8 @@
 -- The texts of `Display` are those of the descriptions that spell them.
-use Rattle.std.proofs.Common.{◌≡◌, ◌≢◌, ℕ, zero, suc, ◌+◌, ◌-◌, ◌*◌, ◌/◌, ◌%◌, ◌^◌, ◌<◌, ◌≤◌, ◌==◌, ◌||◌, Bool, true, false}
-use Rattle.std.proofs.Common.{List, [], ◌∷◌, ◌++◌, length, replicate, decimal, if◌then◌else◌, refl, sym, ap, ap₂, ◌∙◌, ⊎_elim}
+use Rattle.std.proofs.Common.{◌≡◌, ℕ, ◌/◌, ◌%◌, ◌<◌, ◌||◌, true, false}
+use Rattle.std.proofs.Common.{List, [], ◌∷◌, ◌++◌, decimal, refl, sym, ap, ap₂, ◌∙◌}
 use Rattle.std.proofs.Common.{arith, append_assoc, append-nil}
 use Rattle.std.specs.Prelude.{codes, Some, ℤ, pos, negsuc, int_lt, unsigned_abs}
-use Rattle.std.proofs.lemmas.Grind.{common_steps}
 use Rattle.time_below.specs.Calendar.{OrdinalDate, month_of, day_of}
 use Rattle.time_below.specs.DateText.{padded_decimal, year_sign, date_text}
 use Rattle.time_below.specs.DateTimeText.{plain_text, utc_text, local_text, moment_text}
