@@ -1,1 +1,3 @@
+pub mod DecimalLemmas
+pub mod DisplayLemmas
 pub mod LiteralLemmas

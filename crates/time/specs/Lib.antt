@@ -1,3 +1,4 @@
+pub mod DisplayText
 pub mod Literals
 pub use Rattle.time_below.specs.Calendar
 pub use Rattle.time_below.specs.Facts

@@ -1,5 +1,5 @@
 //! Why there is no value, no description or no text.
-pub use time_below::{ComponentRange, DifferentVariant};
+pub use time_below::{ComponentRange, DifferentVariant, InvalidVariant};
 pub use time_describe::{
     InText, InvalidDescription, InvalidDescription as InvalidFormatDescription, InvalidStrftime,
     Reason, StrftimeReason,

@@ -16,6 +16,7 @@ pub mod error;
 pub mod format_description;
 mod format_value;
 pub mod formatting;
+pub mod laws;
 pub mod literals;
 pub mod log;
 pub mod macros;

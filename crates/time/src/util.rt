@@ -1,2 +1,2 @@
-//! The calendar.
-pub use time_below::is_leap_year;
+//! The lengths of years and months, and the weeks of a year.
+pub use time_below::util::{days_in_month, days_in_year, is_leap_year, weeks_in_year};

@@ -23,6 +23,8 @@ mod recipes;
 #[cfg(test)]
 mod serde_moments;
 #[cfg(test)]
+mod shown;
+#[cfg(test)]
 mod streams;
 #[cfg(test)]
 mod time_calls;

@@ -4,8 +4,8 @@ use crate::values::assert_that;
 use std::alloc::Global;
 use std::mem::size_of;
 use time::error::{
-    ComponentRange, DifferentVariant, Error, InText, InvalidDescription, InvalidStrftime, Reason,
-    StrftimeReason,
+    ComponentRange, DifferentVariant, Error, InText, InvalidDescription, InvalidStrftime,
+    InvalidVariant, Reason, StrftimeReason,
 };
 use time::format_description::well_known::Rfc3339;
 use time::format_description::well_known::iso8601::OffsetPrecision;
@@ -14,9 +14,9 @@ use time::format_description::{
 };
 use time::formatting::{Formattable, Metadata, TimestampState};
 use time::macros::{date, datetime, offset, time, utc_datetime};
-use time::parsing::{Expected, LenientReader, Profile};
+use time::parsing::{Expected, LenientReader, Names, Profile, rfc2822, stamp};
 use time::parts::*;
-use time::util::is_leap_year;
+use time::util::{days_in_month, days_in_year, is_leap_year, weeks_in_year};
 use time::{Month, PlainDateTime, PrimitiveDateTime, Timestamp, Weekday};
 
 /// Whether the three calls write this text.
@@ -119,7 +119,14 @@ type Descriptions = (
     FormatDescriptionV3Inner<'static>,
 );
 
-type Others = (OffsetPrecision, Metadata, TimestampState, LenientReader);
+type Others = (
+    OffsetPrecision,
+    Metadata,
+    TimestampState,
+    LenientReader,
+    Names,
+    InvalidVariant,
+);
 
 #[test]
 fn each_path_is_there(rt: HostRuntime) {
@@ -131,4 +138,14 @@ fn each_path_is_there(rt: HostRuntime) {
         &rt,
         is_leap_year(2028) && date!(2026 - 11 - 22).weekday() == Weekday::Sunday,
     );
+}
+
+#[test]
+fn lengths_of_years_and_readers_are_there(rt: HostRuntime) {
+    assert_that(&rt, days_in_year(2028) == 366 && weeks_in_year(2026) == 53);
+    assert_that(&rt, days_in_month(Month::November, 2026) == 30);
+    let mail = rfc2822::read(b"Sun, 22 Nov 2026 09:55:06 -0600");
+    assert_that(&rt, mail.is_ok());
+    let stamp = stamp::read(b"2026-11-22T15:55:06.120000000Z");
+    assert_that(&rt, stamp.is_ok());
 }
