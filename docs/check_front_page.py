@@ -13,7 +13,7 @@ TOP = pathlib.Path(__file__).resolve().parent.parent
 RECIPES = [
     "crates/time_upper_tests/src/describe/recipes.rt",
     "crates/time_upper_tests/src/describe/plans/recipes.rt",
-    *(f"crates/time_upper_tests/src/recipes/{name}.rt" for name in ("formats", "log", "reading", "zones")),
+    *(f"crates/time_upper_tests/src/recipes/{name}.rt" for name in ("formats", "logs", "reading", "zones")),
 ]
 
 

@@ -1,5 +1,5 @@
 //! The recipes of `docs/RECIPES.md` that format values, log and read, which shows each of them word for word.
 pub(crate) mod formats;
-mod log;
+mod logs;
 mod reading;
 mod zones;
