@@ -1,5 +1,5 @@
 //! Moments by their nanoseconds, in UTC and by other clocks, and their parts.
-use super::refusal_of;
+use super::{date_on, refusal_of};
 use crate::texts::{assert_same, assert_that, some};
 use std::convert::TryFrom;
 use std::io;
@@ -38,27 +38,23 @@ fn a_moment_is_one_in_each_type(rt: HostRuntime) {
     );
     let offset = local.offset();
     assert_same(&rt, stamp.checked_to_offset(offset), Some(local));
-    assert_same(&rt, stamp.to_offset(offset), local);
-    assert_same(&rt, utc.to_offset(offset).time().as_hms(), (9, 55, 6));
     assert_same(&rt, utc.checked_to_offset(offset), Some(local));
-    assert_same(
-        &rt,
-        local.to_offset(UtcOffset::UTC).time().as_hms(),
-        (4, 25, 6),
-    );
+    let in_utc = some(&rt, local.checked_to_offset(UtcOffset::UTC));
+    assert_same(&rt, in_utc.time().as_hms(), (4, 25, 6));
 }
 
 #[test]
 fn a_moment_is_made_of_seconds_or_nanoseconds(rt: HostRuntime) {
     let local = some(&rt, there());
     assert_same(&rt, local.unix_timestamp_nanos(), NANOSECONDS);
-    assert_same(&rt, local.to_utc().unix_timestamp_nanos(), NANOSECONDS);
+    let utc = some(&rt, local.checked_to_utc());
+    assert_same(&rt, utc.unix_timestamp_nanos(), NANOSECONDS);
     assert_that(
         &rt,
         OffsetDateTime::from_unix_timestamp_nanos(NANOSECONDS) == Ok(local),
     );
     let whole = UtcDateTime::from_unix_timestamp(SECONDS);
-    assert_that(&rt, whole == local.to_utc().replace_nanosecond(0));
+    assert_that(&rt, whole == utc.replace_nanosecond(0));
     assert_that(
         &rt,
         OffsetDateTime::from_unix_timestamp(SECONDS) == local.replace_nanosecond(0),
@@ -70,6 +66,17 @@ fn a_moment_is_made_of_seconds_or_nanoseconds(rt: HostRuntime) {
         Timestamp::MAX.as_nanoseconds(),
         31_494_784_780_799_999_999_999,
     );
+}
+
+#[test]
+fn a_moment_in_range_has_a_local_time(rt: HostRuntime) {
+    let (stamp, utc) = (Timestamp::UNIX_EPOCH, UtcDateTime::UNIX_EPOCH);
+    let west = some(&rt, offset_at((-1, 0, 0)));
+    assert_same(&rt, stamp.to_offset(west).time().as_hms(), (23, 0, 0));
+    assert_same(&rt, utc.to_offset(west).date(), date_on(&rt, 1969, 365));
+    let local = OffsetDateTime::UNIX_EPOCH;
+    assert_same(&rt, local.to_offset(west).time().as_hms(), (23, 0, 0));
+    assert_same(&rt, local.to_utc(), utc);
 }
 
 const REFUSED: &[i128] = &[

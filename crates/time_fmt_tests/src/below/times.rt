@@ -9,7 +9,7 @@ use time_below::{ComponentRange, Time, UtcOffset};
 use time_compare::{offset_at, time_at};
 
 // The hour, the minute, the second and the nanosecond of a time, or a refusal by its name.
-fn parts_of(made: Result<Time, ComponentRange>) -> Result<(u8, u8, u8, u32), &'static str> {
+fn parts_of(made: &Result<Time, ComponentRange>) -> Result<(u8, u8, u8, u32), &'static str> {
     match made {
         Ok(time) => Ok(time.as_hms_nano()),
         Err(refusal) => Err(refusal.name()),
@@ -18,10 +18,10 @@ fn parts_of(made: Result<Time, ComponentRange>) -> Result<(u8, u8, u8, u32), &'s
 
 #[test]
 fn a_time_is_made_of_coarser_parts(rt: HostRuntime) {
-    assert_same(&rt, parts_of(Time::from_hms(9, 55, 6)), Ok((9, 55, 6, 0)));
-    let milli = parts_of(Time::from_hms_milli(9, 55, 6, 12));
+    assert_same(&rt, parts_of(&Time::from_hms(9, 55, 6)), Ok((9, 55, 6, 0)));
+    let milli = parts_of(&Time::from_hms_milli(9, 55, 6, 12));
     assert_same(&rt, milli, Ok((9, 55, 6, 12_000_000)));
-    let micro = parts_of(Time::from_hms_micro(9, 55, 6, 12));
+    let micro = parts_of(&Time::from_hms_micro(9, 55, 6, 12));
     assert_same(&rt, micro, Ok((9, 55, 6, 12_000)));
 }
 
@@ -53,14 +53,22 @@ fn a_time_has_coarser_parts(rt: HostRuntime) {
 fn one_part_of_a_time_is_replaced(rt: HostRuntime) {
     let time = Time::MAX;
     let nano = 999_999_999;
-    assert_same(&rt, parts_of(time.replace_hour(7)), Ok((7, 59, 59, nano)));
-    assert_same(&rt, parts_of(time.replace_minute(7)), Ok((23, 7, 59, nano)));
-    assert_same(&rt, parts_of(time.replace_second(7)), Ok((23, 59, 7, nano)));
-    let milli = parts_of(time.replace_millisecond(7));
+    assert_same(&rt, parts_of(&time.replace_hour(7)), Ok((7, 59, 59, nano)));
+    assert_same(
+        &rt,
+        parts_of(&time.replace_minute(7)),
+        Ok((23, 7, 59, nano)),
+    );
+    assert_same(
+        &rt,
+        parts_of(&time.replace_second(7)),
+        Ok((23, 59, 7, nano)),
+    );
+    let milli = parts_of(&time.replace_millisecond(7));
     assert_same(&rt, milli, Ok((23, 59, 59, 7_000_000)));
-    let micro = parts_of(time.replace_microsecond(7));
+    let micro = parts_of(&time.replace_microsecond(7));
     assert_same(&rt, micro, Ok((23, 59, 59, 7_000)));
-    let nano = parts_of(time.replace_nanosecond(7));
+    let nano = parts_of(&time.replace_nanosecond(7));
     assert_same(&rt, nano, Ok((23, 59, 59, 7)));
 }
 
