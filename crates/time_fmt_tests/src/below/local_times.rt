@@ -74,9 +74,19 @@ fn a_moment_in_range_has_a_local_time(rt: HostRuntime) {
     let west = some(&rt, offset_at((-1, 0, 0)));
     assert_same(&rt, stamp.to_offset(west).time().as_hms(), (23, 0, 0));
     assert_same(&rt, utc.to_offset(west).date(), date_on(&rt, 1969, 365));
-    let local = OffsetDateTime::UNIX_EPOCH;
-    assert_same(&rt, local.to_offset(west).time().as_hms(), (23, 0, 0));
-    assert_same(&rt, local.to_utc(), utc);
+}
+
+#[test]
+fn a_local_time_in_range_is_one_at_another_offset(rt: HostRuntime) {
+    let west = some(&rt, offset_at((-1, 0, 0)));
+    let local = OffsetDateTime::UNIX_EPOCH.to_offset(west);
+    assert_same(&rt, local.time().as_hms(), (23, 0, 0));
+}
+
+#[test]
+fn a_local_time_in_range_is_one_in_utc(rt: HostRuntime) {
+    let utc = OffsetDateTime::UNIX_EPOCH.to_utc();
+    assert_same(&rt, utc, UtcDateTime::UNIX_EPOCH);
 }
 
 const REFUSED: &[i128] = &[
