@@ -40,8 +40,8 @@ ROWS = [
      ["unix", "[year]-[month]-[day] [hour]:[minute]:[second]"], LINE, 520, 435),
     ("`unix`, the number inside", ["unix"], AUDIT, 500, 481),
     ("`unix`, no number", ["unix", "-q"], PLAIN, None, 200),
-    ("`read '%H:%M:%S'`", ["read", "%H:%M:%S"], DOCKER, 600, 587),
-    ("`read --zone Europe/Berlin`", ["read", "--zone", "Europe/Berlin"], DOCKER, 600, 618),
+    ("`read '%H:%M:%S'`", ["read", "%H:%M:%S"], DOCKER, 600, 643),
+    ("`read --zone Europe/Berlin`", ["read", "--zone", "Europe/Berlin"], DOCKER, 600, 656),
     ("`now`", ["now"], PLAIN, 120, 120),
 ]
 

@@ -188,7 +188,7 @@ static void readings()
         failed++;
     } catch (const std::system_error &error) {
         expect_error("thrown", error.code(), errc::not_read);
-        expect("thrown with its place", std::string_view(error.what()).substr(0, 20), "byte 10: expected `T`");
+        expect("thrown with its place", std::string_view(error.what()).substr(0, 21), "byte 10: expected `T`");
     }
 }
 
