@@ -60,8 +60,10 @@ const ENTRIES: &[&str] = &[
 #[test]
 fn entries_go_round(rt: HostRuntime) -> Result<(), Fail> {
     let alloc = rt.alloc();
+    let start = UtcDateTime::UNIX_EPOCH;
     for entry in ENTRIES {
         let read: Entry = from_str(alloc, entry)?;
+        assert_that(&rt, read.checked != Some(start));
         assert_text(&rt, to_string(alloc, &read)?, entry);
     }
     Ok(())
@@ -92,6 +94,9 @@ fn other_texts_of_a_moment_are_read(rt: HostRuntime) -> Result<(), Fail> {
 #[test]
 fn a_moment_may_be_missing(rt: HostRuntime) -> Result<(), Fail> {
     let alloc = rt.alloc();
+    let start = OffsetDateTime::UNIX_EPOCH;
+    let read: Perhaps = from_str(alloc, r#"{"at":"1970-01-01T00:00:00Z"}"#)?;
+    assert_that(&rt, read.at == Some(start));
     let read: Perhaps = from_str(alloc, "{}")?;
     assert_text(&rt, to_string(alloc, &read)?, r#"{"at":null}"#);
     Ok(())
