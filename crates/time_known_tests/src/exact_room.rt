@@ -1,4 +1,4 @@
-//! The longest example of each format in a vector of exactly the width.
+//! The longest example of each format in a vector of exactly the maximum length.
 ghost use Rattle.std.specs.Prelude.{◌<◌};
 ghost use Rattle.time_fmt.specs.Room.{HasRoom};
 
@@ -25,7 +25,7 @@ where
     format.write_into(output, value, &mut V::State::default())
 }
 
-/// Writes the longest example into a vector of exactly the width, which the text fills.
+/// Writes the longest example into a vector of exactly the maximum length, which the text fills.
 fn assert_fills<D: Formattable>(
     rt: &impl Abort,
     alloc: Global,

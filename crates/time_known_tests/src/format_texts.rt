@@ -23,8 +23,8 @@ pub(crate) fn some<T>(rt: &impl Abort, found: Option<T>) -> T {
     }
 }
 
-/// Compares the text of a format, appended and made, its count and the width, of the value that has these numbers, and
-/// that the text is sure to be UTF-8.
+/// Compares the text of a format, appended and made, its count and the maximum length, of the value
+/// that has these numbers, and that the text is sure to be UTF-8.
 pub(crate) fn assert_text<D: Formattable>(
     rt: &impl Abort,
     alloc: Global,

@@ -92,7 +92,7 @@ fn signed(rt: &impl Abort, alloc: Global, text: &str, sign: DecimalSign) -> Stri
     text
 }
 
-/// Compares the text, the count and the width by either decimal sign.
+/// Compares the text, the count and the maximum length by either decimal sign.
 fn assert_text(
     rt: &impl Abort,
     alloc: Global,
@@ -107,7 +107,7 @@ fn assert_text(
     }
 }
 
-/// Compares the texts by the choices of rows. Each text fills the width.
+/// Compares the texts by the choices of rows. Each text fills the maximum length.
 fn assert_rows(rt: &impl Abort, alloc: Global, rows: Rows) {
     for &(value, choices, text) in rows {
         let texts = (text, text.len());
@@ -408,7 +408,7 @@ fn each_type_of_value_with_all_groups_is_formatted(rt: HostRuntime) {
     }
 }
 
-/// Appends the parts, and proves the capacity for each by the widths of the configuration.
+/// Appends the parts, and proves the capacity for each by the maximum lengths of the configuration.
 fn append_parts<V: ComponentProvider>(
     config: &Config,
     output: &mut Vec<u8>,

@@ -1,4 +1,6 @@
-//! The rows of `time_read`: texts and their values, places and their words, and what each format writes read back.
+//! The rows of `time_read`: texts and their values, positions and their words, and what each format
+//! writes read back.
+mod feeds;
 mod rfc2822;
 mod rows;
 mod stamps;

@@ -4,8 +4,10 @@ pub mod Kept
 pub mod Keys
 pub mod Lenient
 pub mod Mail
+pub mod MailLenient
 pub mod Names
 pub mod Profiles
 pub mod Refused
 pub mod Shapes
+pub mod Space
 pub mod Stamp

@@ -82,7 +82,7 @@ fn number_of(digits: &[u8]) -> u32
 
 // The same as of `digits`, which is soon told where there are nine.
 #[inline(always)]
-fn first_digits(text: &[u8]) -> (u32, usize)
+pub(crate) fn first_digits(text: &[u8]) -> (u32, usize)
     ensures digits { FirstDigits text.now result.1 }
     ensures value { result.0 ≡ digits_value 10 (take result.1 text.now) }
 {

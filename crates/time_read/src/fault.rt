@@ -50,7 +50,7 @@ pub enum Expected {
     Weekday(Weekday),
 }
 
-/// A text is none of its format: the first place at which it is none.
+/// A text is not one of its format: the first position at which it is invalid.
 #[derive(Debug, Clone, Copy, PartialEq, Eq, Error)]
 #[error("byte {at}: expected {expected}{}", if *.is_second_60 {", since second 60 has no value"} else {""})]
 pub struct NotRead {
@@ -62,7 +62,7 @@ pub struct NotRead {
     pub is_second_60: bool,
 }
 
-// The place by the bytes that are left from there on.
+// The position by the bytes that are left from there on.
 #[derive(Clone, Copy)]
 pub(crate) struct Fault {
     pub(crate) left: usize,

@@ -19,7 +19,7 @@ pub(crate) fn count(names: Names) -> u8
     }
 }
 
-// How many days a month has in a leap year, by its place from 0.
+// How many days a month has in a leap year, by its index from 0.
 #[inline(always)]
 fn longest(place: u8) -> u8
     requires { place < 12 }
@@ -34,7 +34,7 @@ fn longest(place: u8) -> u8
     31
 }
 
-// Whether the name at a place is one of these: whether that month has the day in some year. Each
+// Whether the name at an index is one of these: whether that month has the day in some year. Each
 // weekday is one.
 #[inline(always)]
 pub(crate) fn has_day(names: Names, place: u8) -> bool
@@ -64,7 +64,7 @@ fn weekday_letters(place: u8) -> (u8, u8, u8)
     }
 }
 
-// The letters of a month, by its place from 0.
+// The letters of a month, by its index from 0.
 fn month_letters(place: u8) -> (u8, u8, u8)
     requires { place < 12 }
     ensures { slice_index_or month_names place [] ≡ result.0 ∷ result.1 ∷ result.2 ∷ [] }
@@ -86,7 +86,7 @@ fn month_letters(place: u8) -> (u8, u8, u8)
     }
 }
 
-// The letters of the name at a place.
+// The letters of the name at an index.
 #[inline(always)]
 pub(crate) fn letters(names: Names, place: u8) -> (u8, u8, u8)
     requires { place < length (list_of names) }
@@ -137,7 +137,7 @@ fn month_by(key: u8) -> u8
     }
 }
 
-// The only place at which a name with this second and third letter may be.
+// The only index at which a name with this second and third letter may be.
 #[inline(always)]
 pub(crate) fn place_by(names: Names, second: u8, third: u8) -> u8
     ensures right { (first place : ℕ) → place < length (list_of names)

@@ -27,7 +27,7 @@ fn day_after(text: &[u8]) -> Result<(u8, &[u8]), Fault>
     Ok((day, rest))
 }
 
-// Reads a space and the name of a month that has this day in some year: its place from 0.
+// Reads a space and the name of a month that has this day in some year: its index from 0.
 #[inline(always)]
 fn month_after(text: &[u8], day: u8) -> Result<(u8, &[u8]), Fault>
     requires { day ≤ 31 }
@@ -88,7 +88,7 @@ fn last_of_leap(text: &[u8], century: u8) -> Result<(u8, &[u8]), Fault>
     Ok((10 * tens + ones, rest))
 }
 
-// Whether a day of the month at a place from 0 is the leap day.
+// Whether a day of the month at an index from 0 is the leap day.
 #[inline(always)]
 fn is_leap_day(day: u8, place: u8) -> bool
     ensures { IsTrue result ↔ ((day ≡ 29) × (place ≡ 1)) }
@@ -113,7 +113,7 @@ fn last_of_year(text: &[u8], day: u8, place: u8, century: u8) -> Result<(u8, &[u
     Ok((other, rest))
 }
 
-// Reads a space and a year from 1900 on in which the month at a place from 0 has this day.
+// Reads a space and a year from 1900 on in which the month at an index from 0 has this day.
 #[inline(always)]
 fn year_after(text: &[u8], day: u8, place: u8) -> Result<(u16, &[u8]), Fault>
     requires { day ≤ days_in_month true (place + 1) }
@@ -126,7 +126,7 @@ fn year_after(text: &[u8], day: u8, place: u8) -> Result<(u16, &[u8]), Fault>
     Ok((100 * century as u16 + last as u16, rest))
 }
 
-// Reads a date with the name of some weekday: the weekday, the day, the place of the month from 0
+// Reads a date with the name of some weekday: the weekday, the day, the index of the month from 0
 // and the year.
 #[inline(always)]
 pub(crate) fn named_date(text: &[u8]) -> Result<(u8, u8, u8, u16, &[u8]), Fault>
@@ -159,7 +159,7 @@ pub(crate) fn clock_after(text: &[u8]) -> Result<(u8, u8, u8, &[u8]), Fault>
 
 // Reads a sign: whether it is a minus.
 #[inline(always)]
-fn sign(text: &[u8]) -> Result<(bool, &[u8]), Fault>
+pub(crate) fn sign(text: &[u8]) -> Result<(bool, &[u8]), Fault>
     ensures read { IfOk result (λ r. Front (Sign r.0) text.now r.1.now) }
     ensures fault { IfErr result (λ e. FieldFault 1 (SpellsSome Sign) text.now e) }
 {

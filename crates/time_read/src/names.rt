@@ -8,7 +8,7 @@ ghost use Rattle.time_read.specs.Names.{HasDay, IsSome, NameOf, list_of};
 use crate::fault::{Expected, Fault, Names};
 use crate::letters::{count, has_day, letters, place_by};
 
-// Reads one of these names, or nothing: its place from 0.
+// Reads one of these names, or nothing: its index from 0.
 #[inline(always)]
 pub(crate) fn name(text: &[u8], names: Names) -> Option<(u8, &[u8])>
     ensures read { IfSome result (λ r. Front (NameOf names r.0) text.now r.1.now) }
@@ -25,7 +25,7 @@ pub(crate) fn name(text: &[u8], names: Names) -> Option<(u8, &[u8])>
     None
 }
 
-// Whether the name at a place begins with one or two bytes.
+// Whether the name at an index begins with one or two bytes.
 #[inline(always)]
 fn begins_with(names: Names, place: u8, begun: &[u8]) -> bool
     requires place { place < length (list_of names) }
@@ -105,7 +105,7 @@ fn second_fault(text: &[u8], names: Names) -> Fault
     }
 }
 
-// Reads one of these names: its place from 0.
+// Reads one of these names: its index from 0.
 #[inline(always)]
 pub(crate) fn some_name(text: &[u8], names: Names) -> Result<(u8, &[u8]), Fault>
     requires { IsSome names }

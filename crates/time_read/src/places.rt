@@ -1,4 +1,4 @@
-//! The place of a fault, of a text that is refused.
+//! The position of a fault, of a text that is refused.
 ghost use Rattle.std.specs.Prelude.{◌≡◌, ◌-◌, ◌<◌, ◌≤◌, ◌↔◌, IsTrue, length};
 ghost use Rattle.time_read.specs.Fault.{IsSecond60, SpellsSome};
 ghost use Rattle.time_read.specs.Front.{TextFault};
@@ -7,7 +7,7 @@ ghost use Rattle.time_read.specs.Refused.{IsRefused};
 
 use crate::fault::{Fault, NotRead, Profile};
 
-// The place of the seconds in a text of RFC 3339, and in a stamp.
+// The position of the seconds in a text of RFC 3339, and in a stamp.
 pub(crate) const SECONDS: usize = 17;
 
 // Whether second 60 stands there. The seconds of the text stand at `seconds`.
@@ -19,7 +19,7 @@ fn is_second_60(text: &[u8], at: usize, seconds: usize) -> bool
     at == seconds && text.len() > seconds + 1 && text[seconds] == b'6' && text[seconds + 1] == b'0'
 }
 
-// The place of a fault by the bytes that are left. The seconds of the text stand at `seconds`.
+// The position of a fault by the bytes that are left. The seconds of the text stand at `seconds`.
 #[inline(always)]
 pub(crate) fn place_of_fault(text: &[u8], fault: Fault, seconds: usize) -> NotRead
     requires left { fault.left ≤ length text.now }
@@ -36,7 +36,7 @@ pub(crate) fn place_of_fault(text: &[u8], fault: Fault, seconds: usize) -> NotRe
     }
 }
 
-// The place at which a text of RFC 3339 is refused whose first fault this is.
+// The position at which a text of RFC 3339 is refused whose first fault this is.
 #[inline(always)]
 pub(crate) fn place_of(text: &[u8], fault: Fault, _profile: Profile) -> NotRead
     requires { TextFault (SpellsSome (ReadsAs _profile)) text.now fault }

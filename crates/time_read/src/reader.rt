@@ -1,4 +1,4 @@
-//! A reader of many texts, which keeps the last date.
+//! A reader of many texts, which caches the last date.
 ghost use Rattle.std.specs.Prelude.{◌≡◌, ◌≤◌, ◌↔◌, IfOk, IfErr, IfSome, IsTrue, true, drop, length, take};
 ghost use Rattle.std.specs.Int.{from_le_bytes, to_le_bytes, w64};
 ghost use Rattle.time_below.specs.Moment.{OffsetDateAndTime};
@@ -16,8 +16,9 @@ use time_below::{Date, Month, OffsetDateTime};
 // The bytes of a date.
 const LENGTH: usize = 10;
 
-/// A reader of texts of RFC 3339, section 5.6, as lenient as [`read_lenient`]. It keeps the last date by its
-/// bytes, since the lines of a log mostly share their day. What is kept changes no result.
+/// A reader of texts of RFC 3339, section 5.6, as lenient as [`read_lenient`]. It caches the last
+/// date by its bytes, since the lines of a log mostly share their day. What is cached changes no
+/// result.
 #[derive(Drop)]
 pub struct LenientReader {
     date: Date,
@@ -54,7 +55,7 @@ impl LenientReader {
         }
     }
 
-    // Whether a text begins with a date, which then is the one that is kept.
+    // Whether a text begins with a date, which then is the one that is cached.
     #[inline(always)]
     fn keeps(&mut self, text: &[u8]) -> bool
         requires { LENGTH ≤ length text.now }

@@ -1,19 +1,30 @@
 //! RFC 2822.
-ghost use Rattle.std.specs.Prelude.{◌≡◌, ◌≤◌, ◌↔◌, IfOk, IfErr, IsTrue, length};
+ghost use Rattle.std.specs.Prelude.{◌≡◌, ◌<◌, ◌≤◌, ◌↔◌, IfSome, IfOk, IfErr, IsTrue, OnOk};
+ghost use Rattle.std.specs.Prelude.{false, length};
+ghost use Rattle.time_below.specs.Calendar.{weekday_of};
 ghost use Rattle.time_below.specs.Moment.{OffsetDateAndTime};
+ghost use Rattle.time_below.specs.TimeOfDay.{time_of};
 ghost use Rattle.time_known.specs.Rfc2822Grammar.{Rfc2822Spells};
+ghost use Rattle.time_known.specs.Rules.{◌▹◌};
 ghost use Rattle.time_read.specs.Fault.{IsSecond60, SpellsSome};
-ghost use Rattle.time_read.specs.Front.{TextFault};
+ghost use Rattle.time_read.specs.Front.{Front, TextFault};
 ghost use Rattle.time_read.specs.Mail.{IsMailPlace, MailText, SpellsButWeekday};
+ghost use Rattle.time_read.specs.MailLenient.{MailMeans, MeansClock, MeansDate};
+ghost use Rattle.time_read.specs.Shapes.{IsDay, date_of_day};
+ghost use Rattle.time_read.specs.Space.{IsGap, IsSpace};
 
-use crate::days::{Day, date_of};
+use crate::days::{Day, date_of, days_of_month};
 use crate::fault::{Expected, Fault, NotRead};
+use crate::feed::{day, month, second_and_gap, two, weekday, year};
 use crate::mail::{clock_after, named_date, zone_after};
+use crate::not_mail::{MailFault, MailPart, NotMail};
 use crate::offset::{end, signed_offset};
 use crate::places::place_of_fault;
-use time_below::{OffsetDateTime, Time};
+use crate::space::{gap, mark, space};
+use crate::zones::zone;
+use time_below::{Date, OffsetDateTime, Time};
 
-// The place of the seconds in a text.
+// The position of the seconds in a text.
 const SECONDS: usize = 23;
 
 // Reads a whole text, with the name of some weekday.
@@ -34,7 +45,7 @@ fn fields(text: &[u8]) -> Result<(u8, OffsetDateTime), Fault>
 }
 
 // The value of a text that names this weekday, if that is the weekday of its date. If not, the
-// place of the weekday.
+// position of the weekday.
 #[inline(always)]
 fn on_weekday(_text: &[u8], weekday: u8, value: OffsetDateTime) -> Result<OffsetDateTime, NotRead>
     requires { MailText weekday value _text.now }
@@ -57,8 +68,8 @@ fn on_weekday(_text: &[u8], weekday: u8, value: OffsetDateTime) -> Result<Offset
 
 /// The value that a text of RFC 2822, section 3.3, spells: 31 bytes, with the weekday of the date,
 /// single spaces, a year from 1900, an offset by its hours 00 to 25 and its minutes, no second 60
-/// and no offset `-0000`. Any other text is refused at the first place where it is none, whatever
-/// weekday is named. One that is wrong in the name of the weekday alone is refused there.
+/// and no offset `-0000`. Any other text is refused at the first position at which it is invalid,
+/// whatever weekday is named. One that is wrong in the name of the weekday alone is refused there.
 pub fn read(text: &[u8]) -> Result<OffsetDateTime, NotRead>
     ensures read { IfOk result (λ v. Rfc2822Spells v text.now) }
     ensures refused { IfErr result (λ _. (v : OffsetDateAndTime) → ¬ Rfc2822Spells v text.now) }
@@ -69,5 +80,116 @@ pub fn read(text: &[u8]) -> Result<OffsetDateTime, NotRead>
     match fields(text) {
         Ok((weekday, value)) => on_weekday(text, weekday, value),
         Err(fault) => Err(place_of_fault(text, fault, SECONDS)),
+    }
+}
+
+// Whether a weekday is named that is not the date's.
+fn is_other_weekday(weekday: Option<u8>, date: Date) -> bool
+    ensures { result ≡ false → IfSome weekday (λ w. w ≡ weekday_of date) }
+{
+    match weekday {
+        Some(weekday) => date.weekday().number_days_from_monday() != weekday,
+        None => false,
+    }
+}
+
+// Reads a date of mail.
+fn lenient_date(text: &[u8]) -> Result<(Day, &[u8]), MailFault>
+    ensures read { IfOk result (λ r. Front (MeansDate (date_of_day r.0)) text.now r.1.now) }
+    ensures day { IfOk result (λ r. IsDay r.0) }
+    ensures shorter { IfOk result (λ r. length r.1.now ≤ length text.now) }
+    ensures left { IfErr result (λ e. e.left ≤ length text.now) }
+{
+    let (weekday, from_day) = weekday(text)?;
+    let (day, rest) = day(from_day)?;
+    let rest = gap(rest)?;
+    let (place, rest) = month(rest)?;
+    let rest = gap(rest)?;
+    let (year, rest) = year(rest)?;
+    let month = place + 1;
+    if days_of_month(year, month) < day {
+        return Err(MailFault {
+            left: from_day.len(),
+            expected: MailPart::DayOfMonth,
+        });
+    }
+    let found = Day { year, month, day };
+    let date = date_of(found);
+    if is_other_weekday(weekday, date) {
+        return Err(MailFault {
+            left: text.len(),
+            expected: MailPart::Weekday(date.weekday()),
+        });
+    }
+    Ok((found, rest))
+}
+
+// Reads an hour, a minute, a second, if there is one, and the gap after them.
+fn lenient_clock(text: &[u8]) -> Result<(u8, u8, u8, &[u8]), MailFault>
+    ensures read { IfOk result (λ r.
+        Front (MeansClock (time_of r.0 r.1 r.2 0) ▹ IsGap) text.now r.3.now) }
+    ensures hour { IfOk result (λ r. r.0 < 24) }
+    ensures minute { IfOk result (λ r. r.1 < 60) }
+    ensures second { IfOk result (λ r. r.2 < 60) }
+    ensures shorter { IfOk result (λ r. length r.3.now ≤ length text.now) }
+    ensures left { IfErr result (λ e. e.left ≤ length text.now) }
+{
+    let (hour, rest) = two(text, 23, MailPart::Hour)?;
+    let rest = mark(rest, b':', MailPart::Colon)?;
+    let (minute, rest) = two(rest, 59, MailPart::Minute)?;
+    let (second, rest) = second_and_gap(rest)?;
+    Ok((hour, minute, second, rest))
+}
+
+// Reads white space and comments to the end of the text.
+fn lenient_end(text: &[u8]) -> Result<(), MailFault>
+    ensures read { OnOk result (IsSpace text.now) }
+    ensures left { IfErr result (λ e. e.left ≤ length text.now) }
+{
+    let rest = space(text)?;
+    if !rest.is_empty() {
+        return Err(MailFault {
+            left: rest.len(),
+            expected: MailPart::End,
+        });
+    }
+    Ok(())
+}
+
+// Reads a whole text of mail.
+fn lenient(text: &[u8]) -> Result<OffsetDateTime, MailFault>
+    ensures read { IfOk result (λ v. MailMeans v text.now) }
+    ensures left { IfErr result (λ e. e.left ≤ length text.now) }
+{
+    let rest = space(text)?;
+    let (day, rest) = lenient_date(rest)?;
+    let rest = gap(rest)?;
+    let (hour, minute, second, rest) = lenient_clock(rest)?;
+    let (is_negative, hours, minutes, rest) = zone(rest)?;
+    lenient_end(rest)?;
+    let date = date_of(day);
+    let time = Time::from_valid_hms_nano(hour, minute, second, 0);
+    let offset = signed_offset(is_negative, hours, minutes);
+    Ok(OffsetDateTime::new_in_offset(date, time, offset))
+}
+
+/// The value that a text of mail or of a feed means. Beside what [`read`] takes these are the
+/// obsolete forms of RFC 5322, section 4.3, and what mailers write: white space and comments, which
+/// may nest, between the parts; letters in either case; a day of one digit; a year of three digits,
+/// which are added to 1900, or of two, of 1950 to 2049; no weekday; no seconds; zones by name and by
+/// letter, where each letter but `J` is UTC; and `-0000`, which is UTC too. Second 60 means second
+/// 59. A weekday that is not the date's is refused, and so is a zone without a meaning, as `CET`.
+/// The value is proved to be one that the text means. That each text with a meaning is read, and that
+/// the place is the first part that is none, is tested.
+pub fn read_lenient(text: &[u8]) -> Result<OffsetDateTime, NotMail>
+    ensures read { IfOk result (λ v. MailMeans v text.now) }
+    ensures within { IfErr result (λ e. e.at ≤ length text.now) }
+{
+    match lenient(text) {
+        Ok(value) => Ok(value),
+        Err(fault) => Err(NotMail {
+            at: text.len() - fault.left,
+            expected: fault.expected,
+        }),
     }
 }

@@ -14,7 +14,7 @@ use crate::places::{SECONDS, place_of};
 use crate::value::{Lenient, Reads, Strict, value_of};
 use time_below::OffsetDateTime;
 
-// The value of a text, or the place at which it is refused.
+// The value of a text, or the position at which it is refused.
 #[inline(always)]
 fn value_or_place<P: Reads>(text: &[u8]) -> Result<OffsetDateTime, NotRead>
     ensures read { IfOk result (λ v. ReadsAs P.PROFILE v text.now) }
@@ -45,8 +45,9 @@ fn leniently(text: &[u8]) -> Result<OffsetDateTime, NotRead>
     value_or_place::<Lenient>(text)
 }
 
-/// The value that a text of RFC 3339, section 5.6, spells: capital letters, one to nine decimals, if any, no
-/// second 60 and no offset `-00:00`. Any other text is refused at the first place where it is none.
+/// The value that a text of RFC 3339, section 5.6, spells: capital letters, one to nine decimals,
+/// if any, no second 60 and no offset `-00:00`. Any other text is refused at the first position at
+/// which it is invalid.
 #[inline(always)]
 pub fn read(text: &[u8]) -> Result<OffsetDateTime, NotRead>
     ensures read { IfOk result (λ v. Rfc3339Spells v text.now) }
@@ -62,9 +63,10 @@ pub fn read(text: &[u8]) -> Result<OffsetDateTime, NotRead>
     }
 }
 
-/// The value that a text of RFC 3339, section 5.6, means, also one with a small `t` or `z`, with more than
-/// nine decimals, of which the first nine count, or with the unknown offset `-00:00` (section 4.3), which
-/// is read as UTC. Any other text is refused at the first place where it is none.
+/// The value that a text of RFC 3339, section 5.6, means, also one with a small `t` or `z`, with
+/// more than nine decimals, of which the first nine count, or with the unknown offset `-00:00`
+/// (section 4.3), which is read as UTC. Any other text is refused at the first position at which it
+/// is invalid.
 #[inline(always)]
 pub fn read_lenient(text: &[u8]) -> Result<OffsetDateTime, NotRead>
     ensures read { IfOk result (λ v. Rfc3339Means v text.now) }

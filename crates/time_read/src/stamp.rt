@@ -62,7 +62,7 @@ fn fields(text: &[u8]) -> Result<UtcDateTime, Fault>
 }
 
 /// The date and time in UTC whose stamp a text is, as `stamp_into` of `time_known` writes it: nine
-/// decimals and `Z`. Any other text is refused at the first place where it is none.
+/// decimals and `Z`. Any other text is refused at the first position at which it is invalid.
 pub fn read(text: &[u8]) -> Result<UtcDateTime, NotRead>
     ensures read { IfOk result (λ v. IsStamp v text.now) }
     ensures refused { IfErr result (λ _. (v : DateAndTime) → ¬ IsStamp v text.now) }

@@ -64,7 +64,7 @@ const TEXTS: &[(Parts, &str)] = &[
     ),
 ];
 
-/// Moments in this order, so that each second is kept, left and met again.
+/// Moments in this order, so that each second is cached, left and met again.
 const BORDERS: &[((i64, u32), &str)] = &[
     ((1_795_341_359, 998_000_000), "2026-11-22T09:55:59.998Z"),
     ((1_795_341_359, 999_999_999), "2026-11-22T09:55:59.999Z"),

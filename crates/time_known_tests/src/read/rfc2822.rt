@@ -1,4 +1,5 @@
-//! Texts of RFC 2822 with their values, and texts that are refused with the words of their place.
+//! Texts of RFC 2822 with their values, and texts that are refused with the words of their
+//! position.
 use crate::read::rows::{Parts, assert_place, assert_value};
 use std::process::Abort;
 use std::test::Fail;
@@ -27,7 +28,7 @@ const TEXTS: &[(&str, Parts)] = &[
     ),
 ];
 
-/// The places are those of a program that completes each prefix in all ways.
+/// The positions are those of a program that completes each prefix in all ways.
 const REFUSED: &[(&str, &str)] = &[
     ("", "byte 0: expected the name of a weekday"),
     (
@@ -95,6 +96,30 @@ const REFUSED: &[(&str, &str)] = &[
     (
         "Sat, 21 Nov 1997 09:55:06 -0600",
         "byte 0: expected `Fri`, the weekday of this date",
+    ),
+    (
+        "Sun, 23 Nov 2026 09:55:06 -0600",
+        "byte 0: expected `Mon`, the weekday of this date",
+    ),
+    (
+        "Mon, 24 Nov 2026 09:55:06 -0600",
+        "byte 0: expected `Tue`, the weekday of this date",
+    ),
+    (
+        "Tue, 25 Nov 2026 09:55:06 -0600",
+        "byte 0: expected `Wed`, the weekday of this date",
+    ),
+    (
+        "Wed, 26 Nov 2026 09:55:06 -0600",
+        "byte 0: expected `Thu`, the weekday of this date",
+    ),
+    (
+        "Fri, 28 Nov 2026 09:55:06 -0600",
+        "byte 0: expected `Sat`, the weekday of this date",
+    ),
+    (
+        "Sat, 22 Nov 2026 09:55:06 -0600",
+        "byte 0: expected `Sun`, the weekday of this date",
     ),
 ];
 

@@ -1,5 +1,6 @@
-//! Texts with their values, and texts that are refused with the words of their place.
+//! Texts with their values, and texts that are refused with the words of their position.
 use std::alloc::Global;
+use std::fmt::Display;
 use std::process::Abort;
 use std::test::Fail;
 use time_below::OffsetDateTime;
@@ -23,9 +24,9 @@ fn leniently(text: &str) -> Result<OffsetDateTime, NotRead> {
     rfc3339::read_lenient(text.as_bytes())
 }
 
-pub(crate) fn assert_value(
+pub(crate) fn assert_value<E: Display + Drop>(
     rt: &impl Abort,
-    read: Result<OffsetDateTime, NotRead>,
+    read: Result<OffsetDateTime, E>,
     text: &str,
     parts: Parts,
 ) {
@@ -35,10 +36,10 @@ pub(crate) fn assert_value(
     }
 }
 
-pub(crate) fn assert_place<V>(
+pub(crate) fn assert_place<V, E: Display + Drop>(
     rt: &impl Abort,
     alloc: Global,
-    read: Result<V, NotRead>,
+    read: Result<V, E>,
     text: &str,
     words: &str,
 ) {

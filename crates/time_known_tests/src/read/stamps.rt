@@ -1,4 +1,4 @@
-//! Stamps with their values, and texts that are refused with the words of their place.
+//! Stamps with their values, and texts that are refused with the words of their position.
 use crate::read::rows::assert_place;
 use std::process::Abort;
 use std::test::Fail;

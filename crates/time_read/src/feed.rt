@@ -1,0 +1,177 @@
+//! The fields of a text of mail or of a feed.
+ghost use Rattle.std.specs.Prelude.{◌≡◌, ◌<◌, ◌≤◌, ◌↔◌, IsTrue, IfOk, IfErr, IfSome, length, take};
+ghost use Rattle.std.specs.Int.{IsInRange};
+ghost use Rattle.time_known.specs.Rfc2822Grammar.{month_names};
+ghost use Rattle.time_known.specs.Rules.{◌▹◌, Name};
+ghost use Rattle.time_read.specs.Front.{Front};
+ghost use Rattle.time_read.specs.MailLenient.{AnyCase, MeansDay, MeansSecond, MeansWeekday};
+ghost use Rattle.time_read.specs.MailLenient.{MeansYear, full_year};
+ghost use Rattle.time_read.specs.Names.{list_of};
+ghost use Rattle.time_read.specs.Shapes.{Two};
+ghost use Rattle.time_read.specs.Space.{IsGap};
+
+use crate::decimals::first_digits;
+use crate::digits::{after, two_within};
+use crate::fault::Names;
+use crate::letters::{count, letters};
+use crate::not_mail::{MailFault, MailPart};
+use crate::space::{gap, mark, space};
+
+// Whether a text begins with the name at a place, in either case.
+fn is_name(text: &[u8], names: Names, place: u8) -> bool
+    requires place { place < length (list_of names) }
+    requires long { 3 ≤ length text.now }
+    ensures { IsTrue result ↔ AnyCase (Name (list_of names) place) (take 3 text.now) }
+{
+    let (one, two, three) = letters(names, place);
+    text[..3].eq_ignore_ascii_case(&[one, two, three])
+}
+
+// Reads one of these names in either case, or nothing: its place from 0.
+fn some_name(text: &[u8], names: Names) -> Option<(u8, &[u8])>
+    ensures read { IfSome result (λ r.
+        Front (AnyCase (Name (list_of names) r.0)) text.now r.1.now) }
+    ensures range { IfSome result (λ r. r.0 < length (list_of names)) }
+    ensures shorter { IfSome result (λ r. length r.1.now ≤ length text.now) }
+{
+    if text.len() < 3 {
+        return None;
+    }
+    let mut place = 0;
+    while place < count(names) {
+        if is_name(text, names, place) {
+            return Some((place, &text[3..]));
+        }
+        place += 1;
+    }
+    None
+}
+
+// Whether a text begins with a digit.
+fn begins_with_digit(text: &[u8]) -> bool {
+    match text {
+        [first, ..] => first.is_ascii_digit(),
+        [] => false,
+    }
+}
+
+// Reads the name of a weekday and a comma, or nothing before a day: its days from Monday.
+pub(crate) fn weekday(text: &[u8]) -> Result<(Option<u8>, &[u8]), MailFault>
+    ensures read { IfOk result (λ r. Front (MeansWeekday r.0) text.now r.1.now) }
+    ensures range { IfOk result (λ r. IfSome r.0 (λ w. w < 7)) }
+    ensures shorter { IfOk result (λ r. length r.1.now ≤ length text.now) }
+    ensures left { IfErr result (λ e. e.left ≤ length text.now) }
+{
+    if begins_with_digit(text) {
+        return Ok((None, text));
+    }
+    let Some((weekday, rest)) = some_name(text, Names::Weekday) else {
+        return Err(MailFault {
+            left: text.len(),
+            expected: MailPart::WeekdayOrDay,
+        });
+    };
+    let rest = mark(rest, b',', MailPart::Comma)?;
+    Ok((Some(weekday), rest))
+}
+
+// Reads a day of one digit or two.
+pub(crate) fn day(text: &[u8]) -> Result<(u8, &[u8]), MailFault>
+    ensures read { IfOk result (λ r. Front (MeansDay r.0) text.now r.1.now) }
+    ensures range { IfOk result (λ r. IsInRange 1 31 r.0) }
+    ensures shorter { IfOk result (λ r. length r.1.now ≤ length text.now) }
+    ensures left { IfErr result (λ e. e.left ≤ length text.now) }
+{
+    let (number, count) = first_digits(text);
+    if count < 1 || 2 < count || number < 1 || 31 < number {
+        return Err(MailFault {
+            left: text.len(),
+            expected: MailPart::Day,
+        });
+    }
+    Ok((number as u8, &text[count..]))
+}
+
+// Reads the name of a month: its place from 0.
+pub(crate) fn month(text: &[u8]) -> Result<(u8, &[u8]), MailFault>
+    ensures read { IfOk result (λ r. Front (AnyCase (Name month_names r.0)) text.now r.1.now) }
+    ensures range { IfOk result (λ r. r.0 < 12) }
+    ensures shorter { IfOk result (λ r. length r.1.now ≤ length text.now) }
+    ensures left { IfErr result (λ e. e.left ≤ length text.now) }
+{
+    match some_name(text, Names::MonthWith(1)) {
+        Some(read) => Ok(read),
+        None => Err(MailFault {
+            left: text.len(),
+            expected: MailPart::Month,
+        }),
+    }
+}
+
+// The year that some digits mean, by how many they are.
+fn full_year(count: usize, number: u32) -> u32
+    requires { number < 10_000 }
+    ensures { result ≡ full_year count number }
+{
+    match (count, number) {
+        (2, 0..50) => 2000 + number,
+        (2 | 3, _) => 1900 + number,
+        _ => number,
+    }
+}
+
+// Reads a year of two to four digits, from 1900 on.
+pub(crate) fn year(text: &[u8]) -> Result<(u16, &[u8]), MailFault>
+    ensures read { IfOk result (λ r. Front (MeansYear r.0) text.now r.1.now) }
+    ensures range { IfOk result (λ r. r.0 < 10_000) }
+    ensures shorter { IfOk result (λ r. length r.1.now ≤ length text.now) }
+    ensures left { IfErr result (λ e. e.left ≤ length text.now) }
+{
+    let (number, count) = first_digits(text);
+    let fault = MailFault {
+        left: text.len(),
+        expected: MailPart::Year,
+    };
+    if count < 2 || 4 < count || 10_000 <= number {
+        return Err(fault);
+    }
+    let year = full_year(count, number);
+    if year < 1900 || 10_000 <= year {
+        return Err(fault);
+    }
+    Ok((year as u16, &text[count..]))
+}
+
+// Reads two digits of a number up to the greatest.
+pub(crate) fn two(text: &[u8], greatest: u8, expected: MailPart) -> Result<(u8, &[u8]), MailFault>
+    requires { greatest < 100 }
+    ensures read { IfOk result (λ r. Front (Two 0 greatest r.0) text.now r.1.now) }
+    ensures range { IfOk result (λ r. r.0 ≤ greatest) }
+    ensures shorter { IfOk result (λ r. length r.1.now ≤ length text.now) }
+    ensures left { IfErr result (λ e. e.left ≤ length text.now) }
+{
+    match two_within(text, 0, greatest) {
+        Some(read) => Ok(read),
+        None => Err(MailFault {
+            left: text.len(),
+            expected,
+        }),
+    }
+}
+
+// Reads a second after a colon, if there is one, and a gap. Second 60 means 59.
+pub(crate) fn second_and_gap(text: &[u8]) -> Result<(u8, &[u8]), MailFault>
+    ensures read { IfOk result (λ r. Front (MeansSecond r.0 ▹ IsGap) text.now r.1.now) }
+    ensures range { IfOk result (λ r. r.0 < 60) }
+    ensures shorter { IfOk result (λ r. length r.1.now ≤ length text.now) }
+    ensures left { IfErr result (λ e. e.left ≤ length text.now) }
+{
+    if after(space(text)?, b':').is_none() {
+        let rest = gap(text)?;
+        return Ok((0, rest));
+    }
+    let rest = mark(text, b':', MailPart::Colon)?;
+    let (second, rest) = two(rest, 60, MailPart::Second)?;
+    let rest = gap(rest)?;
+    Ok((second.min(59), rest))
+}
