@@ -12,18 +12,18 @@ use time_provide::ComponentProvider;
 
 /// A value, which any description formats.
 ///
-/// Nothing is kept between two calls. The calls of `Formattable` take a state, and keep the costly
-/// components of a value in it for the next text.
+/// Nothing is cached between two calls. The calls of `Formattable` take a state, and cache the
+/// costly components of a value in it for the next text.
 pub trait FormatValue: ComponentProvider
 where
     Self::State: Drop,
 {
-    /// Appends the text of the value. Reserves once if the spare capacity is below the width: the capacity
-    /// becomes what is needed, or twice what it was if that is more.
+    /// Appends the text of the value. Reserves once if the spare capacity is below the maximum
+    /// length: the capacity becomes what is needed, or twice what it was if that is more.
     ///
     /// Returns the number of bytes appended, or the refusal that ends the text. The bytes appended
-    /// before a refusal stay. If the reservation fails, or the width has reached the greatest
-    /// `usize`, the result is `OutOfMemory`, and the output is unchanged.
+    /// before a refusal stay. If the reservation fails, or the maximum length has reached the
+    /// greatest `usize`, the result is `OutOfMemory`, and the output is unchanged.
     #[inline(always)]
     final fn format_into<F: Formattable>(
         &self,
@@ -40,7 +40,7 @@ where
         ensures reserves { Reserves output.old (F.width_of format.now) (vec_capacity output.new)
             (is_out_of_memory result) }
 
-        // `OutOfMemory` changes nothing, and is never returned if the width fits.
+        // `OutOfMemory` changes nothing, and is never returned if the maximum length fits.
         ensures unchanged { result ≡ Err Format.OutOfMemory → output.new.items ≡ output.old.items }
         ensures too_wide { usize.MAX ≤ F.width_of format.now → result ≡ Err Format.OutOfMemory }
         ensures room { HasRoom output.old (F.width_of format.now)
@@ -50,8 +50,8 @@ where
         format.format_into(output, self, &mut Self::State::default())
     }
 
-    /// Appends the text of the value. The output needs spare capacity for the width, which must be below
-    /// the greatest `usize`. Allocates nothing.
+    /// Appends the text of the value. The output needs spare capacity for the maximum length, which
+    /// must be below the greatest `usize`. Allocates nothing.
     ///
     /// Returns the number of bytes appended, or the refusal that ends the text. The bytes appended
     /// before a refusal stay.
@@ -77,8 +77,8 @@ where
     /// The text of the value, after one reservation, or the refusal that ends it. Bytes that are no UTF-8,
     /// which only byte literals make, are read as a whole with U+FFFD for what is no character.
     ///
-    /// The result is `OutOfMemory` if an allocation fails, for the text or for reading bytes that are no
-    /// UTF-8, or if the width has reached the greatest `usize`.
+    /// The result is `OutOfMemory` if an allocation fails, for the text or for reading bytes that
+    /// are no UTF-8, or if the maximum length has reached the greatest `usize`.
     #[inline(always)]
     final fn format<F: Formattable>(&self, alloc: Global, format: &F) -> Result<String, Format>
         ensures text { IfOk result (λ text. string_bytes text
@@ -97,7 +97,8 @@ where
         ensures named { IfErr result (λ e. e ≢ Format.OutOfMemory
             → IsSomeAnd (F.outcome_of format.now (Self.facts self.now)).refusal (Names e)) }
 
-        // `OutOfMemory` is certain if the width is too great, and is never returned if nothing is needed.
+        // `OutOfMemory` is certain if the maximum length is too great, and is never returned if
+        // nothing is needed.
         ensures too_wide { usize.MAX ≤ F.width_of format.now → result ≡ Err Format.OutOfMemory }
         ensures nothing_needed { F.width_of format.now ≡ 0 → result ≢ Err Format.OutOfMemory }
     {

@@ -1,4 +1,5 @@
-//! Descriptions that are known when they are compiled, by their parts in order. One import has all that it takes:
+//! Descriptions that are known at compile time, by their parts in order. One import has all that it
+//! takes:
 //!
 //! ```text
 //! use time::parts::*;

@@ -11,5 +11,9 @@ mod shown;
 mod step;
 mod write;
 
+pub use literal::Literal;
 pub use plan::Plan;
+pub use shown::{Run, Separators, Shown};
+pub use step::Step;
 pub use time_describe::{InvalidDescription, InvalidStrftime};
+pub use write::{end_shown, write_steps};

@@ -62,6 +62,15 @@ impl Plan {
         Ok(Plan::of_steps(steps))
     }
 
+    /// The steps, in order: a component or a run of them, and the literal behind it.
+    #[inline]
+    pub fn steps(&self) -> &[Step]
+        ensures outcome { ⟦<Plan as Formattable>⟧.outcome_of self.now ≡ trees_outcome (step_trees result.now) }
+        ensures width { ⟦<Plan as ComputeMetadata>⟧.width_of self.now ≡ trees_width (step_trees result.now) }
+    {
+        self.steps.as_slice()
+    }
+
     /// The plan that has these steps.
     #[inline]
     fn of_steps(steps: Vec<Step>) -> Plan

@@ -20,7 +20,7 @@ impl Shown {
 
     /// The most bytes that are shown.
     #[inline]
-    pub(crate) fn width(&self) -> usize
+    pub fn width(&self) -> usize
         ensures { result ≡ tree_width (shown_tree self.now) }
     {
         match self {

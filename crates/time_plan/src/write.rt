@@ -21,7 +21,7 @@ use time_provide::ComponentProvider;
 /// taken out of its borrow meanwhile, so that its address and its length stay in registers from one
 /// step to the next.
 #[inline(never)]
-pub(crate) fn write_steps<S: Sink, V: ComponentProvider>(
+pub fn write_steps<S: Sink, V: ComponentProvider>(
     steps: &[Step],
     output: &mut S,
     value: &V,
@@ -160,7 +160,7 @@ fn write_seldom<S: Sink, V: ComponentProvider>(
 }
 
 /// Writes what a step shows, or returns its refusal.
-fn end_shown<S: Sink, V: ComponentProvider>(
+pub fn end_shown<S: Sink, V: ComponentProvider>(
     shown: &Shown,
     output: &mut S,
     value: &V,

@@ -1,0 +1,17 @@
+use Rattle.std.proofs.Common.{◌≡◌, IfNone, subst, sym}
+use Rattle.time_below.specs.Facts.{Facts}
+use Rattle.time_fmt.specs.Outcome.{Outcome, done}
+use Rattle.time_plan_read.proofs.compare.difference.Goals as goal
+
+-- the plan's text is that of its steps
+pub returns-then-fits_plainly : goal.returns-then-fits_plainly
+returns-then-fits_plainly g c =
+    let P : (Facts → Outcome) → Type 0 = λ outcome. IfNone c.whole_difference.result
+    (outcome (g.V.ComponentProvider.facts c.args.value.now) ≡ done c.args.text.now) in
+    record { same = subst P (sym c.steps.ensures.outcome) c.whole_difference.ensures.same }
+
+pub returns-else-fits_plainly : goal.returns-else-fits_plainly
+returns-else-fits_plainly g c =
+    let P : (Facts → Outcome) → Type 0 = λ outcome. IfNone c.stepwise_difference.result
+    (outcome (g.V.ComponentProvider.facts c.args.value.now) ≡ done c.args.text.now) in
+    record { same = subst P (sym c.steps-else-fits_plainly.ensures.outcome) c.stepwise_difference.ensures.same }

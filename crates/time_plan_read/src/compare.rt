@@ -1,0 +1,160 @@
+//! The text of a value by the steps of a plan, compared with another one.
+ghost use Rattle.std.specs.Prelude.{◌≡◌, ◌≤◌, ℕ, List, ◌++◌, IfSome, IfNone, length, take};
+ghost use Rattle.time_below.specs.Tree.{Tree, Trees, more};
+ghost use Rattle.time_below.specs.Width.{tree_width, trees_width};
+ghost use Rattle.time_fmt.specs.Description.{tree_outcome, trees_outcome};
+ghost use Rattle.time_fmt.specs.Outcome.{done};
+ghost use Rattle.time_plan.specs.Shown.{shown_tree};
+ghost use Rattle.time_plan.specs.Steps.{step_tree, step_trees};
+
+use crate::names::{after_all, after_literal};
+use std::default::Default;
+use std::marker::Brand;
+use time_fmt::{Before, ComponentProvider, Formattable, RoomSink};
+use time_plan::{Plan, Shown, Step, end_shown, write_steps};
+
+/// The most bytes of a text that is compared as a whole.
+const ROOM: usize = 64;
+
+/// Where the text of a value by the plan and this text differ, if they do.
+#[inline(always)]
+pub(crate) fn difference<V: ComponentProvider>(plan: &Plan, text: &[u8], value: &V) -> Option<usize>
+where
+    V::State: Drop,
+    ensures same { IfNone result (⟦<Plan as Formattable>⟧.outcome_of plan.now (V.facts value.now)
+        ≡ done text.now) }
+{
+    if plan.fits_plainly(ROOM) {
+        whole_difference(plan.steps(), text, value)
+    } else {
+        stepwise_difference(plan.steps(), text, value)
+    }
+}
+
+/// The same for steps whose texts have room in an array.
+#[inline(always)]
+fn whole_difference<V: ComponentProvider>(steps: &[Step], text: &[u8], value: &V) -> Option<usize>
+where
+    V::State: Drop,
+    requires room { trees_width (step_trees steps.now) ≤ ROOM }
+    ensures same { IfNone result (trees_outcome (step_trees steps.now) (V.facts value.now) ≡ done text.now) }
+{
+    let mut room = [0u8; ROOM];
+    let Some(count) = written::<Brand, V>(steps, &mut room, value) else {
+        return Some(0);
+    };
+    let own = &room[..count];
+    if own == text {
+        None
+    } else {
+        Some(same_bytes(own, text))
+    }
+}
+
+/// Writes the text of a value to the start of a buffer, and returns the number of its bytes, or nothing if
+/// the value is refused.
+fn written<B: Before, V: ComponentProvider>(
+    steps: &[Step],
+    room: &mut [u8],
+    value: &V,
+) -> Option<usize>
+where
+    V::State: Drop,
+    requires before { room.old ≡ B.before }
+    requires room { trees_width (step_trees steps.now) ≤ length room.old }
+    ensures text { IfSome result (λ count. trees_outcome (step_trees steps.now) (V.facts value.now)
+        ≡ done (take count room.new)) }
+    ensures within { IfSome result (λ count. count ≤ length room.new) }
+{
+    let mut state = V::State::default();
+    let mut sink = RoomSink::<B>::new(room);
+    match write_steps(steps, &mut sink, value, &mut state) {
+        Ok(_) => Some(sink.len()),
+        Err(_) => None,
+    }
+}
+
+/// The most bytes that a step shows before its literal.
+const SHOWN_ROOM: usize = 32;
+
+/// The same for steps of any width, one by one. Literals are compared where they lie.
+#[inline(never)]
+fn stepwise_difference<V: ComponentProvider>(
+    steps: &[Step],
+    text: &[u8],
+    value: &V,
+) -> Option<usize>
+where
+    V::State: Drop,
+    ensures same { IfNone result (trees_outcome (step_trees steps.now) (V.facts value.now) ≡ done text.now) }
+{
+    let mut state = V::State::default();
+    let mut left = text;
+    for step in steps {
+        match behind_step(step, left, value, &mut state) {
+            Some(rest) => left = rest,
+            None => return Some(text.len().saturating_sub(left.len())),
+        }
+    }
+    if left.is_empty() {
+        None
+    } else {
+        Some(text.len().saturating_sub(left.len()))
+    }
+}
+
+/// What follows the text of a step, if the text begins with it.
+fn behind_step<'a, V: ComponentProvider>(
+    step: &Step,
+    text: &'a [u8],
+    value: &V,
+    state: &mut V::State,
+) -> Option<&'a [u8]>
+    requires agrees { V.agrees state.old value.now }
+    ensures agrees { V.agrees state.new value.now }
+    ensures behind { IfSome result (λ rest. (others : Trees) → trees_outcome others (V.facts value.now) ≡ done rest.now
+        → trees_outcome (more (step_tree step.now) others) (V.facts value.now) ≡ done text.now) }
+{
+    let mut room = [0u8; SHOWN_ROOM];
+    let count = shown_in_room::<Brand, V>(&step.shown, &mut room, value, state)?;
+    let rest = after_all(text, &room[..count])?;
+    after_literal(rest, &step.literal)
+}
+
+/// Writes what a step shows to the start of a buffer, and returns the number of its bytes, or nothing if the value is
+/// refused.
+fn shown_in_room<B: Before, V: ComponentProvider>(
+    shown: &Shown,
+    room: &mut [u8],
+    value: &V,
+    state: &mut V::State,
+) -> Option<usize>
+    requires before { room.old ≡ B.before }
+    requires agrees { V.agrees state.old value.now }
+    ensures agrees { V.agrees state.new value.now }
+    ensures text { IfSome result (λ count. tree_outcome (shown_tree shown.now) (V.facts value.now)
+        ≡ done (take count room.new)) }
+    ensures within { IfSome result (λ count. count ≤ length room.new) }
+{
+    if room.len() < shown.width() {
+        return None;
+    }
+    let mut sink = RoomSink::<B>::new(room);
+    match end_shown(shown, &mut sink, value, state) {
+        Ok(_) => Some(sink.len()),
+        Err(_) => None,
+    }
+}
+
+/// How many bytes two texts have in common at the front.
+#[cold]
+fn same_bytes(own: &[u8], text: &[u8]) -> usize {
+    let mut count = 0usize;
+    for (a, b) in own.iter().zip(text) {
+        if *a != *b {
+            return count;
+        }
+        count = count.saturating_add(1);
+    }
+    count
+}

@@ -1,0 +1,131 @@
+//! Names and literals at the front of a text.
+ghost use Rattle.std.specs.Prelude.{◌≡◌, ◌∷◌, ◌++◌, IfSome};
+ghost use Rattle.time_plan.specs.Literal.{literal_bytes};
+
+use time_plan::Literal;
+
+/// What follows a byte.
+#[inline(always)]
+#[tactic(auto, using(crate::proofs::Fronts::first_and_rest))]
+pub(crate) fn after(text: &[u8], byte: u8) -> Option<&[u8]>
+    ensures { IfSome result (λ rest. text.now ≡ byte ∷ rest.now) }
+{
+    if let [first, rest @ ..] = text {
+        if *first == byte {
+            return Some(rest);
+        }
+    }
+    None
+}
+
+/// What follows these bytes.
+#[inline]
+pub(crate) fn after_all<'a>(text: &'a [u8], bytes: &[u8]) -> Option<&'a [u8]>
+    ensures { IfSome result (λ rest. text.now ≡ bytes.now ++ rest.now) }
+{
+    if text.len() < bytes.len() {
+        return None;
+    }
+    let (front, rest) = text.split_at(bytes.len());
+    if front == bytes { Some(rest) } else { None }
+}
+
+/// What follows a literal.
+#[inline(always)]
+pub(crate) fn after_literal<'a>(text: &'a [u8], literal: &Literal) -> Option<&'a [u8]>
+    ensures { IfSome result (λ rest. text.now ≡ literal_bytes literal.now ++ rest.now) }
+{
+    match literal {
+        Literal::Byte(byte) => after(text, *byte),
+        Literal::Bytes(bytes) => {
+            if bytes.is_empty() {
+                return Some(text);
+            }
+            after_all(text, bytes.as_slice())
+        }
+    }
+}
+
+/// The number of a month by the first three letters of its name.
+pub(crate) fn month_short(text: &[u8]) -> Option<(u8, &[u8])> {
+    let [first, second, third, rest @ ..] = text else {
+        return None;
+    };
+    let number = match (*first, *second, *third) {
+        (b'J', b'a', b'n') => 1,
+        (b'F', b'e', b'b') => 2,
+        (b'M', b'a', b'r') => 3,
+        (b'A', b'p', b'r') => 4,
+        (b'M', b'a', b'y') => 5,
+        (b'J', b'u', b'n') => 6,
+        (b'J', b'u', b'l') => 7,
+        (b'A', b'u', b'g') => 8,
+        (b'S', b'e', b'p') => 9,
+        (b'O', b'c', b't') => 10,
+        (b'N', b'o', b'v') => 11,
+        (b'D', b'e', b'c') => 12,
+        _ => return None,
+    };
+    Some((number, rest))
+}
+
+/// The number of a month by its name.
+pub(crate) fn month_long(text: &[u8]) -> Option<(u8, &[u8])> {
+    let (number, rest) = month_short(text)?;
+    let ending: &[u8] = match number {
+        1 => b"uary",
+        2 => b"ruary",
+        3 => b"ch",
+        4 => b"il",
+        6 => b"e",
+        7 => b"y",
+        8 => b"ust",
+        9 => b"tember",
+        10 => b"ober",
+        11 | 12 => b"ember",
+        _ => b"",
+    };
+    Some((number, after_all(rest, ending)?))
+}
+
+/// The days from Monday by the first three letters of a weekday's name.
+pub(crate) fn weekday_short(text: &[u8]) -> Option<(u8, &[u8])> {
+    let [first, second, third, rest @ ..] = text else {
+        return None;
+    };
+    let days = match (*first, *second, *third) {
+        (b'M', b'o', b'n') => 0,
+        (b'T', b'u', b'e') => 1,
+        (b'W', b'e', b'd') => 2,
+        (b'T', b'h', b'u') => 3,
+        (b'F', b'r', b'i') => 4,
+        (b'S', b'a', b't') => 5,
+        (b'S', b'u', b'n') => 6,
+        _ => return None,
+    };
+    Some((days, rest))
+}
+
+/// The days from Monday by a weekday's name.
+pub(crate) fn weekday_long(text: &[u8]) -> Option<(u8, &[u8])> {
+    let (days, rest) = weekday_short(text)?;
+    let ending: &[u8] = match days {
+        1 => b"sday",
+        2 => b"nesday",
+        3 => b"rsday",
+        5 => b"urday",
+        _ => b"day",
+    };
+    Some((days, after_all(rest, ending)?))
+}
+
+/// The half of the day: whether it is the second.
+pub(crate) fn half_day(text: &[u8], is_uppercase: bool) -> Option<(bool, &[u8])> {
+    match (text, is_uppercase) {
+        ([b'A', b'M', rest @ ..], true) => Some((false, rest)),
+        ([b'P', b'M', rest @ ..], true) => Some((true, rest)),
+        ([b'a', b'm', rest @ ..], false) => Some((false, rest)),
+        ([b'p', b'm', rest @ ..], false) => Some((true, rest)),
+        _ => None,
+    }
+}
