@@ -17,6 +17,7 @@ TOP = pathlib.Path(__file__).resolve().parent.parent
 ZONES = ("UTC Europe/Berlin America/New_York Asia/Kolkata Australia/Lord_Howe Africa/Casablanca America/Sao_Paulo "
          "Pacific/Apia Asia/Tehran Europe/Dublin America/Caracas Antarctica/Troll").split()
 WORDS = ["", " up", " pid 12 of 345", "\tx=1.5", " [a-b] 20231114 %", ": \xff\x00 end"]
+JSON_WORD = rb'\"1\" \\'  # a string with quotes and a backslash
 LAST = 253402300799  # the end of 9999
 random.seed(17)
 
@@ -64,19 +65,39 @@ def unix(program, count):
         nonlocal wrong
         text = b"".join(line(*it) + b"\n" for it in zip(seconds, decimals, ends))
         all_wanted = [wanted(*it) for it in zip(texts, shown, ends)]
-        wrong += told(what, lines_of(run([program, "unix", "-q", *words], text)), all_wanted)
+        wrong += told(what, lines_of(run([program, "unix", "-q", "-d", "9", *words, *([] if "--milliseconds" in words else ["--seconds"])], text)), all_wanted)
 
     kind("at the start", [], lambda s, d, e: b"%d%s" % (s, e), lambda t, d, e: t.encode() + b"Z" + e)
     kind("inside", [], lambda s, d, e: b"msg=audit(%d.%03d:456)%s" % (s, d, e),
          lambda t, d, e: f"msg=audit({t}{d}Z:456)".encode() + e)
     kind("milliseconds", ["--milliseconds"], lambda s, d, e: b"%d%03d%s" % (s, d, e),
          lambda t, d, e: f"{t}{d}Z".encode() + e)
+    kind("behind a text", ["--after", "ts="], lambda s, d, e: b"pid 1234567890 ts=%d.%03d%s" % (s, d, e),
+         lambda t, d, e: f"pid 1234567890 ts={t}{d}Z".encode() + e)
+    kind("each", ["--all"], lambda s, d, e: b"%d-%d%s" % (s, s, e), lambda t, d, e: f"{t}Z-{t}Z".encode() + e)
+    kind("JSON", ["--json"], lambda s, d, e: b'{"m":"%s","ts":%d.%03d}' % (JSON_WORD, s, d),
+         lambda t, d, e: b'{"m":"%s","ts":"%s"}' % (JSON_WORD, f"{t}{d}Z".encode()))
+    wrong += by_digits(program, count)
     forms = date(seconds, "%a, %d %b %Y %I:%M:%S %p", "UTC0")
-    ours = run([program, "unix", "%a, %d %b %Y %I:%M:%S %p"], "".join(f"{it}\n" for it in seconds).encode())
+    ours = run([program, "unix", "--seconds", "-d", "9", "%a, %d %b %Y %I:%M:%S %p"], "".join(f"{it}\n" for it in seconds).encode())
     wrong += told("a description of strftime", [it.decode() for it in lines_of(ours)], forms)
     mails = date(seconds, "%a, %d %b %Y %H:%M:%S %z", "UTC0")
-    ours = run([program, "unix", "rfc2822"], "".join(f"{it}\n" for it in seconds).encode())
+    ours = run([program, "unix", "--seconds", "-d", "9", "rfc2822"], "".join(f"{it}\n" for it in seconds).encode())
     return wrong + told("rfc2822", [it.decode() for it in lines_of(ours)], mails)
+
+
+def by_digits(program, count):
+    """Numbers of 1 to 21 digits without a unit: those of a length that has one are times, and the others stay."""
+    numbers = [random.randrange(10 ** (size - 1), 10 ** size) for size in (random.randrange(1, 22) for _ in range(count))]
+    below = {10: 0, 12: 3, 13: 3, 15: 6, 16: 6, 18: 9, 19: 9}
+    places = [below.get(len(str(it))) for it in numbers]
+    texts = iter(date([it // 10 ** at for it, at in zip(numbers, places) if at is not None], "%Y-%m-%dT%H:%M:%S", "UTC0"))
+    wanted = []
+    for number, at in zip(numbers, places):
+        rest = f"{number % 10 ** at:0{at}}".rstrip("0") if at else ""
+        wanted.append(str(number) if at is None else next(texts) + ("." + rest if rest else "") + "Z")
+    ours = run([program, "unix", "-q"], "".join(f"{it}\n" for it in numbers).encode()).decode().splitlines()
+    return told("the unit by the digits", ours, wanted)
 
 
 def read(program, count):
@@ -123,7 +144,7 @@ def zones(program, count):
                   for at, it in enumerate(forms)]
         for words, env in ((["--zone", zone], None), (["--local"], zone)):
             text = "".join(f"{it}\n" for it in seconds).encode()
-            ours = run([program, "unix", "-q", "-d", "1", *words], text, env).decode().splitlines()
+            ours = run([program, "unix", "-q", "--seconds", "-d", "1", *words], text, env).decode().splitlines()
             wrong += told(f"{zone}{' by TZ' if env else ''}", ours, wanted)
     return wrong
 

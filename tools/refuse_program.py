@@ -15,11 +15,15 @@ import sys
 # Lines of each kind, one that is longer than a block is read, and one without a line feed.
 GIVEN = (b"1700000000 up\nno number\nmsg=audit(1700000000.123:456)\n2026-11-22T09:55:06.123456789Z in\n"
          + b"x" * 200_000 + b" 1700000000\n" + b"1700000000.5 a line of many\n" * 2_000 + b"1700000000")
+# A file that is not there, which makes the status 1.
+MISSING = "/nowhere/none.log"
 COMMANDS = [
     ["unix"],
     ["unix", "--offset", "+05:30", "%Y-%m-%d %H:%M:%S"],
     ["unix", "--zone", "Europe/Berlin", "[year]-[month]-[day] [hour]:[minute]"],
     ["unix", "--local", "rfc2822"],
+    ["unix", "--json", "--all", "--after", "m"],
+    ["unix", "--quiet", "-", MISSING],
     ["read", "%H:%M:%S"],
     ["now", "%Y"],
     ["--help"],
@@ -52,7 +56,7 @@ def fault(good, ran):
 def refuse_each(program, library, words, most):
     """Refuses each of the first requests of a command, and returns how many these are."""
     good = run(program, library, words, 0)
-    if good[0] != 0 or good[3] == 0:
+    if good[0] != (MISSING in words) or good[3] == 0:
         raise SystemExit(f"movaliren {' '.join(words)}: status {good[0]}, {good[3]} requests: {good[2].decode()}")
     count = min(good[3], most)
     for refused in range(1, count + 1):

@@ -8,6 +8,7 @@ A run is a paragraph of the table. Its first lines begin with `#` and say what h
     words: WORD ..      the words of the command line, quoted as for the shell
     env: NAME=VALUE     a variable of the environment, in which LC_ALL is C and TZ is not set
     in: LINE            a line of standard input; a line of `in-part:` has no line feed
+    file: NAME LINE     a line of a file of the folder in which it runs; a line of `file-part:` has no line feed
     from: PATH          standard input, in place of lines
     to: PATH            standard output, in place of `out:`; `to: closed` is a pipe that nobody reads
     out: LINE           a line of standard output; a line of `out-part:` has no line feed
@@ -22,8 +23,9 @@ import pathlib
 import shlex
 import subprocess
 import sys
+import tempfile
 
-MANY = ("in", "in-part", "out", "out-part", "err", "err-has", "env")
+MANY = ("in", "in-part", "file", "file-part", "out", "out-part", "err", "err-has", "env")
 ONE = ("words", "from", "to", "status")
 SECONDS = 20
 
@@ -56,6 +58,15 @@ def last(lines, wanted, other):
     return next((value for key, value in lines if key == wanted), other)
 
 
+def put_files(folder, lines):
+    """Writes the files of a run into its folder."""
+    for key, value in lines:
+        if key in ("file", "file-part"):
+            name, _, line = value.partition(" ")
+            with open(pathlib.Path(folder, name), "ab") as file:
+                file.write(bytes_of(line) + (b"\n" if key == "file" else b""))
+
+
 def closed_pipe():
     """The end of a pipe that is written to and that nobody reads."""
     reader, writer = os.pipe()
@@ -74,8 +85,10 @@ def run(program, lines):
     output = subprocess.PIPE
     if sink is not None:
         output = closed_pipe() if sink == "closed" else os.open(sink, os.O_WRONLY)
-    ran = subprocess.run([program, *shlex.split(last(lines, "words", ""))], stdout=output, stderr=subprocess.PIPE,
-                         env={**env, "LC_ALL": "C"}, timeout=SECONDS, check=False, **given)
+    with tempfile.TemporaryDirectory() as folder:
+        put_files(folder, lines)
+        ran = subprocess.run([program, *shlex.split(last(lines, "words", ""))], stdout=output, stderr=subprocess.PIPE,
+                             cwd=folder, env={**env, "LC_ALL": "C"}, timeout=SECONDS, check=False, **given)
     for it in (given.get("stdin"), output if sink is not None else None):
         if it is not None:
             os.close(it)

@@ -6,6 +6,7 @@
 
 mod exchange;
 mod filter;
+pub mod laws;
 mod lines;
 mod standard;
 

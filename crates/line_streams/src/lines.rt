@@ -29,7 +29,7 @@ pub trait LineJob {
             (Adds (becomes self.old line.now) output.old.items output.new.items) };
 }
 
-/// The first place of a line feed, by a search that looks at many bytes at a time.
+/// The first position of a line feed, by a search that looks at many bytes at a time.
 pub fn place_of_end(bytes: &[u8]) -> Option<usize>
     ensures { result ≡ position (λ b. b == 10) bytes.now }
 {

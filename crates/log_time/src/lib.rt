@@ -1,6 +1,7 @@
 //! A sink for `log` whose lines begin with their time.
 #![tactic(auto)]
 
+pub mod laws;
 mod line;
 mod out;
 mod sink;

@@ -14,21 +14,23 @@ _movaliren() {
             )
             return
             ;;
-        --offset | --digits | -d) return ;;
+        --offset | --digits | -d | --after | -a) return ;;
     esac
     options="--utc --offset --zone --local --help"
     case $job in
-        unix) options+=" --digits --milliseconds --microseconds --nanoseconds --quiet" ;;
-        read) options+=" --quiet" ;;
+        unix) options+=" --after --all --json --digits --seconds --milliseconds --microseconds --nanoseconds --quiet" ;;
+        read) options+=" --json --quiet" ;;
     esac
     if [[ $word == -* ]]; then
         mapfile -t COMPREPLY < <(compgen -W "$options" -- "$word")
     elif [ "$job" = help ]; then
         mapfile -t COMPREPLY < <(compgen -W "now unix read" -- "$word")
     elif [ "$job" = read ]; then
-        mapfile -t COMPREPLY < <(compgen -W "rfc3339 rfc2822 iso8601 stamp unix" -- "$word")
+        mapfile -t COMPREPLY < <(compgen -W "rfc3339 rfc2822 iso8601 stamp unix" -f -- "$word")
+    elif [ "$job" = unix ]; then
+        mapfile -t COMPREPLY < <(compgen -W "rfc3339 rfc2822 iso8601 stamp" -f -- "$word")
     else
         mapfile -t COMPREPLY < <(compgen -W "rfc3339 rfc2822 iso8601 stamp" -- "$word")
     fi
 }
-complete -F _movaliren movaliren
+complete -o filenames -F _movaliren movaliren

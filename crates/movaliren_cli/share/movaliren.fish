@@ -22,6 +22,11 @@ complete -c movaliren -n "__fish_seen_subcommand_from $jobs" -l offset -x -d 'Sh
 complete -c movaliren -n "__fish_seen_subcommand_from $jobs" -s z -l zone -x -a '(__movaliren_zones)' -d 'Show the time in a zone'
 complete -c movaliren -n "__fish_seen_subcommand_from $jobs" -s l -l local -d 'Show the time in the zone of the system'
 complete -c movaliren -n "__fish_seen_subcommand_from unix" -s d -l digits -x -d 'How many digits a number has at least'
+complete -c movaliren -n "__fish_seen_subcommand_from unix read" -F
+complete -c movaliren -n "__fish_seen_subcommand_from unix" -s a -l after -x -d 'Look for numbers behind a text'
+complete -c movaliren -n "__fish_seen_subcommand_from unix" -l all -d 'Replace each number'
+complete -c movaliren -n "__fish_seen_subcommand_from unix read" -s j -l json -d 'Keep lines of JSON JSON'
+complete -c movaliren -n "__fish_seen_subcommand_from unix" -l seconds -d 'Numbers are seconds'
 complete -c movaliren -n "__fish_seen_subcommand_from unix" -l milliseconds -d 'Numbers are milliseconds'
 complete -c movaliren -n "__fish_seen_subcommand_from unix" -l microseconds -d 'Numbers are microseconds'
 complete -c movaliren -n "__fish_seen_subcommand_from unix" -l nanoseconds -d 'Numbers are nanoseconds'

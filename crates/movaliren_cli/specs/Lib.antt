@@ -1,1 +1,2 @@
+pub mod OffsetText
 pub mod Refusal

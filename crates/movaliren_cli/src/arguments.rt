@@ -1,8 +1,9 @@
 //! What the words of the command line ask for.
+use crate::description;
 use clap::builder::ValueParser;
 use clap::{Arg, ArgAction, ArgMatches, Command, Error};
 use std::alloc::{AllocError, Global};
-use time_lines::Unit;
+use time_lines::{Numbers, Unit};
 
 /// Where the clock stands whose times are shown.
 #[derive(Clone, Copy)]
@@ -21,35 +22,53 @@ pub enum Clock<'a> {
 pub enum Job {
     /// The moment at which it was read is put before it.
     Now,
-    /// Its first number of at least so many digits, Unix time in this unit, is replaced.
-    Unix { unit: Unit, least: usize },
+    /// Its first number that is Unix time, or each, is replaced.
+    Unix(Numbers),
     /// Its first text of RFC 3339 is replaced.
     Read,
 }
 
 /// What is done with the lines of a run.
-#[derive(Clone, Copy)]
-pub struct Task {
+#[derive(Drop)]
+pub struct Task<'a> {
     pub job: Job,
+    /// The text behind which Unix time is looked for.
+    pub after: Option<&'a str>,
+    /// Lines are JSON, and stay so.
+    pub is_json: bool,
     /// Nothing is said of lines that passed as they were.
     pub is_quiet: bool,
+    /// The files that are read, where `-` is standard input. With none that is read.
+    pub files: Vec<&'a str>,
 }
 
 /// What is asked for.
-#[derive(Clone, Copy)]
+#[derive(Drop)]
 pub struct Asked<'a> {
-    pub task: Task,
+    pub task: Task<'a>,
     pub description: &'a str,
     pub clock: Clock<'a>,
 }
 
-/// The digits that a number has at least, where nothing else is asked for: those of 1973 and later.
-const LEAST_DIGITS: usize = 9;
+/// The digits that a number has at least, where nothing else is asked for: in seconds, those of 2001 and later.
+const LEAST_DIGITS: usize = 10;
 
 /// The description, where nothing else is asked for.
 const USUAL: &str = "rfc3339";
 
 const DESCRIPTIONS: &str = "\
+Descriptions:
+  rfc3339        2023-11-14T22:13:20.123Z
+  rfc2822        Tue, 14 Nov 2023 22:13:20 +0000
+  iso8601        2023-11-14T22:13:20.123000000Z
+  stamp          the same, always in UTC: sorts as the moments do
+  unix           1700000000, always seconds since 1970
+  a text with %  as of strftime: '%Y-%m-%d %H:%M:%S'
+  a text with [  '[year]-[month]-[day] [hour]:[minute]'
+
+Any other word is a file, as is each word behind the first one; - is standard input.";
+
+const NOW_DESCRIPTIONS: &str = "\
 Descriptions:
   rfc3339        2023-11-14T22:13:20.123Z
   rfc2822        Tue, 14 Nov 2023 22:13:20 +0000
@@ -88,6 +107,13 @@ const NAME_TEXT: Takes = Takes {
     action: ArgAction::Set,
     names: &["NAME"],
     is_signed: false,
+    parser: ValueParser::String,
+};
+
+const AFTER_TEXT: Takes = Takes {
+    action: ArgAction::Set,
+    names: &["TEXT"],
+    is_signed: true,
     parser: ValueParser::String,
 };
 
@@ -138,7 +164,36 @@ const LOCAL: OptionRow = OptionRow {
     letter: Some('l'),
     groups: &["clock"],
     takes: NOTHING,
-    help: "Shows the time in the zone of the system, or of the variable TZ",
+    help: "Shows the time in the zone of the system, or that TZ gives: a name, with a colon before it or without, or a rule such as EST5EDT",
+};
+
+const AFTER: OptionRow = OptionRow {
+    name: "after",
+    letter: Some('a'),
+    groups: &[],
+    takes: AFTER_TEXT,
+    help: "Looks for Unix time behind the first such text of a line, as '\"ts\":'",
+};
+
+const ALL: OptionRow = OptionRow {
+    name: "all",
+    letter: None,
+    groups: &[],
+    takes: NOTHING,
+    help: "Replaces each Unix time of a line, and not the first alone",
+};
+
+const JSON: OptionRow = OptionRow {
+    name: "json",
+    letter: Some('j'),
+    groups: &[],
+    takes: NOTHING,
+    help: "Puts the text in quotes where the number is a value of JSON",
+};
+
+const READ_JSON: OptionRow = OptionRow {
+    help: "Refuses a description whose text would end a string of JSON",
+    ..JSON
 };
 
 const DIGITS: OptionRow = OptionRow {
@@ -146,7 +201,15 @@ const DIGITS: OptionRow = OptionRow {
     letter: Some('d'),
     groups: &[],
     takes: DIGIT_COUNT,
-    help: "How many digits a number has at least [default: 9]",
+    help: "How many digits a number has at least [default: 10]",
+};
+
+const SECONDS: OptionRow = OptionRow {
+    name: "seconds",
+    letter: None,
+    groups: &["unit"],
+    takes: NOTHING,
+    help: "Numbers are seconds, however many digits they have",
 };
 
 const MILLISECONDS: OptionRow = OptionRow {
@@ -154,7 +217,7 @@ const MILLISECONDS: OptionRow = OptionRow {
     letter: None,
     groups: &["unit"],
     takes: NOTHING,
-    help: "Numbers are milliseconds, and not seconds",
+    help: "Numbers are milliseconds",
 };
 
 const MICROSECONDS: OptionRow = OptionRow {
@@ -186,6 +249,9 @@ struct JobRow {
     name: &'static str,
     about: &'static str,
     options: &'static [&'static OptionRow],
+    /// It reads files.
+    takes_files: bool,
+    descriptions: &'static str,
 }
 
 const JOBS: &[JobRow] = &[
@@ -193,26 +259,36 @@ const JOBS: &[JobRow] = &[
         name: "now",
         about: "Puts the time at which it was read before each line",
         options: &[&UTC, &OFFSET, &ZONE, &LOCAL],
+        takes_files: false,
+        descriptions: NOW_DESCRIPTIONS,
     },
     JobRow {
         name: "unix",
-        about: "Replaces the first Unix time of each line, a number of at least nine digits, by its text",
+        about: "Replaces the first Unix time of each line by its text. By its digits before the point a number is seconds (10, or 9 with --digits 9), milliseconds (12 or 13), microseconds (15 or 16) or nanoseconds (18 or 19)",
         options: &[
             &UTC,
             &OFFSET,
             &ZONE,
             &LOCAL,
+            &AFTER,
+            &ALL,
+            &JSON,
             &DIGITS,
+            &SECONDS,
             &MILLISECONDS,
             &MICROSECONDS,
             &NANOSECONDS,
             &QUIET,
         ],
+        takes_files: true,
+        descriptions: DESCRIPTIONS,
     },
     JobRow {
         name: "read",
         about: "Replaces the first text of RFC 3339 of each line, such as 2023-11-14T22:13:20Z",
-        options: &[&UTC, &OFFSET, &ZONE, &LOCAL, &QUIET],
+        options: &[&UTC, &OFFSET, &ZONE, &LOCAL, &READ_JSON, &QUIET],
+        takes_files: true,
+        descriptions: DESCRIPTIONS,
     },
 ];
 
@@ -238,16 +314,28 @@ fn description<'a>(alloc: Global) -> Arg<'a> {
         .default_value(USUAL)
 }
 
+/// The files, which need no name either.
+fn files<'a>(alloc: Global) -> Arg<'a> {
+    Arg::new(alloc, "FILE")
+        .help(
+            "Files that are read in order, - for standard input, which is read where there is none",
+        )
+        .num_args(..)
+}
+
 /// The command of a job, with its options.
 fn subcommand<'a>(alloc: Global, job: &JobRow) -> Result<Command<'a>, AllocError> {
     let mut args = Vec::new(alloc);
     args.push(description(alloc))?;
+    if job.takes_files {
+        args.push(files(alloc))?;
+    }
     for row in job.options {
         args.push(option(alloc, row)?)?;
     }
     Command::new(alloc, job.name)
         .about(job.about)
-        .after_help(DESCRIPTIONS)
+        .after_help(job.descriptions)
         .args(args)
 }
 
@@ -258,7 +346,8 @@ fn command<'a>(alloc: Global) -> Result<Command<'a>, AllocError> {
     }
     Command::new(alloc, "movaliren")
         .version("0.1.0")
-        .about("Formats the moments of the lines of standard input")
+        .bin_name("movaliren")?
+        .about("Formats the moments of the lines of files or of standard input")
         .subcommand_required(true)
         .arg_required_else_help(true)
         .subcommands(below)
@@ -277,15 +366,18 @@ fn clock_of<'a>(matches: &ArgMatches<'a>) -> Clock<'a> {
     }
 }
 
-fn unit_of(matches: &ArgMatches<'_>) -> Unit {
-    if matches.get_flag("milliseconds") {
-        Unit::Milliseconds
+/// The unit that is asked for, if one is.
+fn unit_of(matches: &ArgMatches<'_>) -> Option<Unit> {
+    if matches.get_flag("seconds") {
+        Some(Unit::Seconds)
+    } else if matches.get_flag("milliseconds") {
+        Some(Unit::Milliseconds)
     } else if matches.get_flag("microseconds") {
-        Unit::Microseconds
+        Some(Unit::Microseconds)
     } else if matches.get_flag("nanoseconds") {
-        Unit::Nanoseconds
+        Some(Unit::Nanoseconds)
     } else {
-        Unit::Seconds
+        None
     }
 }
 
@@ -301,23 +393,57 @@ fn job_of(name: &str, words: &ArgMatches<'_>) -> Job {
     match name {
         "now" => Job::Now,
         "read" => Job::Read,
-        _ => Job::Unix {
+        _ => Job::Unix(Numbers {
             unit: unit_of(words),
             least: least_of(words),
-        },
+            is_all: words.get_flag("all"),
+            is_json: words.get_flag("json"),
+        }),
     }
 }
 
+/// The description and the files of the words that need no name. Where a job takes files, the first word is a
+/// description if it is the name of a format or has a bracket or a percent sign, and else a file.
+fn words_of<'a>(
+    alloc: Global,
+    name: &str,
+    words: &ArgMatches<'a>,
+) -> Result<(&'a str, Vec<&'a str>), AllocError> {
+    let mut files = Vec::new(alloc);
+    let mut description = USUAL;
+    if let Some(first) = words.get_str("DESCRIPTION") {
+        if name == "now" || description::is_description(first) {
+            description = first;
+        } else {
+            files.push(first)?;
+        }
+    }
+    if let Some(others) = words.get_strs("FILE") {
+        for file in others {
+            files.push(*file)?;
+        }
+    }
+    Ok((description, files))
+}
+
 /// What a job of this name and its words ask for.
-fn asked_of<'a>(name: &str, words: &ArgMatches<'a>) -> Asked<'a> {
-    Asked {
+fn asked_of<'a>(
+    alloc: Global,
+    name: &str,
+    words: &ArgMatches<'a>,
+) -> Result<Asked<'a>, AllocError> {
+    let (description, files) = words_of(alloc, name, words)?;
+    Ok(Asked {
         task: Task {
             job: job_of(name, words),
+            after: words.get_str("after"),
+            is_json: words.get_flag("json"),
             is_quiet: words.get_flag("quiet"),
+            files,
         },
-        description: words.get_str("DESCRIPTION").unwrap_or(USUAL),
+        description,
         clock: clock_of(words),
-    }
+    })
 }
 
 /// Reads the words of the command line. There is nothing that they ask for where they name no job, which
@@ -325,7 +451,7 @@ fn asked_of<'a>(name: &str, words: &ArgMatches<'a>) -> Asked<'a> {
 pub fn read<'a>(alloc: Global, words: &'a [String]) -> Result<Option<Asked<'a>>, Error> {
     let matches = command(alloc)?.try_get_matches_from(words)?;
     match matches.subcommand() {
-        Some((name, below)) => Ok(Some(asked_of(name, below))),
+        Some((name, below)) => Ok(Some(asked_of(alloc, name, below)?)),
         None => Ok(None),
     }
 }

@@ -31,6 +31,19 @@ impl Format {
     }
 }
 
+/// Whether the word is a description: the name of a format, or a text with a bracket or a percent sign.
+pub fn is_description(word: &str) -> bool {
+    let bytes = word.as_bytes();
+    Format::of_name(word).is_some() || bytes.contains(&b'%') || bytes.contains(&b'[')
+}
+
+/// Whether the bytes can stand in a string of JSON as they are: no quote, no backslash, no control character.
+pub fn is_json_text(bytes: &[u8]) -> bool {
+    bytes
+        .iter()
+        .all(|byte| *byte >= b' ' && *byte != b'"' && *byte != b'\\')
+}
+
 /// Why a text is no description.
 #[derive(Drop)]
 pub enum Refusal {

@@ -1,7 +1,7 @@
-//! Formats the moments of the lines of standard input.
+//! Formats the moments of the lines of files or of standard input.
 //!
 //! `movaliren now` puts before each line the moment at which it was read. `movaliren unix` replaces the
-//! first number of each line, which is Unix time, by its text. `movaliren read` does so with the first text
+//! first number of each line that is Unix time, or each, by its text. `movaliren read` does so with the first text
 //! of RFC 3339.
 #![tactic(auto)]
 
@@ -11,22 +11,29 @@ mod description;
 mod offset;
 mod place;
 mod say;
+mod sources;
+mod streams;
 mod zone;
 
 use arguments::{Asked, Job, Task};
 use clock::FoundClock;
 use description::Format;
 use line_streams::{FilterError, LineJob, StandardStreams};
+use memchr::memmem::Finder;
 use place::InZone;
-use say::{fail, refuse, say_passed};
+use say::{fail, refuse};
+use std::alloc::AllocError;
 use std::default::Default;
 use std::env;
 use std::process::ExitCode;
+use time_below::Timestamp;
 use time_fmt::Formattable;
 use time_fmt::parts::UNIX_TIMESTAMP;
 use time_jiff::ZoneClock;
 use time_known::{Iso8601, Rfc2822};
-use time_lines::{InPlace, InUtc, NowJob, Place, ReadJob, Rfc3339InPlace, Shown, UnixJob, Utc};
+use time_lines::{
+    InPlace, InUtc, NowJob, Numbers, Passed, Place, ReadJob, Rfc3339InPlace, Shown, UnixJob, Utc,
+};
 use time_read::LenientReader;
 
 /// Does the job for each line of standard input.
@@ -36,19 +43,6 @@ fn run_job<J: LineJob>(rt: &HostRuntime, job: &mut J) -> Result<(), FilterError>
         output: rt.stdout(),
     };
     line_streams::run(rt.alloc(), job, &mut streams)
-}
-
-/// Says how many lines passed as they were, after a run that came to the end of its input.
-fn end(
-    rt: &HostRuntime,
-    is_quiet: bool,
-    outcome: Result<(), FilterError>,
-    passed: u64,
-) -> ExitCode {
-    if outcome.is_ok() && !is_quiet {
-        say_passed(rt, passed);
-    }
-    fail(rt, outcome)
 }
 
 /// Puts before each line what is shown of the moment at which it was read.
@@ -62,66 +56,89 @@ fn run_now<S: Shown + Drop>(rt: &HostRuntime, shown: S) -> ExitCode {
     fail(rt, outcome)
 }
 
-/// Replaces the first number of each line.
-fn run_unix<S: Shown + Drop>(rt: &HostRuntime, is_quiet: bool, mut job: UnixJob<S>) -> ExitCode {
-    let outcome = run_job(rt, &mut job);
-    end(rt, is_quiet, outcome, job.passed)
+/// Replaces the first number of each line that is Unix time, or each.
+fn run_unix<S: Shown + Drop>(
+    rt: &HostRuntime,
+    task: &Task,
+    numbers: Numbers,
+    shown: S,
+) -> ExitCode {
+    let after = match task.after {
+        Some(text) => Some(Finder::new(text.as_bytes())),
+        None => None,
+    };
+    let mut job = UnixJob {
+        shown,
+        numbers,
+        after,
+        passed: Passed::new(),
+    };
+    sources::run(rt, task, &mut job)
 }
 
 /// Replaces the first text of RFC 3339 of each line.
-fn run_read<S: Shown + Drop>(rt: &HostRuntime, is_quiet: bool, mut job: ReadJob<S>) -> ExitCode {
-    let outcome = run_job(rt, &mut job);
-    end(rt, is_quiet, outcome, job.passed)
+fn run_read<S: Shown + Drop>(rt: &HostRuntime, task: &Task, shown: S) -> ExitCode {
+    let mut job = ReadJob {
+        shown,
+        reader: LenientReader::new(),
+        passed: Passed::new(),
+    };
+    sources::run(rt, task, &mut job)
+}
+
+/// Whether what is shown can stand in a string of JSON, by the text of one moment: what a description shows beside
+/// its numbers and names is the same in all its texts.
+fn is_for_json<S: Shown>(rt: &HostRuntime, shown: &mut S) -> Result<bool, AllocError> {
+    let mut text = Vec::new(rt.alloc());
+    shown.append(&mut text, &Timestamp::UNIX_EPOCH)?;
+    Ok(description::is_json_text(text.as_slice()))
 }
 
 /// Does what is asked for, with what is shown of moments.
-fn run<S: Shown + Drop>(rt: &HostRuntime, task: Task, shown: S) -> ExitCode {
+fn run<S: Shown + Drop>(rt: &HostRuntime, task: &Task, mut shown: S) -> ExitCode {
+    if task.is_json {
+        match is_for_json(rt, &mut shown) {
+            Ok(true) => {}
+            Ok(false) => {
+                return refuse(
+                    rt,
+                    "'--json' takes no description with a quote, a backslash or a control character",
+                );
+            }
+            Err(_) => return fail(rt, Err(FilterError::Memory)),
+        }
+    }
     match task.job {
         Job::Now => run_now(rt, shown),
-        Job::Unix { unit, least } => {
-            let job = UnixJob {
-                shown,
-                unit,
-                least,
-                passed: 0,
-            };
-            run_unix(rt, task.is_quiet, job)
-        }
-        Job::Read => {
-            let job = ReadJob {
-                shown,
-                reader: LenientReader::new(),
-                passed: 0,
-            };
-            run_read(rt, task.is_quiet, job)
-        }
+        Job::Unix(numbers) => run_unix(rt, task, numbers, shown),
+        Job::Read => run_read(rt, task, shown),
     }
 }
 
 /// Runs by a description, at the clock that is asked for.
 fn run_by<F: Formattable + Drop>(rt: &HostRuntime, asked: &Asked, description: F) -> ExitCode {
     match clock::find(rt, asked.clock) {
-        Ok(FoundClock::Utc) => run(rt, asked.task, InUtc { description }),
+        Ok(FoundClock::Utc) => run(rt, &asked.task, InUtc { description }),
         Ok(FoundClock::Zone(zone)) => {
             let place = InZone(ZoneClock::new(zone.as_time_zone()));
-            run(rt, asked.task, InPlace { description, place })
+            run(rt, &asked.task, InPlace { description, place })
         }
         Err(status) => status,
     }
 }
 
 /// Runs by RFC 3339, for which the text of a day is kept, at the clock of a place.
-fn run_days<P: Place + Drop>(rt: &HostRuntime, task: Task, place: P) -> ExitCode {
+fn run_days<P: Place + Drop>(rt: &HostRuntime, task: &Task, place: P) -> ExitCode {
     run(rt, task, Rfc3339InPlace::new(place))
 }
 
 /// Runs by RFC 3339, at the clock that is asked for.
 fn run_rfc3339(rt: &HostRuntime, asked: &Asked) -> ExitCode {
     match clock::find(rt, asked.clock) {
-        Ok(FoundClock::Utc) => run_days(rt, asked.task, Utc),
+        Ok(FoundClock::Utc) => run_days(rt, &asked.task, Utc),
         Ok(FoundClock::Zone(zone)) => {
             let clock = ZoneClock::new(zone.as_time_zone());
-            run_days(rt, asked.task, InZone(clock))
+            run_days(rt, &asked.task, InZone(clock))
         }
         Err(status) => status,
     }
@@ -143,11 +160,11 @@ fn run_described(rt: &HostRuntime, asked: &Asked) -> ExitCode {
         Some(Format::Iso8601) => run_by(rt, asked, Iso8601::default()),
         Some(Format::Stamp) => {
             let description = Iso8601::default();
-            run(rt, asked.task, InUtc { description })
+            run(rt, &asked.task, InUtc { description })
         }
         Some(Format::Unix) => {
             let description = UNIX_TIMESTAMP;
-            run(rt, asked.task, InUtc { description })
+            run(rt, &asked.task, InUtc { description })
         }
         None => run_text(rt, asked),
     }

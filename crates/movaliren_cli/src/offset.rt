@@ -1,14 +1,15 @@
 //! Offsets of the command line.
-ghost use Rattle.std.specs.Prelude.{◌<◌, ◌≤◌, IfSome};
+ghost use Rattle.std.specs.Prelude.{◌≡◌, ◌≤◌, IfSome};
+ghost use Rattle.time_below.specs.Offset.{signed};
+ghost use Rattle.movaliren_cli.specs.OffsetText.{offset_of_digits, offset_of_parts, offset_of_word, pair};
 
 use time_below::UtcOffset;
 
-/// The number of the two digits that stand at this place.
-fn pair(text: &[u8], at: usize) -> Option<u8>
-    requires { at ≤ 6 }
-    ensures { IfSome result (λ n. n < 100) }
+/// The number of two digits, if they are digits.
+fn pair(tens: u8, ones: u8) -> Option<u8>
+    ensures value { result ≡ pair tens ones }
+    ensures range { IfSome result (λ n. n ≤ 99) }
 {
-    let (tens, ones) = (*text.get(at)?, *text.get(at + 1)?);
     if tens.is_ascii_digit() && ones.is_ascii_digit() {
         Some((tens - b'0') * 10 + (ones - b'0'))
     } else {
@@ -16,26 +17,10 @@ fn pair(text: &[u8], at: usize) -> Option<u8>
     }
 }
 
-/// The hours, the minutes and the seconds of an offset without its sign: `05`, `0530`, `05:30` or
-/// `05:30:15`.
-fn parts(text: &[u8]) -> Option<(u8, u8, u8)>
-    ensures hours { IfSome result (λ p. p.0 < 100) }
-    ensures minutes { IfSome result (λ p. p.1 < 100) }
-    ensures seconds { IfSome result (λ p. p.2 < 100) }
-{
-    let hours = pair(text, 0)?;
-    match text.len() {
-        2 => Some((hours, 0, 0)),
-        4 => Some((hours, pair(text, 2)?, 0)),
-        5 if text[2] == b':' => Some((hours, pair(text, 3)?, 0)),
-        8 if text[2] == b':' && text[5] == b':' => { Some((hours, pair(text, 3)?, pair(text, 6)?)) }
-        _ => None,
-    }
-}
-
 /// A part with a sign.
 fn signed(is_negative: bool, part: u8) -> i8
-    requires { part < 100 }
+    requires { part ≤ 99 }
+    ensures { result ≡ signed is_negative part }
 {
     if is_negative {
         -(part as i8)
@@ -44,9 +29,19 @@ fn signed(is_negative: bool, part: u8) -> i8
     }
 }
 
-/// The offset of an unsigned text, if each part is in its range.
-fn with_sign(is_negative: bool, text: &[u8]) -> Option<UtcOffset> {
-    let (hours, minutes, seconds) = parts(text)?;
+/// The offset of parts with one sign, if each is in its range.
+fn of_parts(
+    is_negative: bool,
+    hours: Option<u8>,
+    minutes: Option<u8>,
+    seconds: Option<u8>,
+) -> Option<UtcOffset>
+    requires hours { IfSome hours (λ n. n ≤ 99) }
+    requires minutes { IfSome minutes (λ n. n ≤ 99) }
+    requires seconds { IfSome seconds (λ n. n ≤ 99) }
+    ensures { result ≡ offset_of_parts is_negative hours minutes seconds }
+{
+    let (hours, minutes, seconds) = (hours?, minutes?, seconds?);
     let made = UtcOffset::from_hms(
         signed(is_negative, hours),
         signed(is_negative, minutes),
@@ -58,10 +53,28 @@ fn with_sign(is_negative: bool, text: &[u8]) -> Option<UtcOffset> {
     }
 }
 
+/// The offset of `05`, `0530`, `05:30` or `05:30:15` with a sign, if each part is in its range.
+fn with_sign(is_negative: bool, text: &[u8]) -> Option<UtcOffset>
+    ensures { result ≡ offset_of_digits is_negative text.now }
+{
+    match *text {
+        [a, b] => of_parts(is_negative, pair(a, b), Some(0), Some(0)),
+        [a, b, c, d] | [a, b, b':', c, d] => {
+            of_parts(is_negative, pair(a, b), pair(c, d), Some(0))
+        }
+        [a, b, b':', c, d, b':', e, f] => {
+            of_parts(is_negative, pair(a, b), pair(c, d), pair(e, f))
+        }
+        _ => None,
+    }
+}
+
 /// The offset that a text such as `+05:30`, `-0800`, `+01` or `Z` is, at most 25:59:59 either way.
-pub fn read(text: &str) -> Option<UtcOffset> {
+pub fn read(text: &str) -> Option<UtcOffset>
+    ensures { result ≡ offset_of_word text.now }
+{
     match text.as_bytes() {
-        [b'Z' | b'z'] => with_sign(false, b"00"),
+        [b'Z' | b'z'] => Some(UtcOffset::UTC),
         [b'+', rest @ ..] => with_sign(false, rest),
         [b'-', rest @ ..] => with_sign(true, rest),
         _ => None,

@@ -7,6 +7,7 @@ use line_streams::FilterError;
 use std::fmt::{Display, Formatter, Write};
 use std::process::ExitCode;
 use std::{fmt, io};
+use time_lines::{Passed, Why};
 use time_plan::{InvalidDescription, InvalidStrftime};
 
 /// The status of a failure.
@@ -49,13 +50,50 @@ pub fn fail(rt: &HostRuntime, outcome: Result<(), FilterError>) -> ExitCode {
     ExitCode::from(FAILURE)
 }
 
-/// Says how many lines passed as they were, if any did.
-pub fn say_passed(rt: &HostRuntime, count: u64) {
-    if count == 1 {
-        say(rt, "1 line passed as it was");
-    } else if count > 1 {
-        let _ = eprintln!(rt; "movaliren: {count} lines passed as they were");
+/// Says that a file cannot be read, or standard input, whose name is `-`.
+pub fn say_unread(rt: &HostRuntime, name: &str, fault: &io::Error) {
+    if name == "-" {
+        say(rt, "standard input cannot be read");
+    } else {
+        let _ = eprintln!(rt; "movaliren: {name}: {fault}");
     }
+}
+
+/// The status of a run of which a file could not be read.
+pub fn unread() -> ExitCode {
+    ExitCode::from(FAILURE)
+}
+
+/// Why a line passed as it was.
+fn reason(why: Why) -> &'static str {
+    match why {
+        Why::NoPlace => "the text of --after is not in it",
+        Why::NoTime => "no time is in it",
+        Why::NoUnit => "its number has the digits of no unit",
+        Why::NoMoment => "its time is no moment of the years -999999 to 999999",
+        Why::NoText => "the description has no text for its time",
+    }
+}
+
+/// Says how many lines passed as they were, if any did, and why the first of them did, which is one of the file of
+/// this name.
+pub fn say_passed(rt: &HostRuntime, passed: &Passed, file: Option<&str>) {
+    let Some(first) = passed.first else {
+        return;
+    };
+    let why = reason(first.why);
+    let (line, count) = (first.line, passed.count);
+    let (of, name) = match file {
+        Some(name) => (" of ", name),
+        None => ("", ""),
+    };
+    let _ = if count == 1 {
+        eprintln!(rt; "movaliren: 1 line passed as it was, line {line}{of}{name}: {why}")
+    } else {
+        eprintln!(rt;
+            "movaliren: {count} lines passed as they were, the first of them line {line}{of}{name}: {why}"
+        )
+    };
 }
 
 /// Prints help, the version or a usage error.

@@ -4,3 +4,4 @@ pub mod NumberLemmas
 pub mod ReadLemmas
 pub mod RunLemmas
 pub mod ShownLemmas
+pub mod UnixLemmas

@@ -1,5 +1,5 @@
 -- Where a text of RFC 3339 ends.
-use Rattle.std.proofs.Common.{ℕ, ◌≡◌, ◌+◌, ◌<◌, ◌≤◌, ◌⊎◌, ◌==◌, Bool, true, false, List, [], ◌∷◌, ◌++◌, length, take, drop, get_or, inl, inr, refl, sym, ap, subst, ◌∙◌, append_assoc, length-append, arith}
+use Rattle.std.proofs.Common.{ℕ, ◌≡◌, ◌+◌, ◌<◌, ◌≤◌, ◌⊎◌, ◌==◌, Bool, true, false, List, [], ◌∷◌, ◌++◌, length, take, drop, get_or, inl, inr, refl, sym, ap, subst, ◌∙◌, append-nil, append_assoc, length-append, arith}
 use Rattle.std.proofs.Math.Seq.{drop-append_seam}
 use Rattle.std.proofs.lemmas.List.{drop_at, get_or-take, length-take, take-append-drop}
 use Rattle.std.proofs.lemmas.Bool.{cases_lt}
@@ -252,13 +252,16 @@ real m (Some n) some = (some.0, subst IsMoment some.0 some.1)
 
 -- what takes the place of the moment of a text of a line takes that of the text
 pub text_is_replaced : {E : Type 0} (shows : Moment → Option (List ℕ) → Type 0) (line : List ℕ) (at count : ℕ)
-    (v : OffsetDateAndTime) (moment : Option Moment) (after old new : List ℕ) (r : Result Bool E)
-    → after ≡ drop count (drop at line) → IfSome moment (λ m. (m ≡ moment_of_value v) × IsMoment m)
+    (v : OffsetDateAndTime) (moment : Option Moment) (own after old new : List ℕ) (r : Result Bool E)
+    → own ≡ drop at line → after ≡ drop count (drop at line) → IfSome moment (λ m. (m ≡ moment_of_value v) × IsMoment m)
     → IfNone moment (¬ IsMoment (moment_of_value v))
-    → OnOk r (Adds (IsReplaced shows moment (take at line) after line) old new)
+    → OnOk r (Adds (IsReplaced shows moment (take at line ++ []) after (take at line ++ own)) old new)
     → OnOk r (Adds (Replaces shows (IsMoment (moment_of_value v)) (moment_of_value v) (take at line)
     (drop count (drop at line)) line) old new)
-text_is_replaced shows line at count v moment after old new r behind some none h =
+text_is_replaced shows line at count v moment own after old new r mine behind some none h =
+    let whole : take at line ++ own ≡ line = ap (λ o. take at line ++ o) mine ∙ take-append-drop at line in
+    let plain = subst (λ b. OnOk r (Adds (IsReplaced shows moment b after (take at line ++ own)) old new)) (append-nil (take at line)) h in
+    let full = subst (λ w. OnOk r (Adds (IsReplaced shows moment (take at line) after w) old new)) whole plain in
     replaces_named shows (IsMoment (moment_of_value v)) (moment_of_value v) moment (take at line) (drop count (drop at line))
     line old new r (real (moment_of_value v) moment some) none
-    (subst (λ a. OnOk r (Adds (IsReplaced shows moment (take at line) a line) old new)) behind h)
+    (subst (λ a. OnOk r (Adds (IsReplaced shows moment (take at line) a line) old new)) behind full)

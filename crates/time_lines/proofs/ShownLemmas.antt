@@ -1,15 +1,14 @@
 -- What is shown stays the same.
-use Rattle.std.proofs.Common.{ℕ, ◌≡◌, ◌↔◌, Bool, true, false, List, Option, inl, inr, Some, None, is_some, refl, sym, subst, ◌∙◌, append-nil}
+use Rattle.std.proofs.Common.{ℕ, zero, suc, ◌≡◌, ◌↔◌, Bool, true, false, List, Option, inl, inr, Some, None, is_some, refl, sym, subst, ◌∙◌, append-nil}
 use Rattle.time_below.specs.Facts.{Facts, facts_of_offset_date_time}
 use Rattle.time_below.specs.Moment.{Moment, OffsetDateAndTime, IsMoment, local_at, moved}
 use Rattle.time_below.specs.Offset.{Offset}
 use Rattle.time_fmt.specs.Outcome.{Outcome}
 use Rattle.time_lines.specs.Now.{NowBecomes}
-use Rattle.time_lines.specs.Number.{number_start}
 use Rattle.time_lines.specs.Read.{ReadBecomes}
 use Rattle.time_lines.specs.Shown.{AppendsShown, Replaces, SameShown, ShowsAt, text_of}
-use Rattle.time_lines.specs.Unix.{StartBecomes, UnixBecomes}
-use Rattle.time_lines.specs.declared.number.Unit.{Unit as UnixUnit}
+use Rattle.time_lines.specs.Unix.{FromBecomes, RestBecomes, UnixBecomes}
+use Rattle.time_lines.specs.declared.number.Numbers.{Numbers}
 use Rattle.line_streams.specs.Filter.{Stays}
 
 -- a place that may have the same offsets shows the same
@@ -19,25 +18,40 @@ pub place_shows : (f : Facts → Outcome) (has has' : Moment → Offset → Type
 place_shows f has has' same m text =
     (λ s. (s.0, (same m s.0).0 s.1, s.2), λ s. (s.0, (same m s.0).1 s.1, s.2))
 
-replaces : (shows shows' : Moment → Option (List ℕ) → Type 0) (P : Type 0) (m : Moment) (before after line text : List ℕ)
+pub replaces : (shows shows' : Moment → Option (List ℕ) → Type 0) (P : Type 0) (m : Moment) (before after line text : List ℕ)
     → ((m : Moment) (t : Option (List ℕ)) → shows m t → shows' m t) → Replaces shows P m before after line text
     → Replaces shows' P m before after line text
 replaces shows shows' P m before after line text leads (inl b) = inl (b.0, (b.1.0, leads _ _ b.1.1, b.1.2))
 replaces shows shows' P m before after line text leads (inr b) = inr (λ has. leads _ _ (b.0 has), b.1)
 
-start_becomes : (shows shows' : Moment → Option (List ℕ) → Type 0) (unit : UnixUnit) (start : Option ℕ) (line text : List ℕ)
-    → ((m : Moment) (t : Option (List ℕ)) → shows m t → shows' m t) → StartBecomes shows unit start line text
-    → StartBecomes shows' unit start line text
-start_becomes shows shows' unit None line text leads b = b
-start_becomes shows shows' unit (Some start) line text leads b =
-    replaces shows shows' _ _ _ _ line text leads b
+-- the rest of a line becomes the same where the same is shown
+pub rest_becomes : (shows shows' : Moment → Option (List ℕ) → Type 0) (numbers : Numbers) (most : ℕ) (line : List ℕ)
+    (at from : ℕ) (text : List ℕ) → ((m : Moment) (t : Option (List ℕ)) → shows m t → shows' m t)
+    → RestBecomes shows numbers most line at from text → RestBecomes shows' numbers most line at from text
+rest_becomes shows shows' numbers zero line at from text leads b = b
+rest_becomes shows shows' numbers (suc most) line at from text leads (inl b) = inl b
+rest_becomes shows shows' numbers (suc most) line at from text leads (inr b) = inr (
+  b.0,
+  b.1,
+  b.2,
+  b.3,
+  b.4,
+  replaces shows shows' _ _ _ _ _ b.1 leads b.5,
+  rest_becomes shows shows' numbers most line _ _ b.2 leads b.6,
+)
+
+from_becomes : (shows shows' : Moment → Option (List ℕ) → Type 0) (numbers : Numbers) (from : Option ℕ) (line text : List ℕ)
+    → ((m : Moment) (t : Option (List ℕ)) → shows m t → shows' m t) → FromBecomes shows numbers from line text
+    → FromBecomes shows' numbers from line text
+from_becomes shows shows' numbers None line text leads b = b
+from_becomes shows shows' numbers (Some from) line text leads b = rest_becomes shows shows' numbers _ line 0 from text leads b
 
 -- a line becomes the same where the same is shown
-pub unix_stays : (shows shows' : Moment → Option (List ℕ) → Type 0) (unit : UnixUnit) (least : ℕ) → SameShown shows shows'
-    → Stays (UnixBecomes shows unit least) (UnixBecomes shows' unit least)
-unix_stays shows shows' unit least same line text = (
-  λ b. start_becomes shows shows' unit (number_start least line) line text (λ m t. (same m t).0) b,
-  λ b. start_becomes shows' shows unit (number_start least line) line text (λ m t. (same m t).1) b,
+pub unix_stays : (shows shows' : Moment → Option (List ℕ) → Type 0) (numbers : Numbers) (after : Option (List ℕ))
+    → SameShown shows shows' → Stays (UnixBecomes shows numbers after) (UnixBecomes shows' numbers after)
+unix_stays shows shows' numbers after same line text = (
+  λ b. (b.0, b.1, from_becomes shows shows' numbers b.0 line text (λ m t. (same m t).0) b.2),
+  λ b. (b.0, b.1, from_becomes shows' shows numbers b.0 line text (λ m t. (same m t).1) b.2),
 )
 
 now_becomes : (shows shows' : Moment → Option (List ℕ) → Type 0) (line text : List ℕ)

@@ -1,6 +1,6 @@
--- The first number of a line, and the moment that it names.
+-- The numbers of a line that are times, and the moments that they name.
 use Rattle.std.specs.Prelude.{ℕ, ◌+◌, ◌-◌, ◌*◌, ◌/◌, ◌%◌, ◌^◌, ◌≤◌, pos, neg_ℤ, ◌-ℤ◌, List, [], ◌∷◌, length, take, drop, get_or}
-use Rattle.std.specs.Prelude.{zero, suc, Bool, not, ◌&&◌, ◌||◌, ◌==◌, nat_le, if◌then◌else◌, Option, Some, None}
+use Rattle.std.specs.Prelude.{zero, suc, Bool, not, ◌&&◌, ◌||◌, ◌==◌, nat_le, if◌then◌else◌, Option, Some, None, is_some}
 use Rattle.std.specs.Char.{is_ascii_digit, is_ascii_alphanumeric}
 use Rattle.std.specs.List.{prefix_len}
 use Rattle.std.specs.Str.Parse.{digits_value}
@@ -29,27 +29,50 @@ goes_on line at =
     (nat_le 1 at && is_digit_at line (at - 1))
     || (nat_le 2 at && ((byte_at line (at - 1) == 46) && is_digit_at line (at - 2)))
 
--- whether a number of at least so many digits begins here
-abbrev pub begins : ℕ → List ℕ → ℕ → Bool
-begins least line at =
-    is_digit_at line at && (not (goes_on line at) && nat_le least (digit_count (drop at line)))
+-- the unit by the digits before the point, of moments from 1973 to 2286: 9 or 10 are seconds, and three more a unit below
+abbrev pub unit_by_digits : ℕ → Option UnixUnit
+unit_by_digits count =
+    if (count == 9) || (count == 10) then Some Seconds else if (count == 12) || (count == 13) then Some Milliseconds
+    else if (count == 15) || (count == 16) then Some Microseconds else if (count == 18) || (count == 19) then Some Nanoseconds
+    else None
+
+-- the unit of a number of so many digits: the one that is asked for, and else the one by its digits, if it has one
+abbrev pub unit_of : Option UnixUnit → ℕ → Option UnixUnit
+unit_of (Some unit) count = Some unit
+unit_of None count = unit_by_digits count
+
+-- the same, and seconds where it has none
+abbrev pub unit_for : Option UnixUnit → ℕ → UnixUnit
+unit_for asked count = elim (unit_of asked count) [
+  | Some unit ↦ unit
+  | None ↦ Seconds
+]
+
+-- whether a number of so many digits is a time: it has as many as are asked for at least, and a unit
+abbrev pub is_time : Option UnixUnit → ℕ → ℕ → Bool
+is_time asked least count = nat_le least count && is_some (unit_of asked count)
+
+-- whether a number begins here whose count of digits passes
+abbrev pub begins : (ℕ → Bool) → List ℕ → ℕ → Bool
+begins passes line at =
+    is_digit_at line at && (not (goes_on line at) && passes (digit_count (drop at line)))
 
 -- the first place from here on that passes, of so many
 abbrev pub first_place : (ℕ → Bool) → ℕ → ℕ → Option ℕ
 first_place p zero at = None
 first_place p (suc count) at = if p at then Some at else first_place p count (at + 1)
 
--- where the first number of at least so many digits begins
-abbrev pub number_start : ℕ → List ℕ → Option ℕ
-number_start least line = first_place (begins least line) (length line) 0
+-- where the first such number begins, from this place on
+abbrev pub number_start : (ℕ → Bool) → List ℕ → ℕ → Option ℕ
+number_start passes line from = first_place (begins passes line) (length line - from) from
 
--- a number, and what stands before and after it: its sign, the digits of its whole part, and its decimals
+-- a number: where it begins with its sign, the digits of its whole part, its decimals, and where it ends
 pub record Number : Type 0 where
-  pub before : List ℕ
+  pub first : ℕ
   pub is_negative : Bool
   pub whole : List ℕ
   pub decimals : List ℕ
-  pub after : List ℕ
+  pub end : ℕ
 
 -- whether a minus sign (45) stands before this place, at the start of the line or behind what is no letter or digit
 abbrev pub has_minus : List ℕ → ℕ → Bool
@@ -62,23 +85,23 @@ abbrev pub decimals_of : List ℕ → List ℕ
 decimals_of [] = []
 decimals_of (b ∷ text) = if b == 46 then digits_of text else []
 
--- what follows such digits, and the whole text where there are none
-abbrev pub after_decimals : List ℕ → List ℕ → List ℕ
-after_decimals [] text = text
-after_decimals (d ∷ decimals) text = drop (1 + length (d ∷ decimals)) text
+-- how many bytes these digits and their point have, which are none where there are no digits
+abbrev pub decimals_length : List ℕ → ℕ
+decimals_length [] = 0
+decimals_length (d ∷ decimals) = 1 + length (d ∷ decimals)
 
--- the number that begins here
+-- the number whose digits begin here
 abbrev pub number_at : List ℕ → ℕ → Number
 number_at line at =
     let is_negative = has_minus line at in
     let text = drop at line in
-    let rest = drop (digit_count text) text in
+    let decimals = decimals_of (drop (digit_count text) text) in
     record {
-      before = take (if is_negative then at - 1 else at) line;
+      first = if is_negative then at - 1 else at;
       is_negative = is_negative;
       whole = digits_of text;
-      decimals = decimals_of rest;
-      after = after_decimals (decimals_of rest) rest;
+      decimals = decimals;
+      end = at + digit_count text + decimals_length decimals;
     }
 
 -- how many decimals of a second a unit has

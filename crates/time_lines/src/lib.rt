@@ -2,8 +2,11 @@
 #![tactic(auto)]
 
 mod day;
+mod json;
+pub mod laws;
 mod now;
 mod number;
+mod passed;
 mod read;
 mod runs;
 mod shown;
@@ -11,7 +14,8 @@ mod unix;
 
 pub use day::Rfc3339InPlace;
 pub use now::NowJob;
-pub use number::Unit;
+pub use number::{Numbers, Unit};
+pub use passed::{FirstPassed, Passed, Why};
 pub use read::ReadJob;
 pub use shown::{InPlace, InUtc, Place, Shown, Utc};
 pub use unix::UnixJob;

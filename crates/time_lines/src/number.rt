@@ -1,9 +1,9 @@
-//! The first number of a line, and the moment that it names.
+//! The numbers of a line that are times, and the moments that they name.
 ghost use Rattle.std.specs.Prelude.{ℕ, ◌≡◌, ◌≤◌, ◌<◌, ◌-◌, ◌*◌, ◌^◌, pos, true, false, Some, None, length, drop, IfSome, IfNone, MatchOption};
 ghost use Rattle.std.specs.Char.{is_ascii_digit};
 ghost use Rattle.std.specs.List.{list_all};
 ghost use Rattle.std.specs.Str.Parse.{digits_value};
-ghost use Rattle.time_lines.specs.Number.{after_decimals, begins, decimals_of, decimals_value, digit_count, digits_of, first_place, goes_on, has_minus, is_digit_at, moment_after, number_start, with_sign};
+ghost use Rattle.time_lines.specs.Number.{begins, decimals_length, decimals_of, decimals_value, digit_count, digits_of, first_place, goes_on, has_minus, is_digit_at, is_time, moment_after, number_start, unit_by_digits, unit_for, unit_of, with_sign};
 ghost use Rattle.time_below.specs.Moment.{IsMoment};
 
 use crate::runs::{LANES, digit_count, others_in_lanes};
@@ -17,6 +17,69 @@ pub enum Unit {
     Milliseconds,
     Microseconds,
     Nanoseconds,
+}
+
+/// Which numbers of a line are times, and how they are replaced.
+#[derive(Clone, Copy)]
+pub struct Numbers {
+    /// The unit of all numbers. Where none is given, each has the unit by its digits before the point: 9 or 10
+    /// are seconds, 12 or 13 milliseconds, 15 or 16 microseconds and 18 or 19 nanoseconds, and a number of
+    /// another length is no time.
+    pub unit: Option<Unit>,
+    /// How many digits a number has at least.
+    pub least: usize,
+    /// Each number of a line is replaced, and not the first alone.
+    pub is_all: bool,
+    /// A text is put in quotes where its number stands as a value of JSON.
+    pub is_json: bool,
+}
+
+/// The unit by the digits before the point, if there is one.
+#[inline(always)]
+fn unit_by_digits(count: usize) -> Option<Unit>
+    ensures { result ≡ unit_by_digits count }
+{
+    if count == 9 || count == 10 {
+        Some(Unit::Seconds)
+    } else if count == 12 || count == 13 {
+        Some(Unit::Milliseconds)
+    } else if count == 15 || count == 16 {
+        Some(Unit::Microseconds)
+    } else if count == 18 || count == 19 {
+        Some(Unit::Nanoseconds)
+    } else {
+        None
+    }
+}
+
+/// The unit of a number of so many digits: the one that is asked for, and else the one by its digits.
+#[inline(always)]
+fn unit_of(asked: Option<Unit>, count: usize) -> Option<Unit>
+    ensures { result ≡ unit_of asked count }
+{
+    match asked {
+        Some(unit) => Some(unit),
+        None => unit_by_digits(count),
+    }
+}
+
+/// The same, and seconds where it has none.
+#[inline(always)]
+pub(crate) fn unit_for(asked: Option<Unit>, count: usize) -> Unit
+    ensures { result ≡ unit_for asked count }
+{
+    match unit_of(asked, count) {
+        Some(unit) => unit,
+        None => Unit::Seconds,
+    }
+}
+
+/// Whether a number of so many digits is a time.
+#[inline(always)]
+fn is_time(numbers: &Numbers, count: usize) -> bool
+    ensures { result ≡ is_time numbers.now.unit numbers.now.least count }
+{
+    count >= numbers.least && unit_of(numbers.unit, count).is_some()
 }
 
 /// Whether a digit stands before this place, or a point behind a digit.
@@ -64,25 +127,23 @@ fn next_digit(line: &[u8], from: usize) -> usize
     at
 }
 
-/// Whether a number of at least so many digits begins here, where so many digits stand in a row.
+/// Whether a time begins here, where so many digits stand in a row.
 #[inline(always)]
-fn is_number(line: &[u8], at: usize, count: usize, least: usize) -> bool
+fn is_number(line: &[u8], at: usize, count: usize, numbers: &Numbers) -> bool
     requires inside { at ≤ length line.now }
     requires count { count ≡ digit_count (drop at line.now) }
-    ensures { result ≡ begins least line.now at }
+    ensures { result ≡ begins (is_time numbers.now.unit numbers.now.least) line.now at }
 {
-    count > 0 && count >= least && !goes_on(line, at)
+    count > 0 && is_time(numbers, count) && !goes_on(line, at)
 }
 
-/// Where the first number of at least so many digits begins, and how many digits it has, if none begins
-/// before this place.
+/// Where the first time begins from this place on, and how many digits it has.
 #[inline(always)]
-fn number_from(line: &[u8], least: usize, from: usize) -> Option<(usize, usize)>
+fn number_from(line: &[u8], numbers: &Numbers, from: usize) -> Option<(usize, usize)>
     requires inside { from ≤ length line.now }
-    requires none { number_start least line.now
-        ≡ first_place (begins least line.now) (length line.now - from) from }
-    ensures place { MatchOption result (number_start least line.now ≡ None)
-        (λ s. number_start least line.now ≡ Some s.0) }
+    ensures place { MatchOption result
+        (number_start (is_time numbers.now.unit numbers.now.least) line.now from ≡ None)
+        (λ s. number_start (is_time numbers.now.unit numbers.now.least) line.now from ≡ Some s.0) }
     ensures inside { IfSome result (λ s. s.0 ≤ length line.now) }
     ensures count { IfSome result (λ s. s.1 ≡ digit_count (drop s.0 line.now)) }
     ensures digits { IfSome result (λ s. s.1 ≤ length line.now - s.0) }
@@ -90,7 +151,7 @@ fn number_from(line: &[u8], least: usize, from: usize) -> Option<(usize, usize)>
     let mut at = next_digit(line, from);
     while at < line.len() {
         let count = digit_count(&line[at..]);
-        if is_number(line, at, count, least) {
+        if is_number(line, at, count, numbers) {
             return Some((at, count));
         }
         at = next_digit(line, at + count);
@@ -110,20 +171,39 @@ fn first_count(line: &[u8]) -> usize
     }
 }
 
-/// Where the first number of at least so many digits begins, and how many digits it has.
+/// The same from the start of the line. Most times begin their lines.
 #[inline(always)]
-pub(crate) fn number_start(line: &[u8], least: usize) -> Option<(usize, usize)>
-    ensures place { MatchOption result (number_start least line.now ≡ None)
-        (λ s. number_start least line.now ≡ Some s.0) }
+fn first_number(line: &[u8], numbers: &Numbers) -> Option<(usize, usize)>
+    ensures place { MatchOption result
+        (number_start (is_time numbers.now.unit numbers.now.least) line.now 0 ≡ None)
+        (λ s. number_start (is_time numbers.now.unit numbers.now.least) line.now 0 ≡ Some s.0) }
     ensures inside { IfSome result (λ s. s.0 ≤ length line.now) }
     ensures count { IfSome result (λ s. s.1 ≡ digit_count (drop s.0 line.now)) }
     ensures digits { IfSome result (λ s. s.1 ≤ length line.now - s.0) }
 {
     let first = first_count(line);
-    if is_number(line, 0, first, least) {
+    if is_number(line, 0, first, numbers) {
         return Some((0, first));
     }
-    number_from(line, least, first)
+    number_from(line, numbers, 0)
+}
+
+/// Where the first time begins from this place on, and how many digits it has.
+#[inline(always)]
+pub(crate) fn number_start(line: &[u8], numbers: &Numbers, from: usize) -> Option<(usize, usize)>
+    requires from { from ≤ length line.now }
+    ensures place { MatchOption result
+        (number_start (is_time numbers.now.unit numbers.now.least) line.now from ≡ None)
+        (λ s. number_start (is_time numbers.now.unit numbers.now.least) line.now from ≡ Some s.0) }
+    ensures inside { IfSome result (λ s. s.0 ≤ length line.now) }
+    ensures count { IfSome result (λ s. s.1 ≡ digit_count (drop s.0 line.now)) }
+    ensures digits { IfSome result (λ s. s.1 ≤ length line.now - s.0) }
+{
+    if from == 0 {
+        first_number(line, numbers)
+    } else {
+        number_from(line, numbers, from)
+    }
 }
 
 /// Whether a minus sign of a number stands before this place.
@@ -135,19 +215,28 @@ pub(crate) fn has_minus(line: &[u8], at: usize) -> bool
     at >= 1 && line[at - 1] == b'-' && (at == 1 || !line[at - 2].is_ascii_alphanumeric())
 }
 
-/// The decimals behind a point with which the text begins, and what follows them.
-pub(crate) fn split_decimals(text: &[u8]) -> (&[u8], &[u8])
-    ensures decimals { result.0.now ≡ decimals_of text.now }
-    ensures digits { list_all is_ascii_digit result.0.now ≡ true }
-    ensures after { result.1.now ≡ after_decimals (decimals_of text.now) text.now }
+/// The decimals behind a point with which the text begins, which may be none.
+pub(crate) fn decimals_of(text: &[u8]) -> &[u8]
+    ensures decimals { result.now ≡ decimals_of text.now }
+    ensures digits { list_all is_ascii_digit result.now ≡ true }
+    ensures inside { decimals_length result.now ≤ length text.now }
 {
-    if let [b'.', rest @ ..] = text {
-        let count = digit_count(rest);
-        if count > 0 {
-            return (&rest[..count], &rest[count..]);
-        }
+    match text {
+        [b'.', rest @ ..] => &rest[..digit_count(rest)],
+        _ => &[],
     }
-    (&[], text)
+}
+
+/// How many bytes the decimals and their point have.
+pub(crate) fn decimals_length(decimals: &[u8]) -> usize
+    requires { length decimals.now < 0xffff_ffff_ffff_ffff }
+    ensures { result ≡ decimals_length decimals.now }
+{
+    if decimals.is_empty() {
+        0
+    } else {
+        decimals.len() + 1
+    }
 }
 
 /// The number that at most 19 digits spell.

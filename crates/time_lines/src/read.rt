@@ -6,9 +6,10 @@ ghost use Rattle.time_lines.specs.Read.{IsFirstText, NoText, NoTextBefore, ReadB
 ghost use Rattle.time_lines.specs.Shown.{Replaces, SameShown};
 ghost use Rattle.time_read.specs.Lenient.{Rfc3339Means};
 
+use crate::passed::{Passed, Why};
 use crate::runs::digit_count;
 use crate::shown::Shown;
-use crate::unix::{append_replaced, count_passed};
+use crate::unix::append_replaced;
 use line_streams::{FilterError, LineJob};
 use std::alloc::AllocError;
 use time_below::{OffsetDateTime, Timestamp};
@@ -21,8 +22,7 @@ use time_read::LenientReader;
 pub struct ReadJob<S: Shown + Drop> {
     pub shown: S,
     pub reader: LenientReader,
-    /// How many lines passed as they were.
-    pub passed: u64,
+    pub passed: Passed,
 }
 
 /// How many bytes an offset has that the text begins with.
@@ -131,11 +131,24 @@ fn append_found<S: Shown>(
     append_replaced(
         shown,
         output,
-        line,
-        found.at,
+        &line[..found.at],
+        &[],
+        rest,
         after,
         moment_of_value(found.value),
     )
+}
+
+/// Why a text of this value stays in its place, unless what is shown of it took that.
+#[inline(always)]
+fn why_stays(value: &OffsetDateTime, is_shown: bool) -> Option<Why> {
+    if is_shown {
+        return None;
+    }
+    match moment_of_value(*value) {
+        Some(_) => Some(Why::NoText),
+        None => Some(Why::NoMoment),
+    }
 }
 
 impl<S: Shown + Drop> LineJob for ReadJob<S> {
@@ -149,13 +162,12 @@ impl<S: Shown + Drop> LineJob for ReadJob<S> {
 
     fn append(&mut self, output: &mut Vec<u8>, line: &[u8]) -> Result<(), AllocError> {
         let Some(found) = first_text(&mut self.reader, line) else {
-            count_passed(&mut self.passed);
+            self.passed.count_line(Some(Why::NoTime));
             output.extend_from_slice(line)?;
             return Ok(());
         };
-        if !append_found(&mut self.shown, output, line, &found)? {
-            count_passed(&mut self.passed);
-        }
+        let is_shown = append_found(&mut self.shown, output, line, &found)?;
+        self.passed.count_line(why_stays(&found.value, is_shown));
         Ok(())
     }
 }

@@ -1,32 +1,40 @@
 //! Unix time in lines, replaced by its text.
-ghost use Rattle.std.specs.Prelude.{◌≡◌, ◌≤◌, ◌+◌, ◌-◌, min, ◌++◌, true, length, take, drop, OnOk, if◌then◌else◌};
+ghost use Rattle.std.specs.Prelude.{◌≡◌, ◌≤◌, ◌+◌, ◌-◌, ◌++◌, ◌&&◌, true, false, length, drop, Some, IfNone, IfOk, IfSome, OnOk, if◌then◌else◌};
 ghost use Rattle.line_streams.specs.Filter.{Adds};
-ghost use Rattle.time_lines.specs.Number.{digit_count, number_at};
-ghost use Rattle.time_lines.specs.Unix.{NumberBecomes, UnixBecomes};
+ghost use Rattle.std.specs.Char.{is_ascii_digit};
+ghost use Rattle.std.specs.List.{list_all};
+ghost use Rattle.std.specs.Str.Parse.{digits_value};
+ghost use Rattle.time_below.specs.Moment.{IsMoment};
+ghost use Rattle.time_lines.specs.Json.{has_exponent};
+ghost use Rattle.time_lines.specs.Number.{digit_count, moment_after, number_at, with_sign};
 ghost use Rattle.time_lines.specs.Shown.{IsReplaced, SameShown};
+ghost use Rattle.time_lines.specs.Unix.{FromBecomes, HasText, LooksFrom, PieceBecomes, RestBecomes, UnixBecomes, between, is_quoted, moment_of_time};
 
-use crate::number::{Unit, has_minus, moment_of, number_start, split_decimals};
+use crate::json::{has_exponent, is_value_at, quotes_if};
+use crate::number::{
+    Numbers, Unit, decimals_length, decimals_of, has_minus, moment_of, number_start, unit_for,
+};
+use crate::passed::{Passed, Why};
 use crate::shown::Shown;
 use line_streams::{FilterError, LineJob};
+use memchr::memmem::Finder;
 use std::alloc::AllocError;
 use time_below::Timestamp;
 
-/// Replaces the first number of each line that has at least so many digits, which is Unix time, by what
-/// is shown of its moment. A line without one passes as it is, and is counted; so does one whose number
-/// names no moment that has a text.
+/// Replaces the first time of each line, or each one, which is Unix time, by what is shown of its moment. A
+/// line without one passes as it is, and is counted; so does one of whose times nothing is shown.
 #[derive(Drop)]
-pub struct UnixJob<S: Shown + Drop> {
+pub struct UnixJob<'a, S: Shown + Drop> {
     pub shown: S,
-    pub unit: Unit,
-    /// How many digits a number has at least.
-    pub least: usize,
-    /// How many lines passed as they were.
-    pub passed: u64,
+    pub numbers: Numbers,
+    /// The text behind whose first occurrence times are looked for, if one is asked for.
+    pub after: Option<Finder<'a>>,
+    pub passed: Passed,
 }
 
 /// Appends the bytes, by a copy if there are any.
 #[inline(always)]
-pub(crate) fn append_bytes(output: &mut Vec<u8>, bytes: &[u8]) -> Result<(), AllocError>
+fn append_bytes(output: &mut Vec<u8>, bytes: &[u8]) -> Result<(), AllocError>
     ensures { OnOk result (output.new.items ≡ output.old.items ++ bytes.now) }
 {
     if bytes.is_empty() {
@@ -44,98 +52,349 @@ fn first_place(is_negative: bool, start: usize) -> usize
     if is_negative { start - 1 } else { start }
 }
 
-/// Appends the line with what is shown of the moment in place of what stands between its first bytes, as many
-/// as this, and those after it. The line stays as it is if there is no moment, or nothing is shown of it.
-/// Says whether a text took the place.
+/// Appends some bytes, what is shown of the moment with the marks on both sides, and what follows it. Where there
+/// is no moment, or nothing is shown of it, its own text is appended in the place of these. Says whether a text
+/// took that place.
 #[inline(always)]
 pub(crate) fn append_replaced<S: Shown>(
     shown: &mut S,
     output: &mut Vec<u8>,
-    line: &[u8],
-    first: usize,
+    before: &[u8],
+    marks: &[u8],
+    own: &[u8],
     after: &[u8],
     moment: Option<Timestamp>,
 ) -> Result<bool, AllocError>
-    requires first { first ≤ length line.now }
     ensures same { SameShown (S.shows shown.old) (S.shows shown.new) }
     ensures appended { OnOk result (Adds
-        (IsReplaced (S.shows shown.old) moment (take first line.now) after.now line.now)
+        (IsReplaced (S.shows shown.old) moment (before.now ++ marks.now) (marks.now ++ after.now)
+        (before.now ++ own.now))
         output.old.items output.new.items) }
 {
+    append_bytes(output, before)?;
     let Some(moment) = moment else {
-        output.extend_from_slice(line)?;
+        output.extend_from_slice(own)?;
         return Ok(false);
     };
-    append_bytes(output, &line[..first])?;
+    let length = output.as_slice().len();
+    append_bytes(output, marks)?;
     if shown.append(output, &moment)? {
-        output.extend_from_slice(after)?;
+        append_bytes(output, marks)?;
+        append_bytes(output, after)?;
         return Ok(true);
     }
-    output.extend_from_slice(&line[first..])?;
+    output.truncate(length);
+    output.extend_from_slice(own)?;
     Ok(false)
 }
 
-/// Appends the line with what is shown of its number, which has so many digits from here on, in place of
-/// it. Says whether a text took its place.
-#[inline(always)]
-fn append_number<S: Shown>(
-    shown: &mut S,
-    unit: Unit,
-    output: &mut Vec<u8>,
-    line: &[u8],
-    start: usize,
-    count: usize,
-) -> Result<bool, AllocError>
-    requires inside { start ≤ length line.now }
-    requires digits { count ≤ length line.now - start }
-    requires count { count ≡ digit_count (drop start line.now) }
-    ensures same { SameShown (S.shows shown.old) (S.shows shown.new) }
-    ensures appended { OnOk result (Adds
-        (NumberBecomes (S.shows shown.old) unit (number_at line.now start) line.now)
-        output.old.items output.new.items) }
-{
-    let end = start + count;
-    let (decimals, after) = split_decimals(&line[end..]);
-    let is_negative = has_minus(line, start);
-    let first = first_place(is_negative, start);
-    let moment = moment_of(unit, is_negative, &line[start..end], decimals);
-    append_replaced(shown, output, line, first, after, moment)
+/// What came of a piece of a line: where it ends, and why its number stayed, if it did.
+#[derive(Clone, Copy)]
+struct Piece {
+    end: usize,
+    stays: Option<Why>,
 }
 
-/// The same. Most numbers begin their lines, and a call for these alone is the shorter one.
+/// A number of a line that is a time.
+#[derive(Drop)]
+struct FoundNumber {
+    /// Where it begins, with its sign.
+    first: usize,
+    /// Where it ends.
+    end: usize,
+    /// It is a value of JSON, whose text is put in quotes.
+    is_value: bool,
+    /// Its moment, unless it has none or is a value with an exponent.
+    moment: Option<Timestamp>,
+}
+
+/// Whether the number whose digits begin here is a value of JSON, whose text is put in quotes.
 #[inline(always)]
-fn append_found<S: Shown>(
-    shown: &mut S,
+fn is_quoted(numbers: &Numbers, line: &[u8], start: usize) -> bool
+    requires { start ≤ length line.now }
+    ensures { result ≡ is_quoted numbers.now line.now start }
+{
+    numbers.is_json && is_value_at(line, start)
+}
+
+/// Whether a value of JSON goes on with an exponent.
+#[inline(always)]
+fn is_value_with_exponent(is_value: bool, rest: &[u8]) -> bool
+    ensures { result ≡ (is_value && has_exponent rest.now) }
+{
+    is_value && has_exponent(rest)
+}
+
+/// The moment that a number of these digits and decimals names, unless it stays as it is.
+#[inline(always)]
+fn moment_unless(
+    stays: bool,
     unit: Unit,
-    output: &mut Vec<u8>,
-    line: &[u8],
-    start: usize,
-    count: usize,
-) -> Result<bool, AllocError>
+    is_negative: bool,
+    digits: &[u8],
+    decimals: &[u8],
+) -> Option<Timestamp>
+    requires digits { list_all is_ascii_digit digits.now ≡ true }
+    requires decimals { list_all is_ascii_digit decimals.now ≡ true }
+    ensures some { IfSome result (λ m. (length digits.now ≤ 19) × IsMoment m
+        × (m ≡ with_sign is_negative (moment_after unit (digits_value 10 digits.now) decimals.now))
+        × (stays ≡ false)) }
+    ensures none { IfNone result (length digits.now ≤ 19 → stays ≡ false
+        → ¬ IsMoment (with_sign is_negative (moment_after unit (digits_value 10 digits.now) decimals.now))) }
+{
+    if stays {
+        return None;
+    }
+    moment_of(unit, is_negative, digits, decimals)
+}
+
+/// The number that has so many digits from here on.
+#[inline(always)]
+fn found_number(numbers: &Numbers, line: &[u8], start: usize, count: usize) -> FoundNumber
     requires inside { start ≤ length line.now }
     requires digits { count ≤ length line.now - start }
     requires count { count ≡ digit_count (drop start line.now) }
-    ensures same { SameShown (S.shows shown.old) (S.shows shown.new) }
-    ensures appended { OnOk result (Adds
-        (NumberBecomes (S.shows shown.old) unit (number_at line.now start) line.now)
-        output.old.items output.new.items) }
+    ensures first { result.first ≡ (number_at line.now start).first }
+    ensures end { result.end ≡ (number_at line.now start).end }
+    ensures value { result.is_value ≡ is_quoted numbers.now line.now start }
+    ensures some { IfSome result.moment (λ m. (m ≡ moment_of_time numbers.now line.now start)
+        × HasText numbers.now line.now start) }
+    ensures none { IfNone result.moment (¬ HasText numbers.now line.now start) }
+    ensures order { result.first ≤ result.end }
+    ensures inside { result.end ≤ length line.now }
 {
-    if start == 0 {
-        append_number(shown, unit, output, line, 0, count)
-    } else {
-        append_number(shown, unit, output, line, start, count)
+    let digits_end = start + count;
+    let decimals = decimals_of(&line[digits_end..]);
+    let end = digits_end + decimals_length(decimals);
+    let is_negative = has_minus(line, start);
+    let is_value = is_quoted(numbers, line, start);
+    let stays = is_value_with_exponent(is_value, &line[end..]);
+    let unit = unit_for(numbers.unit, count);
+    let moment = moment_unless(stays, unit, is_negative, &line[start..digits_end], decimals);
+    FoundNumber {
+        first: first_place(is_negative, start),
+        end,
+        is_value,
+        moment,
     }
 }
 
-/// Counts one line more, up to the greatest `u64`.
-pub(crate) fn count_passed(number: &mut u64)
-    ensures { number.new ≡ min (number.old + 1) 0xffff_ffff_ffff_ffff }
+/// The bytes from one place to another, and none where the second one comes before the first.
+#[inline(always)]
+fn between(line: &[u8], at: usize, to: usize) -> &[u8]
+    requires { to ≤ length line.now }
+    ensures { result.now ≡ between at to line.now }
 {
-    *number = number.saturating_add(1);
+    if at <= to { &line[at..to] } else { &[] }
 }
 
-impl<S: Shown + Drop> LineJob for UnixJob<S> {
-    ghost becomes = { λ job. UnixBecomes (S.shows job.shown) job.unit job.least };
+/// Appends what becomes of a line from a place to the end of its number, which has so many digits from another
+/// place on.
+#[inline(always)]
+fn append_piece<S: Shown>(
+    shown: &mut S,
+    numbers: &Numbers,
+    output: &mut Vec<u8>,
+    line: &[u8],
+    at: usize,
+    start: usize,
+    count: usize,
+) -> Result<Piece, AllocError>
+    requires inside { start ≤ length line.now }
+    requires digits { count ≤ length line.now - start }
+    requires count { count ≡ digit_count (drop start line.now) }
+    ensures same { SameShown (S.shows shown.old) (S.shows shown.new) }
+    ensures end { IfOk result (λ piece. piece.end ≡ (number_at line.now start).end) }
+    ensures inside { IfOk result (λ piece. piece.end ≤ length line.now) }
+    ensures appended { OnOk result (Adds
+        (PieceBecomes (S.shows shown.old) numbers.now line.now at start)
+        output.old.items output.new.items) }
+{
+    let found = found_number(numbers, line, start, count);
+    let before = between(line, at, found.first);
+    let own = between(line, found.first, found.end);
+    let marks = quotes_if(found.is_value);
+    let has_moment = found.moment.is_some();
+    let is_shown = append_replaced(shown, output, before, marks, own, &[], found.moment)?;
+    Ok(Piece {
+        end: found.end,
+        stays: why_stays(has_moment, is_shown),
+    })
+}
+
+/// Why a number stays in its place, if it does.
+#[inline(always)]
+fn why_stays(has_moment: bool, is_shown: bool) -> Option<Why> {
+    if is_shown {
+        None
+    } else if has_moment {
+        Some(Why::NoText)
+    } else {
+        Some(Why::NoMoment)
+    }
+}
+
+/// The same of the first number of a line. Most begin their lines, and a call for these alone is the shorter one.
+#[inline(always)]
+fn append_first<S: Shown>(
+    shown: &mut S,
+    numbers: &Numbers,
+    output: &mut Vec<u8>,
+    line: &[u8],
+    start: usize,
+    count: usize,
+) -> Result<Piece, AllocError>
+    requires inside { start ≤ length line.now }
+    requires digits { count ≤ length line.now - start }
+    requires count { count ≡ digit_count (drop start line.now) }
+    ensures same { SameShown (S.shows shown.old) (S.shows shown.new) }
+    ensures end { IfOk result (λ piece. piece.end ≡ (number_at line.now start).end) }
+    ensures inside { IfOk result (λ piece. piece.end ≤ length line.now) }
+    ensures appended { OnOk result (Adds
+        (PieceBecomes (S.shows shown.old) numbers.now line.now 0 start)
+        output.old.items output.new.items) }
+{
+    if start == 0 {
+        append_piece(shown, numbers, output, line, 0, 0, count)
+    } else {
+        append_piece(shown, numbers, output, line, 0, start, count)
+    }
+}
+
+/// Appends what becomes of a line from a place on, where at most so many numbers are replaced. Says whether
+/// a text took the place of one.
+#[inline(never)]
+fn append_rest<S: Shown>(
+    shown: &mut S,
+    numbers: &Numbers,
+    output: &mut Vec<u8>,
+    line: &[u8],
+    from: usize,
+    most: usize,
+) -> Result<bool, AllocError>
+    requires from { from ≤ length line.now }
+    ensures same { SameShown (S.shows shown.old) (S.shows shown.new) }
+    ensures appended { OnOk result (Adds
+        (RestBecomes (S.shows shown.old) numbers.now most line.now from from)
+        output.old.items output.new.items) }
+{
+    let mut at = from;
+    let mut is_any_shown = false;
+    for round in 0..most {
+        let Some((start, count)) = number_start(line, numbers, at) else {
+            output.extend_from_slice(&line[at..])?;
+            return Ok(is_any_shown);
+        };
+        let piece = append_piece(shown, numbers, output, line, at, start, count)?;
+        is_any_shown = is_any_shown || piece.stays.is_none();
+        at = piece.end;
+    }
+    output.extend_from_slice(&line[at..])?;
+    Ok(is_any_shown)
+}
+
+/// Appends what becomes of a line behind its first number, which came out so: what follows it, or what becomes of
+/// that where each number is replaced. Says why the line passed as it was, if it did.
+#[inline(always)]
+fn append_behind<S: Shown>(
+    shown: &mut S,
+    numbers: &Numbers,
+    output: &mut Vec<u8>,
+    line: &[u8],
+    first: &Piece,
+) -> Result<Option<Why>, AllocError>
+    requires inside { first.now.end ≤ length line.now }
+    ensures same { SameShown (S.shows shown.old) (S.shows shown.new) }
+    ensures appended { OnOk result (Adds
+        (RestBecomes (S.shows shown.old) numbers.now
+        (if numbers.now.is_all then length line.now - 1 else 0) line.now first.now.end first.now.end)
+        output.old.items output.new.items) }
+{
+    if !numbers.is_all {
+        output.extend_from_slice(&line[first.end..])?;
+        return Ok(first.stays);
+    }
+    let most = line.len().saturating_sub(1);
+    let is_any_shown = append_rest(shown, numbers, output, line, first.end, most)?;
+    Ok(if is_any_shown { None } else { first.stays })
+}
+
+/// Why a line has no time from this place on.
+#[cold]
+#[inline(never)]
+fn why_none(numbers: &Numbers, line: &[u8], from: usize) -> Why
+    requires { from ≤ length line.now }
+{
+    let any_unit = Numbers {
+        unit: Some(Unit::Seconds),
+        ..*numbers
+    };
+    match number_start(line, &any_unit, from) {
+        Some(_) => Why::NoUnit,
+        None => Why::NoTime,
+    }
+}
+
+/// Appends what a line becomes whose times are looked for from this place on. Says why the line passed as it was,
+/// if it did.
+#[inline(always)]
+fn append_from<S: Shown>(
+    shown: &mut S,
+    numbers: &Numbers,
+    output: &mut Vec<u8>,
+    line: &[u8],
+    from: usize,
+) -> Result<Option<Why>, AllocError>
+    requires from { from ≤ length line.now }
+    ensures same { SameShown (S.shows shown.old) (S.shows shown.new) }
+    ensures appended { OnOk result (Adds
+        (FromBecomes (S.shows shown.old) numbers.now (Some from) line.now)
+        output.old.items output.new.items) }
+{
+    let Some((start, count)) = number_start(line, numbers, from) else {
+        output.extend_from_slice(line)?;
+        return Ok(Some(why_none(numbers, line, from)));
+    };
+    let first = append_first(shown, numbers, output, line, start, count)?;
+    append_behind(shown, numbers, output, line, &first)
+}
+
+/// From which place on times of the line are looked for, if the text behind which they stand is in it.
+#[inline(always)]
+fn from_place(after: &Option<Finder<'_>>, line: &[u8]) -> Option<usize>
+    ensures from { LooksFrom after.now line.now result }
+    ensures inside { IfSome result (λ from. from ≤ length line.now) }
+{
+    let Some(text) = after else {
+        return Some(0);
+    };
+    let at = text.find(line)?;
+    Some(at + text.needle().len())
+}
+
+/// Appends what a line becomes. Says why it passed as it was, if it did.
+#[inline(always)]
+fn append_line<S: Shown>(
+    shown: &mut S,
+    numbers: &Numbers,
+    after: &Option<Finder<'_>>,
+    output: &mut Vec<u8>,
+    line: &[u8],
+) -> Result<Option<Why>, AllocError>
+    ensures same { SameShown (S.shows shown.old) (S.shows shown.new) }
+    ensures appended { OnOk result (Adds
+        (UnixBecomes (S.shows shown.old) numbers.now after.now line.now)
+        output.old.items output.new.items) }
+{
+    let Some(from) = from_place(after, line) else {
+        output.extend_from_slice(line)?;
+        return Ok(Some(Why::NoPlace));
+    };
+    append_from(shown, numbers, output, line, from)
+}
+
+impl<S: Shown + Drop> LineJob for UnixJob<'_, S> {
+    ghost becomes = { λ job. UnixBecomes (S.shows job.shown) job.numbers job.after };
 
     ghost is_ready = { λ _. Unit {0} };
 
@@ -145,15 +404,8 @@ impl<S: Shown + Drop> LineJob for UnixJob<S> {
 
     #[inline(always)]
     fn append(&mut self, output: &mut Vec<u8>, line: &[u8]) -> Result<(), AllocError> {
-        let Some((start, count)) = number_start(line, self.least) else {
-            count_passed(&mut self.passed);
-            output.extend_from_slice(line)?;
-            return Ok(());
-        };
-        let unit = self.unit;
-        if !append_found(&mut self.shown, unit, output, line, start, count)? {
-            count_passed(&mut self.passed);
-        }
+        let stays = append_line(&mut self.shown, &self.numbers, &self.after, output, line)?;
+        self.passed.count_line(stays);
         Ok(())
     }
 }

@@ -1,7 +1,7 @@
-//! Tests of the crates above the formatter by public calls: of `time_describe`, `time_plan`, `time`,
-//! `line_streams`, `time_lines`, `time_jiff`, `log_time` and `time_serde`, of the lines of `docs/FROM.md` in
-//! Rattle, and of the recipes. One library reads all crates below once, and `time_describe` stands on
-//! `time_below` alone.
+//! Tests of the crates above the formatter by public calls: of `time_describe`, `time_plan`,
+//! `time_plan_read`, `time`, `line_streams`, `time_lines`, `time_jiff`, `log_time` and `time_serde`, of
+//! the lines of `docs/RATTLE.md` in Rattle, and of the recipes. One library reads all crates below once,
+//! and `time_describe` stands on `time_below` alone.
 #![tactic(auto)]
 
 #[cfg(test)]
@@ -18,6 +18,10 @@ mod jiff_values;
 mod lines;
 #[cfg(test)]
 mod log_lines;
+#[cfg(test)]
+mod parse_calls;
+#[cfg(test)]
+mod read_back;
 #[cfg(test)]
 mod recipes;
 #[cfg(test)]

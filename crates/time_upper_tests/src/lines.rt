@@ -3,6 +3,7 @@ ghost use Rattle.std.specs.Prelude.{◌≡◌};
 
 use crate::values::assert_that;
 use line_streams::LineJob;
+use memchr::memmem::Finder;
 use std::alloc::Global;
 use std::io;
 use std::process::Abort;
@@ -11,7 +12,8 @@ use time_below::{Timestamp, UtcOffset};
 use time_fmt::parts::UNIX_TIMESTAMP;
 use time_known::Rfc2822;
 use time_lines::{
-    InPlace, InUtc, NowJob, Place, ReadJob, Rfc3339InPlace, Shown, Unit, UnixJob, Utc,
+    FirstPassed, InPlace, InUtc, NowJob, Numbers, Passed, Place, ReadJob, Rfc3339InPlace, Shown,
+    Unit, UnixJob, Utc, Why,
 };
 use time_read::LenientReader;
 
@@ -41,12 +43,22 @@ fn assert_each_becomes<J: LineJob>(
     }
 }
 
-fn unix_job<S: Shown + Drop>(shown: S) -> UnixJob<S> {
+fn unix_job<S: Shown + Drop>(shown: S) -> UnixJob<'static, S> {
+    unix_job_of(shown, Some(Unit::Seconds), 9)
+}
+
+/// The job whose numbers have this unit, or that by their digits, and at least so many of these.
+fn unix_job_of<S: Shown + Drop>(shown: S, unit: Option<Unit>, least: usize) -> UnixJob<'static, S> {
     UnixJob {
         shown,
-        unit: Unit::Seconds,
-        least: 9,
-        passed: 0,
+        numbers: Numbers {
+            unit,
+            least,
+            is_all: false,
+            is_json: false,
+        },
+        after: None,
+        passed: Passed::new(),
     }
 }
 
@@ -101,11 +113,11 @@ const PASSED: &[&[u8]] = &[
 fn the_first_number_is_replaced(rt: HostRuntime) {
     let mut job = unix_job(Rfc3339InPlace::new(Utc));
     assert_each_becomes(&rt, rt.alloc(), &mut job, SECONDS);
-    assert_that(&rt, job.passed == 0);
+    assert_that(&rt, job.passed.count == 0);
     for line in PASSED {
         assert_becomes(&rt, rt.alloc(), &mut job, line, line);
     }
-    assert_that(&rt, job.passed == PASSED.len() as u64);
+    assert_that(&rt, job.passed.count == PASSED.len() as u64);
 }
 
 /// Units, the digits that a number has at least, lines, and what they become.
@@ -158,11 +170,139 @@ const UNITS: &[(Unit, usize, &[u8], &[u8])] = &[
 #[test]
 fn units_and_digits_are_as_asked_for(rt: HostRuntime) {
     for (unit, least, line, wanted) in UNITS {
-        let mut job = unix_job(Rfc3339InPlace::new(Utc));
-        job.unit = *unit;
-        job.least = *least;
+        let mut job = unix_job_of(Rfc3339InPlace::new(Utc), Some(*unit), *least);
         assert_becomes(&rt, rt.alloc(), &mut job, line, wanted);
     }
+}
+
+/// Lines whose numbers have their unit by their digits, of which ten are wanted, and what they become.
+const BY_DIGITS: &[(&[u8], &[u8])] = &[
+    (b"1700000000\n", b"2023-11-14T22:13:20Z\n"),
+    (b"1700000000123\n", b"2023-11-14T22:13:20.123Z\n"),
+    (b"999999999999 x\n", b"2001-09-09T01:46:39.999Z x\n"),
+    (b"1700000000123456\n", b"2023-11-14T22:13:20.123456Z\n"),
+    (b"999999999999999\n", b"2001-09-09T01:46:39.999999Z\n"),
+    (
+        b"1700000000123456789\n",
+        b"2023-11-14T22:13:20.123456789Z\n",
+    ),
+    (b"999999999999999999\n", b"2001-09-09T01:46:39.999999999Z\n"),
+    (
+        b"12345678901 99999999999999 1700000000\n",
+        b"12345678901 99999999999999 2023-11-14T22:13:20Z\n",
+    ),
+    (
+        b"{\"id\":123456789,\"ts\":1700000000.123}\n",
+        b"{\"id\":123456789,\"ts\":2023-11-14T22:13:20.123Z}\n",
+    ),
+    (
+        b"17000000000000000 17 digits\n",
+        b"17000000000000000 17 digits\n",
+    ),
+];
+
+#[test]
+fn numbers_have_their_unit_by_their_digits(rt: HostRuntime) {
+    let mut job = unix_job_of(Rfc3339InPlace::new(Utc), None, 10);
+    assert_each_becomes(&rt, rt.alloc(), &mut job, BY_DIGITS);
+    assert_that(&rt, job.passed.count == 1);
+    assert_that(
+        &rt,
+        job.passed.first
+            == Some(FirstPassed {
+                line: 10,
+                why: Why::NoUnit,
+            }),
+    );
+}
+
+/// Lines behind whose first `ts:` a number is looked for, and what they become.
+const BEHIND: &[(&[u8], &[u8])] = &[
+    (
+        b"1600000000 ts:1700000000 1700000001\n",
+        b"1600000000 ts:2023-11-14T22:13:20Z 1700000001\n",
+    ),
+    (b"1700000000 none\n", b"1700000000 none\n"),
+    (
+        b"ts: x ts:1700000000 1700000001\n",
+        b"ts: x ts:2023-11-14T22:13:20Z 1700000001\n",
+    ),
+    (b"1700000000 ts:\n", b"1700000000 ts:\n"),
+];
+
+#[test]
+fn a_number_is_looked_for_behind_a_text(rt: HostRuntime) {
+    let mut job = unix_job(Rfc3339InPlace::new(Utc));
+    job.after = Some(Finder::new(b"ts:"));
+    assert_each_becomes(&rt, rt.alloc(), &mut job, BEHIND);
+    assert_that(&rt, job.passed.count == 2);
+    assert_that(
+        &rt,
+        job.passed.first
+            == Some(FirstPassed {
+                line: 2,
+                why: Why::NoPlace,
+            }),
+    );
+}
+
+/// Lines of which each number is replaced, and what they become.
+const EACH: &[(&[u8], &[u8])] = &[
+    (
+        b"1700000000-1700000060.5 -1700000000;\n",
+        b"2023-11-14T22:13:20Z-2023-11-14T22:14:20.5Z 1916-02-18T01:46:40Z;\n",
+    ),
+    (
+        b"7 1700000000\t253402300800 1700000000",
+        b"7 2023-11-14T22:13:20Z\t253402300800 2023-11-14T22:13:20Z",
+    ),
+    (b"\n", b"\n"),
+    (b"1700000000.1700000000\n", b"2023-11-14T22:13:20.17Z\n"),
+    (b"253402300800 7\n", b"253402300800 7\n"),
+];
+
+#[test]
+fn each_number_is_replaced_where_that_is_asked_for(rt: HostRuntime) {
+    let mut job = unix_job(Rfc3339InPlace::new(Utc));
+    job.numbers.is_all = true;
+    assert_each_becomes(&rt, rt.alloc(), &mut job, EACH);
+    assert_that(&rt, job.passed.count == 2);
+}
+
+/// Lines of JSON, and what they become. Quotes stand where the number is a value.
+const JSON: &[(&[u8], &[u8])] = &[
+    (
+        b"{\"ts\":1700000000.5}\n",
+        b"{\"ts\":\"2023-11-14T22:13:20.5Z\"}\n",
+    ),
+    (
+        b"{\"ts\": -1700000000 }\n",
+        b"{\"ts\": \"1916-02-18T01:46:40Z\" }\n",
+    ),
+    (
+        b"{\"m\":\"at 1700000000\"}\n",
+        b"{\"m\":\"at 2023-11-14T22:13:20Z\"}\n",
+    ),
+    (
+        b"{\"m\":\"\\\"\",\"t\":1700000000}\n",
+        b"{\"m\":\"\\\"\",\"t\":\"2023-11-14T22:13:20Z\"}\n",
+    ),
+    (
+        b"{\"m\":\"\\\\\",\"t\":1700000000}\n",
+        b"{\"m\":\"\\\\\",\"t\":\"2023-11-14T22:13:20Z\"}\n",
+    ),
+    (b"[1700000000e3]\n", b"[1700000000e3]\n"),
+    (b"[1700000000.5E3]\n", b"[1700000000.5E3]\n"),
+    (b"1700000000", b"\"2023-11-14T22:13:20Z\""),
+    (b"[253402300800]\n", b"[253402300800]\n"),
+];
+
+#[test]
+fn a_text_stands_in_quotes_where_its_number_is_a_value_of_json(rt: HostRuntime) {
+    let mut job = unix_job(Rfc3339InPlace::new(Utc));
+    job.numbers.is_json = true;
+    assert_each_becomes(&rt, rt.alloc(), &mut job, JSON);
+    assert_that(&rt, job.passed.count == 3);
 }
 
 /// A place with one offset.
@@ -197,8 +337,8 @@ fn the_clock_of_a_place_is_shown(rt: HostRuntime) {
     );
 }
 
-/// Lines of days that follow each other and come again, so that a day is kept, and what they become. One of
-/// the year 10000 passes.
+/// Lines of days that follow each other and come again, so that a day is cached, and what they
+/// become. One of the year 10000 passes.
 const DAYS: &[(&[u8], &[u8])] = &[
     (b"1700006399\n", b"2023-11-14T23:59:59Z\n"),
     (b"1700006400.5\n", b"2023-11-15T00:00:00.5Z\n"),
@@ -246,7 +386,7 @@ fn an_offset_with_seconds_has_no_text(rt: HostRuntime) {
     };
     let mut job = unix_job(Rfc3339InPlace::new(AtOffset { offset }));
     assert_becomes(&rt, rt.alloc(), &mut job, b"1700000000\n", b"1700000000\n");
-    assert_that(&rt, job.passed == 1);
+    assert_that(&rt, job.passed.count == 1);
 }
 
 /// Lines with a text of RFC 3339, and what they become by the seconds since 1970.
@@ -277,10 +417,10 @@ fn the_first_text_is_replaced(rt: HostRuntime) {
             description: UNIX_TIMESTAMP,
         },
         reader: LenientReader::new(),
-        passed: 0,
+        passed: Passed::new(),
     };
     assert_each_becomes(&rt, rt.alloc(), &mut job, TEXTS);
-    assert_that(&rt, job.passed == 4);
+    assert_that(&rt, job.passed.count == 4);
 }
 
 #[test]
@@ -290,11 +430,11 @@ fn a_line_whose_moment_has_no_text_is_counted(rt: HostRuntime) {
             description: Rfc2822,
         },
         reader: LenientReader::new(),
-        passed: 0,
+        passed: Passed::new(),
     };
     let of_1899 = b"1899-12-31T23:59:59Z up\n";
     assert_becomes(&rt, rt.alloc(), &mut job, of_1899, of_1899);
-    assert_that(&rt, job.passed == 1);
+    assert_that(&rt, job.passed.count == 1);
     assert_becomes(
         &rt,
         rt.alloc(),
@@ -302,7 +442,7 @@ fn a_line_whose_moment_has_no_text_is_counted(rt: HostRuntime) {
         b"1900-01-01T00:00:00Z up\n",
         b"Mon, 01 Jan 1900 00:00:00 +0000 up\n",
     );
-    assert_that(&rt, job.passed == 1);
+    assert_that(&rt, job.passed.count == 1);
 }
 
 /// A clock that stands.

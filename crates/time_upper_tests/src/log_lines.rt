@@ -3,7 +3,7 @@
 //! `date -d @SECONDS`.
 use crate::values::assert_that;
 use jiff::tz::TimeZone;
-use log::{Level, Log, Logged, Metadata, debug, error, info, warn};
+use log::{Level, Log, Logged, Metadata, debug, error, info, trace, warn};
 use log_time::{TimePlace, Timed, Times, ZoneTimes};
 use std::alloc::{AllocError, Global};
 use std::cell::Cell;
@@ -139,9 +139,11 @@ fn each_record_has_the_time_at_which_it_was_logged(rt: HostRuntime) {
     warn!(sink; target: "app", "up");
     now.set(Some(Duration::new(1_795_341_307, 0)));
     error!(sink; target: "app", "up");
+    trace!(sink; target: "app", "up");
     let wanted = b"[2026-11-22T09:55:06.998Z INFO  app] up\n\
         [2026-11-22T09:55:06.999Z WARN  app] up\n\
-        [2026-11-22T09:55:07.000Z ERROR app] up\n";
+        [2026-11-22T09:55:07.000Z ERROR app] up\n\
+        [2026-11-22T09:55:07.000Z TRACE app] up\n";
     assert_that(&rt, sink.into_inner().as_slice() == wanted.as_slice());
 }
 
@@ -201,7 +203,7 @@ fn an_offset_with_seconds_has_a_dash(rt: HostRuntime) {
     );
 }
 
-/// Counts the writes to it, and takes so many bytes.
+/// Counts the writes to it and its flushes, and takes so many bytes.
 #[derive(Drop)]
 struct Counted<'a> {
     bytes: Vec<u8>,
@@ -222,6 +224,7 @@ impl Write for Counted<'_> {
     }
 
     fn flush(&mut self) -> io::Result<()> {
+        self.writes.set(self.writes.get().saturating_add(1));
         Ok(())
     }
 }
@@ -302,6 +305,50 @@ fn a_torn_line_ends_before_the_next_record(rt: HostRuntime) {
     let wanted = b"[2026-11-22T09:55:06\n\
         [2026-11-22T09:55:06.120Z INFO  app] second\n";
     assert_that(&rt, sink.into_inner().bytes.as_slice() == wanted.as_slice());
+}
+
+/// A message that makes room while it is shown.
+#[derive(Clone, Copy)]
+struct Opening<'a>(&'a Cell<usize>);
+
+impl Display for Opening<'_> {
+    fn fmt<W: fmt::Write>(&self, f: &mut Formatter<W>) -> fmt::Result {
+        self.0.set(1_000);
+        f.write_str("shown")
+    }
+}
+
+/// The line has more bytes than are kept. While it cannot be ended, the next record is not shown.
+#[test]
+fn a_long_torn_line_ends_before_the_next_record(rt: HostRuntime) {
+    let (now, writes, room) = (now(), Cell::new(0), Cell::new(20));
+    let out = Counted {
+        bytes: Vec::new(rt.alloc()),
+        writes: &writes,
+        room: &room,
+    };
+    let sink = Timed::new(Shown(&now), LogTime::utc(Milliseconds), out);
+    info!(sink; target: "app", "{}", Letters(1_500));
+    info!(sink; target: "app", "{}", Opening(&room));
+    assert_that(&rt, room.get() == 0);
+    room.set(1_000);
+    info!(sink; target: "app", "second");
+    let wanted = b"[2026-11-22T09:55:06\n\
+        [2026-11-22T09:55:06.120Z INFO  app] second\n";
+    assert_that(&rt, sink.into_inner().bytes.as_slice() == wanted.as_slice());
+}
+
+#[test]
+fn a_flush_reaches_the_writer(rt: HostRuntime) {
+    let (now, writes, room) = (now(), Cell::new(0), Cell::new(0));
+    let out = Counted {
+        bytes: Vec::new(rt.alloc()),
+        writes: &writes,
+        room: &room,
+    };
+    let sink = Timed::new(Shown(&now), LogTime::utc(Milliseconds), out);
+    sink.flush();
+    assert_that(&rt, writes.get() == 1);
 }
 
 /// A value that logs while it is shown.

@@ -55,6 +55,7 @@ struct Perhaps {
 const ENTRIES: &[&str] = &[
     r#"{"opened":"1996-12-19T16:39:57-08:00","closed":null,"seen":851042397,"checked":null}"#,
     r#"{"opened":"1985-04-12T23:20:50.52Z","closed":"1996-12-20T00:39:57Z","seen":0,"checked":-1}"#,
+    r#"{"opened":"1996-12-19T16:39:57.123456789-08:00","closed":null,"seen":1,"checked":2}"#,
 ];
 
 #[test]

@@ -92,6 +92,7 @@ fn macros_make_the_values_that_they_spell(rt: HostRuntime) {
     assert_that(&rt, offset!(UTC).as_hms() == (0, 0, 0));
     assert_that(&rt, offset!(+5:30).as_hms() == (5, 30, 0));
     assert_that(&rt, offset!(-00:00:01).as_hms() == (0, 0, -1));
+    assert_that(&rt, offset!(+5:30:15).as_hms() == (5, 30, 15));
 }
 
 #[test]
@@ -99,12 +100,15 @@ fn macros_of_dates_and_times_make_what_they_spell(rt: HostRuntime) {
     let local: PrimitiveDateTime = datetime!(2026-326 9:55);
     let same: PlainDateTime = local;
     assert_that(&rt, same.time().as_hms_nano() == (9, 55, 0, 0));
+    assert_that(&rt, same.date().to_ordinal_date() == (2026, 326));
     let moment = datetime!(-10-326 9:55 -5:30);
-    assert_that(&rt, moment.date().year() == -10);
+    assert_that(&rt, moment.date().to_ordinal_date() == (-10, 326));
     assert_that(&rt, moment.offset().as_hms() == (-5, -30, 0));
     let utc = utc_datetime!(+12026-02-28 9:55:06.12);
-    assert_that(&rt, utc.date().year() == 12_026);
+    assert_that(&rt, utc.date().to_ordinal_date() == (12_026, 59));
     assert_that(&rt, utc.time().as_hms_nano() == (9, 55, 6, 120_000_000));
+    let utc = utc_datetime!(2026-326 9:55);
+    assert_that(&rt, utc.date().to_ordinal_date() == (2026, 326));
 }
 
 /// What no other test of the crate names.

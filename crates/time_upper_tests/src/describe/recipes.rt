@@ -1,4 +1,4 @@
-//! The recipes of `docs/RECIPES.md` on descriptions from a text, which shows each of them word for word.
+//! The recipes of `docs/RATTLE.md` on descriptions from a text, which shows each of them word for word.
 
 mod tests;
 

@@ -119,7 +119,7 @@ pub fn append_heading(line: &mut Vec<u8>, date: &Date) -> Result<(), Format> {
 }
 
 /// Writes a text into a vector that is kept for all texts, in place of the text before. Never
-/// allocates: returns `None` if the vector is smaller than the width.
+/// allocates: returns `None` if the vector is smaller than the maximum length.
 pub fn write_kept<V: FormatValue, F: Formattable>(
     kept: &mut Vec<u8>,
     value: &V,

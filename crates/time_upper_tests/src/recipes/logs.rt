@@ -10,7 +10,7 @@ pub fn times_of_log() -> LogTime {
     LogTime::utc(Decimals::Milliseconds)
 }
 
-/// Appends a line such as `2026-11-22T09:55:06.120Z up`. The times are kept for the next line.
+/// Appends a line such as `2026-11-22T09:55:06.120Z up`. The times are cached for the next line.
 pub fn append_line(
     log: &mut Vec<u8>,
     times: &mut LogTime,

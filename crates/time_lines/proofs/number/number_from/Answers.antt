@@ -1,6 +1,6 @@
 use Rattle.std.proofs.Common.{◌≡◌, ◌-◌, ◌∙◌, ap, sym, length, drop, false, arith}
 use Rattle.line_streams.proofs.LinesLemmas.{slice-end}
-use Rattle.time_lines.specs.Number.{begins, digit_count}
+use Rattle.time_lines.specs.Number.{begins, digit_count, is_time}
 use Rattle.time_lines.proofs.NumberLemmas.{begins-no_digit, first_place-past, first_place-past_run}
 use Rattle.time_lines.proofs.number.number_from.Goals as goal
 
@@ -8,11 +8,13 @@ pub loop-at-init : goal.loop-at-init
 loop-at-init c =
     let next = c.next_digit-at in
     let from = c.args.from in
+    let line = c.args.line.now in
+    let passes = is_time c.args.numbers.now.unit c.args.numbers.now.least in
     record {
       inside = next.ensures.inside;
-      start = c.requires.none
-          ∙ first_place-past (begins c.args.least c.args.line.now) (length c.args.line.now) (next.result - from) from next.result
-          (omega (arith, next.ensures.after)) next.ensures.inside (λ k behind before. begins-no_digit c.args.least c.args.line.now k (next.ensures.none k behind before));
+      start = first_place-past (begins passes line) (length line) (next.result - from) from next.result
+          (omega (arith, next.ensures.after)) next.ensures.inside
+          (λ k behind before. begins-no_digit passes line k (next.ensures.none k behind before));
     }
 
 pub loop-at-preserved : goal.loop-at-preserved
@@ -21,11 +23,12 @@ loop-at-preserved c =
     let at = c.loop-at.at in
     let next = c.next_digit-at-in-loop-at in
     let run = c.digit_count-count in
+    let passes = is_time c.args.numbers.now.unit c.args.numbers.now.least in
     let many : run.result ≡ digit_count (drop at line) = run.ensures.count ∙ ap digit_count (slice-end at line) in
-    let none : begins c.args.least line at ≡ false = sym c.is_number.ensures ∙ c.if-is_number.false in
+    let none : begins passes line at ≡ false = sym c.is_number.ensures ∙ c.if-is_number.false in
     record {
       inside = next.ensures.inside;
       start = c.loop-at.invariant.start
-          ∙ first_place-past_run c.args.least line at run.result next.result many next.ensures.after next.ensures.inside none
+          ∙ first_place-past_run passes line at run.result next.result many next.ensures.after next.ensures.inside none
           next.ensures.none;
     }

@@ -119,7 +119,8 @@ const NEARLY_DATES: &[(&[Item<'_>], &str)] = &[
     (&[], ""),
 ];
 
-/// Compares each text of a table by the list and by its plan, and the plan's width with that of the list.
+/// Compares each text of a table by the list and by its plan, and the plan's maximum length with
+/// that of the list.
 fn assert_lists(
     rt: &impl Abort,
     alloc: Global,

@@ -1,4 +1,4 @@
-//! The recipe of a plan in `docs/RECIPES.md`, which shows it word for word.
+//! The recipe of a plan in `docs/RATTLE.md`, which shows it word for word.
 
 mod tests;
 

@@ -1,0 +1,106 @@
+//! Files one after another as one source of lines, and standard output.
+ghost use Rattle.std.specs.Prelude.{◌≤◌, length, None, IfOk};
+
+use line_streams::{Exchange, FilterError, LineJob};
+use std::fs::File;
+use std::io::{self, ErrorKind, Read, Stdin, Stdout, Write};
+
+/// Where lines come from.
+#[derive(Drop)]
+pub enum Source {
+    Standard(Stdin),
+    File(File),
+}
+
+impl Source {
+    /// The file of this name, where `-` is standard input.
+    pub fn open(rt: &HostRuntime, name: &str) -> io::Result<Source> {
+        if name == "-" {
+            return Ok(Source::Standard(rt.stdin()));
+        }
+        Ok(Source::File(File::open(rt, name)?))
+    }
+
+    fn read(&mut self, block: &mut [u8]) -> io::Result<usize>
+        ensures { IfOk result (λ n. n ≤ length block.new) }
+    {
+        match self {
+            Source::Standard(input) => input.read(block),
+            Source::File(input) => input.read(block),
+        }
+    }
+}
+
+/// A source, standard output, and what must be known where another source follows. Nothing is known of what
+/// they give and take.
+#[derive(Drop)]
+pub struct Streams {
+    pub input: Source,
+    pub output: Stdout,
+    /// What was last written is no end of a line.
+    pub is_inside_line: bool,
+    /// A line feed is written before anything else, since the source before ended inside a line.
+    pub needs_line_feed: bool,
+    /// Why the last read failed.
+    pub fault: Option<io::Error>,
+}
+
+impl Streams {
+    /// Standard input and standard output.
+    pub fn new(rt: &HostRuntime) -> Streams {
+        Streams {
+            input: Source::Standard(rt.stdin()),
+            output: rt.stdout(),
+            is_inside_line: false,
+            needs_line_feed: false,
+            fault: None,
+        }
+    }
+
+    /// Goes on with another source, whose lines begin anew.
+    pub fn go_on(&mut self, input: Source) {
+        self.input = input;
+        self.needs_line_feed = self.is_inside_line;
+    }
+
+    /// Writes all the bytes.
+    fn put(&mut self, bytes: &[u8]) -> Result<(), FilterError> {
+        match Write::write_all(&mut self.output, bytes) {
+            Ok(()) => Ok(()),
+            Err(error) => Err(match error.kind() {
+                ErrorKind::BrokenPipe => FilterError::Closed,
+                _ => FilterError::Write,
+            }),
+        }
+    }
+}
+
+impl Exchange for Streams {
+    ghost got = { λ _. None };
+
+    ghost put = { λ _. None };
+
+    ghost has_ended = { λ _. Unit {0} };
+
+    fn read<J: LineJob>(&mut self, _job: &J, block: &mut [u8]) -> Result<usize, FilterError> {
+        match self.input.read(block) {
+            Ok(count) => Ok(count),
+            Err(error) => {
+                self.fault = Some(error);
+                Err(FilterError::Read)
+            }
+        }
+    }
+
+    fn write_all(&mut self, bytes: &[u8]) -> Result<(), FilterError> {
+        let Some(last) = bytes.last() else {
+            return Ok(());
+        };
+        self.is_inside_line = *last != b'\n';
+        if self.needs_line_feed {
+            self.needs_line_feed = false;
+            self.put(b"\n")?;
+        }
+        self.put(bytes)
+    }
+}

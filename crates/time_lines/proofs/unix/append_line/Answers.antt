@@ -1,0 +1,6 @@
+use Rattle.std.proofs.Common.{Some, None, refl}
+use Rattle.time_lines.proofs.unix.append_line.Goals as goal
+
+pub returns-in_default-clause-appended : goal.returns-in_default-clause-appended
+returns-in_default-clause-appended g c =
+    (c.args.line.now, c.in_ok-extend_from_slice.ensures.items, (None, c.in_default.ensures.from, refl))

@@ -1,0 +1,24 @@
+-- The lines of a run, and the first of them that passed as it was.
+use Rattle.std.specs.Prelude.{ℕ, ◌+◌, min, Option, Some, None}
+use Rattle.time_lines.specs.declared.passed.FirstPassed.{FirstPassed}
+use Rattle.time_lines.specs.declared.passed.Passed.{Passed}
+use Rattle.time_lines.specs.declared.passed.Why.{Why}
+
+-- one more, up to the greatest number of 64 bits
+abbrev pub up : ℕ → ℕ
+up count = min (count + 1) 0xffff_ffff_ffff_ffff
+
+-- what is kept where there is one more: the one that was kept before, if there is one
+abbrev pub first_kept : Option FirstPassed → FirstPassed → Option FirstPassed
+first_kept (Some kept) more = Some kept
+first_kept None more = Some more
+
+-- after one more line, which passed as it was if there is a reason
+abbrev pub one_more : Passed → Option Why → Passed
+one_more passed None = record { lines = up passed.lines; count = passed.count; first = passed.first }
+one_more passed (Some why) =
+    record {
+      lines = up passed.lines;
+      count = up passed.count;
+      first = first_kept passed.first (record { line = up passed.lines; why = why });
+    }
