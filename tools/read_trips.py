@@ -1,0 +1,57 @@
+#!/usr/bin/env python3
+"""Reads back 200,000 texts of random descriptions and values, and as many with one byte overwritten.
+
+The program of tools/read_trips/ is run by `rt try` in a copy of the crates. For each type it prints how many plans and
+values there were, how many texts were not read, and how many values are written otherwise than the text that was read.
+The last line is `N texts, M wrong`: a text that a plan writes is wrong if it is not read, and any text is wrong if the value
+that was read of it is written otherwise. Takes some minutes.
+"""
+import pathlib
+import re
+import shutil
+import subprocess
+import sys
+import tempfile
+
+TOP = pathlib.Path(__file__).resolve().parent.parent
+CRATES = "time_below time_digits time_provide time_fmt time_describe time_plan time_plan_read".split()
+PROGRAM = "read_trips: time_below time_provide time_fmt time_plan time_plan_read\n"
+LINE = re.compile(r"(\w+): plans .* unread (\d+), .* written otherwise (\d+); damaged (\d+), .* written otherwise (\d+)$")
+WRITTEN = re.compile(r"values (\d+), refused by the writer (\d+)")
+
+
+def run(folder):
+    """The lines of the program, which is made in this folder."""
+    lines = (TOP / "crates.txt").read_text().splitlines(keepends=True)
+    (folder / "crates.txt").write_text("".join(it for it in lines if it.split(":")[0] in CRATES) + PROGRAM)
+    for crate in CRATES:
+        shutil.copytree(TOP / "crates" / crate, folder / "crates" / crate, ignore=shutil.ignore_patterns("out", "must-fail"))
+    source = folder / "crates/read_trips/src"
+    source.mkdir(parents=True)
+    for path in (TOP / "tools/read_trips").glob("*.rt.in"):
+        shutil.copy(path, source / path.name.removesuffix(".in"))
+    command = ["rt", "try", "--steps", "1000", "--seconds", "3000"]
+    return subprocess.run(command, cwd=source.parent, capture_output=True, text=True).stdout.splitlines()
+
+
+def main():
+    with tempfile.TemporaryDirectory() as folder:
+        lines = run(pathlib.Path(folder))
+    found = [(line, LINE.match(line)) for line in lines]
+    texts = wrong = 0
+    for line, it in found:
+        if not it:
+            continue
+        print(line)
+        values, refused = map(int, WRITTEN.search(line).groups())
+        unread, otherwise, damaged, damaged_otherwise = map(int, it.groups()[1:])
+        texts += values - refused + damaged
+        wrong += unread + otherwise + damaged_otherwise
+    if not texts:
+        print("\n".join(lines))
+    print(f"{texts:,} texts, {wrong} wrong")
+    return 1 if wrong or not texts else 0
+
+
+if __name__ == "__main__":
+    sys.exit(main())
