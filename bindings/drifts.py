@@ -13,12 +13,13 @@ TYPE = r"\b(?:[iu]\d+|[iu]size)\b"
 STRUCT = r"#\[repr\(C\)\].*?\n\}"
 ENUM = r"^pub enum .*?\n\}"
 # What follows in the header is there alone.
-SHARED = r"^struct movaliren_moment .*^struct movaliren_description "
+SHARED = r"^struct movaliren_moment .*^struct movaliren_description \{"
 # The places of changes: a file, the parts of it, and what is changed there.
 PLACES = [
-    ("movaliren.h", r".*", r"\b(?!MOVALIREN_(?:H|INLINE|CAST)\b)(?:MOVALIREN|movaliren)_\w+"),
+    ("movaliren*.h", r".*", r"\b(?!\w+_\b|MOVALIREN_(?:\w+_)?H\b)(?:MOVALIREN|movaliren)_\w+"),
     ("movaliren.h", r".*", r'(?<=return )"[^"]+"|(?<=\? )"[^"]+"|(?<=VERSION )"[^"]+"'),
     ("movaliren.h", r".*", r"\bMOVALIREN_\w+ = -?\d+"),
+    ("movaliren_items.h", r".*", r"\bMOVALIREN_\w+ = -?\d+"),
     ("movaliren.h", SHARED, r"(?<=_t )\w+(?=[;,)])|(?<=\*)\w+(?=[;,)])|\b\w+_t(?= \w+[;,)(])|\bconst "),
     ("clock.cpp", r"\} ways\[\].*", r'(?<=\{ ")(?!none|gmtime_r|building)\w+(?=[":])|movaliren_\w+(?=\()'),
     ("ways.rs", r".*", r'(?<=[(]")[a-z]\w*|(?<=^            ")[a-z]\w*'),

@@ -1,11 +1,11 @@
 #!/usr/bin/env python3
 """Writes what the header and the Rust crate have from the code.
 
-The exports of movaliren_c give the header's prototypes, each in its place, and the functions and structs of
+The exports of movaliren_c give the prototypes of movaliren.h, each in its place, and the functions and structs of
 `library.rs`; `reason.rt` the reasons, also of C++, and `library.rt` their words; `item.rt` the kinds of items and their choices, which
 `component.rt` of time_below documents; `syntax.rt` the faults of descriptions, which time_describe documents.
 
-    bindings/interface.py           writes both headers, `description.rs`, `parse.rs` and `library.rs`
+    bindings/interface.py           writes the three headers, `description.rs`, `parse.rs` and `library.rs`
     bindings/interface.py --check   ends with status 1 where one is not what would be written
 """
 
@@ -20,6 +20,7 @@ SOURCES = CRATES / "movaliren_c/src"
 COMPONENT = CRATES / "time_below/src/format_description/component.rt"
 FAULTS = [CRATES / "time_describe/src" / name for name in ("fault.rt", "strftime/fault.rt")]
 HEADER = HERE / "c/movaliren.h"
+HEADER_OF_ITEMS = HERE / "c/movaliren_items.h"
 HEADER_OF_CPP = HERE / "c/movaliren.hpp"
 RUST = HERE / "rust/src"
 # The Rust crate documents these, and they have private fields.
@@ -30,19 +31,21 @@ C_TYPES = {
 }
 FIELD = r"(\w+): (\w+|\[\w+; \d+\]),"
 # What is written in a file that has more by hand.
-PROTOTYPE = r"^(?:struct )?\w+ (movaliren_\w+)\([^)]*\);"
+PROTOTYPE = r"^(?:struct )?\w+ (movaliren_\w+)\([^)]*\)(?:\s+MOVALIREN_(?:NONNULL_\(\d\)|CHECKED_))*;"
 ERRORS = r"enum movaliren_error \{.*?\n\};"
 ERRORS_OF_CPP = r"enum class errc : int \{.*?\n\};"
-CASES = r"(?<=switch \(reason\) \{\n)(?:    case MOVALIREN_ERROR_\w+:\n        return [^\n]*\n)+"
+CASES = r"(?<=switch \(error\) \{\n)(?:    case MOVALIREN_ERROR_\w+:\n        return [^\n]*\n)+"
 KINDS = r"enum movaliren_kind \{.*?\n\};"
 KINDS_OF_RUST = r"pub enum Kind \{.*?\n\}"
-FAULTS_OF_C = r"enum movaliren_fault_reason \{.*?\n\};"
+FAULTS_OF_C = r"enum movaliren_parse_error_kind \{.*?\n\};"
 FAULTS_OF_RUST = r"pub enum FaultReason \{.*?\n\}"
 USES = "use crate::{Error, FaultReason, Kind, Moment, UtcMoment};"
+# Reasons that no call returns: the interfaces have none of them, but that the Rust crate itself asks for memory.
+NEVER = {"OutOfMemory", "Other"}
 # What is said of a reason beside its words.
 REMARKS = {
-    "NoRoom": "a format says by its MOVALIREN_.._ROOM how much is enough, and a description by movaliren_format_length",
-    "OutOfMemory": "never returned", "Other": "never returned",
+    "BufferTooSmall":
+        "a format says by its MOVALIREN_.._SIZE how much is enough, and a description by movaliren_description_max_length",
 }
 # The byte of a fault whose documentation does not name it.
 BYTES = {"Unfinished": "its `%`", "UnknownConversion": "that letter, or a colon before it", "ZoneName": "the `Z`"}
@@ -88,17 +91,34 @@ def exports():
             if reference:
                 parameters.append((parameter, ("mut " if reference[1] else "const ") + reference[3]))
                 if reference[2]:
-                    parameters.append((f"{parameter}_len", "usize"))
+                    # What is written to has a size in bytes, or room for so many items.
+                    size = {"u8": "size", "Item": "capacity"}[reference[3]] if reference[1] else "len"
+                    parameters.append((f"{parameter}_{size}", "usize"))
             else:
                 parameters.append((parameter, kind.strip()))
         functions[name] = (parameters, result)
     return functions
 
 
+def struct_name(name):
+    """The name of a struct in C: Iso8601Config is iso8601_config."""
+    return re.sub(r"(?<=[a-z0-9])(?=[A-Z])", "_", name).lower()
+
+
+def attributes(name, parameters):
+    """What the compiler is told: which pointers are to one object and so not null, and whose result is to be tested."""
+    sizes = {parameter for parameter, kind in parameters if kind == "usize"}
+    alone = lambda parameter: not sizes & {f"{parameter}_{size}" for size in ("len", "size", "capacity")}
+    words = [f"MOVALIREN_NONNULL_({place})" for place, (parameter, kind) in enumerate(parameters, 1)
+             if " " in kind and alone(parameter)]
+    is_read = name.startswith(("movaliren_read_", "movaliren_items_parse"))
+    return words + ["MOVALIREN_CHECKED_"] * is_read
+
+
 def c_type(kind):
     """The type with the space after it. Bytes are behind a `void *`, so that a caller may have an array of `char`."""
     way, _, name = kind.rpartition(" ")
-    of_c = C_TYPES.get(name) or f"struct movaliren_{snake(name).lower()}"
+    of_c = C_TYPES.get(name) or f"struct movaliren_{struct_name(name)}"
     if not way:
         return f"{of_c} "
     return ("const " if way == "const" else "") + ("void *" if name == "u8" else f"{of_c} *")
@@ -108,7 +128,10 @@ def prototype(name, function):
     """The prototype, in lines of at most 100 columns, which end between parameters."""
     parameters, result = function
     words = ", ".join(f"{c_type(kind)}{parameter}".replace(" ", "\0") for parameter, kind in parameters)
-    line = f"{c_type(result)}{name}".replace(" ", "\0") + f"({words or 'void'});"
+    # Where the first parameter does not fit the line of the name, it begins the next one.
+    after = " " if len(f"{c_type(result)}{name}({words.split(' ')[0]}") > 100 else ""
+    line = f"{c_type(result)}{name}".replace(" ", "\0") + f"({after}{words or 'void'})"
+    line = " ".join([line, *attributes(name, parameters)]) + ";"
     if any(len(part) > 100 for part in textwrap.wrap(line, 100)):
         raise SystemExit(f"interface.py: {name} has too long a name for a line")
     return textwrap.fill(line, 100, subsequent_indent="    ").replace("\0", " ")
@@ -130,7 +153,8 @@ def reasons():
     body = re.search(r"fn words_numbered.*?\n\}", source("library"), re.S)[0]
     words = {int(number): said for number, said in re.findall(r'^ +(\d+) =>\s*b("[^"]*")', body, re.M)}
     named = re.search(r"enum Reason \{(.*?)\n\}", source("reason"), re.S)[1]
-    return [(int(number), name, words[int(number)]) for name, number in re.findall(r"(\w+) = (\d+)", named)]
+    found = re.findall(r"(\w+) = (\d+)", named)
+    return [(int(number), name, words[int(number)]) for name, number in found if name not in NEVER]
 
 
 def upper(name):
@@ -188,9 +212,9 @@ def kinds_of_header():
     lines = []
     for number, name, choices in kinds():
         shown = [CHOICES[choice] for choice in choices if choice in CHOICES]
-        lines += [comment(said[name], shown), f"    MOVALIREN_{upper(short(name))} = {number},"]
-    lines += [comment("the byte in the field `byte`"), "    MOVALIREN_BYTE = 254,"]
-    lines += [comment("len bytes of the texts, from start on"), "    MOVALIREN_TEXT = 255"]
+        lines += [comment(said[name], shown), f"    MOVALIREN_KIND_{upper(short(name))} = {number},"]
+    lines += [comment("the byte in the field `byte`"), "    MOVALIREN_KIND_BYTE = 254,"]
+    lines += [comment("len bytes of the texts, from start on"), "    MOVALIREN_KIND_TEXT = 255"]
     return "enum movaliren_kind {\n" + "\n".join(lines) + "\n};"
 
 
@@ -226,8 +250,8 @@ def faults():
 def faults_of_header():
     lines = []
     for number, name, said in faults():
-        lines += [comment(said), f"    MOVALIREN_FAULT_{upper(name)} = {number},"]
-    return "enum movaliren_fault_reason {\n" + "\n".join(lines).removesuffix(",") + "\n};"
+        lines += [comment(said), f"    MOVALIREN_PARSE_ERROR_{upper(name)} = {number},"]
+    return "enum movaliren_parse_error_kind {\n" + "\n".join(lines).removesuffix(",") + "\n};"
 
 
 def faults_of_rust():
@@ -261,6 +285,7 @@ def library(declared):
     lines += ["/// The words of a reason, or a number that this crate does not know."]
     lines += ["pub(crate) fn words_of(error: Error) -> Result<&'static str, isize> {", "    Ok(match error {"]
     lines += [f"        Error::{name} => {said}," for _, name, said in reasons()]
+    lines += ['        Error::OutOfMemory => "out of memory",']
     lines += ["        Error::Unknown(number) => return Err(number),", "    })", "}"]
     lines += ["", "pub(crate) fn fault_reason_of(number: u8) -> Option<FaultReason> {", "    Some(match number {"]
     lines += [f"        {number} => FaultReason::{name}," for number, name, _ in faults()]
@@ -285,13 +310,13 @@ def written():
     header, declared = with_prototypes(HEADER.read_text())
     header = replaced(header, ERRORS, error_enum())
     header = replaced(header, CASES, error_cases())
-    header = replaced(header, KINDS, kinds_of_header())
-    header = replaced(header, FAULTS_OF_C, faults_of_header())
+    of_items = replaced(HEADER_OF_ITEMS.read_text(), KINDS, kinds_of_header())
+    of_items = replaced(of_items, FAULTS_OF_C, faults_of_header())
     of_cpp = replaced(HEADER_OF_CPP.read_text(), ERRORS_OF_CPP, errors_of_cpp())
     description = replaced((RUST / "description.rs").read_text(), KINDS_OF_RUST, kinds_of_rust())
     parse = replaced((RUST / "parse.rs").read_text(), FAULTS_OF_RUST, faults_of_rust())
     return {
-        HEADER: header, HEADER_OF_CPP: of_cpp, RUST / "description.rs": description, RUST / "parse.rs": parse,
+        HEADER: header, HEADER_OF_ITEMS: of_items, HEADER_OF_CPP: of_cpp, RUST / "description.rs": description, RUST / "parse.rs": parse,
         RUST / "library.rs": library(declared),
     }
 

@@ -1,5 +1,5 @@
 #!/usr/bin/env python3
-"""Compares what the header and the Rust crate have by hand with the Rattle crate: `interface.py` writes the rest.
+"""Compares what the headers and the Rust crate have by hand with the Rattle crate: `interface.py` writes the rest.
 
 Numbers of choices, and the usual ones; the greatest lengths of texts; fields of structs, in order, with their types; the words of
 a number that is no reason; what could have come in a text; and the version. Also whether the header declares each name that it, the C
@@ -25,6 +25,8 @@ HERE = pathlib.Path(__file__).resolve().parent
 TOP = HERE.parent
 CRATE = TOP / "crates/movaliren_c"
 HEADER = HERE / "c/movaliren.h"
+HEADER_OF_ITEMS = HERE / "c/movaliren_items.h"
+HEADER_OF_LINES = HERE / "c/movaliren_lines.h"
 RUST = HERE / "rust/src"
 CARGO = HERE / "rust/Cargo.toml"
 COUNTED = HERE / "c/clock.cpp"
@@ -42,29 +44,35 @@ COMMENTS = {
 # The enums of a configuration and of an item: in the header, in the Rust crate, and the Rattle function that reads
 # their numbers. The header has no enum for the last two.
 CHOICES = [
-    ("components", "Parts", "components_at"),
-    ("date_kind", "DateKind", "date_kind_at"),
-    ("precision", "TimePrecision", "precision_at"),
-    ("precision", "OffsetPrecision", "offset_precision_at"),
+    ("iso8601_parts", "Parts", "components_at"),
+    ("iso8601_date", "DateKind", "date_kind_at"),
+    ("iso8601_to", "TimePrecision", "precision_at"),
+    ("iso8601_to", "OffsetPrecision", "offset_precision_at"),
     ("padding", "Padding", "padding_at"),
     (None, "DecimalSign", "sign_at"),
     (None, "SubsecondDigits", "digits_at"),
 ]
+# What the constants of these enums begin with, where that is not the name of the enum.
+PREFIXES = {"iso8601_date": "ISO8601_BY", "padding": "PAD"}
 OF_C = {of_c: kind for kind, of_c in interface.C_TYPES.items()}
 # What makes no text of a moment, and lengths but for one.
 NOT_COUNTED = {
-    "version", "error_words", "fault_words", "format_length", "format_local_length", "format_date_length",
+    "version", "strerror_r", "parse_strerror_r", "items_format_length", "items_format_local_length",
+    "items_format_date_length",
 }
 # What Rust calls by a description that it has read before.
-OF_C_ALONE = {"brackets_utc", "brackets_local", "strftime_utc", "strftime_local"}
+OF_C_ALONE = {"format_brackets_utc", "format_brackets_local", "format_strftime_utc", "format_strftime_local"}
 # Crates, a variable of the environment, and the mark of the header.
-NOT_IN_HEADER = {"movaliren_c", "movaliren_cli", "movaliren_time", "MOVALIREN_LIB", "MOVALIREN_H"}
+NOT_IN_HEADER = {
+    "movaliren_c", "movaliren_cli", "movaliren_time", "movaliren_items", "MOVALIREN_LIB", "MOVALIREN_H",
+    "MOVALIREN_ITEMS_H", "MOVALIREN_LINES_H", "movaliren_put",
+}
 
 
 def read():
     """The texts that are compared, by their paths."""
     paths = [
-        HEADER, CARGO, PARTS, HERE / "c/expect.h", *HERE.glob("c/*.c"), *HERE.glob("c/*.cpp"), *RUST.glob("*.rs"),
+        HEADER, HEADER_OF_ITEMS, HEADER_OF_LINES, CARGO, PARTS, HERE / "c/expect.h", *HERE.glob("c/*.c"), *HERE.glob("c/*.cpp"), *RUST.glob("*.rs"),
         *SPEED.glob("*.rs"),
         *CRATE.glob("src/**/*.rt"), TOP / "README.md", *TOP.glob("docs/*.md"),
     ]
@@ -128,7 +136,8 @@ class Interfaces:
                 of[path.suffix].append(code(text, path.suffix) if path.suffix in (".rt", ".rs") else text)
         self.rattle, self.rust = of[".rt"], of[".rs"]
         self.users = of[".h"] + of[".c"] + of[".cpp"] + of[".md"]
-        self.c, self.cargo, self.counted = (code(texts[path], path.suffix) for path in (HEADER, CARGO, COUNTED))
+        self.c = "\n".join(code(texts[path], ".h") for path in (HEADER, HEADER_OF_ITEMS, HEADER_OF_LINES))
+        self.cargo, self.counted = (code(texts[path], path.suffix) for path in (CARGO, COUNTED))
         self.speed = code("\n".join(texts[path] for path in sorted(texts) if path.parent == SPEED), ".rs")
         self.parts = code(texts[PARTS], ".rt")
         self.methods = [texts[path] for path in METHODS]
@@ -141,7 +150,7 @@ class Interfaces:
 
     def words(self):
         """Those of a number that is no reason."""
-        header = sum(findall(r'reason < 0 \? ("[^"]*") : ("[^"]*")', self.c), ())
+        header = sum(findall(r'error < 0 \? ("[^"]*") : ("[^"]*")', self.c), ())
         rattle = findall(r'fn words_numbered.*?_ =>\s*b("[^"]*")', *self.rattle) + findall(r'b("no error")', *self.rattle)
         self.same("the words of another number", list(header), rattle)
         self.same("the words in Rust", header[:1], tuple(findall(r'&number, &mut room\)\.unwrap_or\(("[^"]*")\)', *self.rust)))
@@ -152,9 +161,10 @@ class Interfaces:
             self.same(f"the greatest length of {name} at an offset", rust.pop(f"{name}local", None), rust.get(name))
         rattle = numbers(r"impl Format for (\w+) \{.*?const WIDTH: usize = (\d+);", *self.rattle)
         self.same("the greatest length of a text", rattle, rust)
-        rust["iso8601by"] = sum(map(int, findall(r"MAX_WIDTH: usize = (\d+)", *self.rust)))
-        self.same("the greatest length by a configuration", [str(rust["iso8601by"])], findall(r"const MOST_BYTES: usize = (\d+)", *self.rattle))
-        self.same("the length of a buffer", numbers(r"MOVALIREN_(\w+)_ROOM = (\d+)", self.c), rust)
+        rust["iso8601with"] = sum(map(int, findall(r"MAX_WIDTH: usize = (\d+)", *self.rust)))
+        self.same("the greatest length by a configuration", [str(rust["iso8601with"])], findall(r"const MOST_BYTES: usize = (\d+)", *self.rattle))
+        header = {name: size - 1 for name, size in numbers(r"MOVALIREN_(\w+)_SIZE = (\d+)", self.c).items()}
+        self.same("the length of a buffer, less its zero", header, rust)
         self.same("the array of a stamp", [rust.get("stamp")], [int(n) for n in findall(r"\[u8; (\d+)\]", *self.rust)])
 
     def version(self):
@@ -173,7 +183,8 @@ class Interfaces:
         )
 
     def header_numbers(self, enum):
-        found = numbers(r"MOVALIREN_(?:ISO_)?(\w+) = (\d+)", braces(f"enum movaliren_{enum}", self.c))
+        prefix = PREFIXES.get(enum, enum.upper())
+        found = numbers(rf"MOVALIREN_{prefix}_(\w+) = (\d+)", braces(f"enum movaliren_{enum}", self.c))
         if not found:
             raise LookupError(f"enum movaliren_{enum} has no numbers")
         return found
@@ -192,13 +203,13 @@ class Interfaces:
         unlike = [name for name, choices in constants.items()
                   for choice in choices if choice[0] in ("padding", "digits") and choice not in others]
         self.same("the usual choices that no flag has", [], unlike)
-        kinds = numbers(r"MOVALIREN_(\w+) = (\d+)", braces("enum movaliren_kind", self.c))
+        kinds = self.header_numbers("kind")
         header = only(r"flag = (kind == .*?);", self.c)
         rust = only(r"fn usual_flag.*?\n    \}", *self.rust)
         self.same(
             "the kinds whose usual choices have the flag",
             sorted(numbers_of[name] for name, choices in constants.items() if choices & flags and name in numbers_of),
-            sorted(kinds[words(kind)] for kind in findall(r"kind == MOVALIREN_(\w+)", header)),
+            sorted(kinds[words(kind)] for kind in findall(r"kind == MOVALIREN_KIND_(\w+)", header)),
             sorted(kinds[words(kind)] for kind in findall(r"Kind::(\w+)", rust)),
         )
 
@@ -208,7 +219,7 @@ class Interfaces:
             body = only(rf"^fn {reader}\(.*?\n\}}", *self.rattle)
             rattle = {words(choice): int(number) for number, choice in findall(r"(\d+) => Ok\(\w+::(\w+)", body)}
             if name == "Padding":
-                rattle["nopadding"] = rattle.pop("none", None)
+                rust["none"] = rust.pop("nopadding", None)
             header = self.header_numbers(enum) if enum else rattle
             if name == "OffsetPrecision":
                 header = {choice: number for choice, number in header.items() if choice in rust}
@@ -222,7 +233,7 @@ class Interfaces:
 
     def structs(self):
         for name, fields in interface.structs(*self.rattle).items():
-            header = fields_of(r"(\w+) (\w+)(?:\[(\d+)\])?;", f"struct movaliren_{interface.snake(name).lower()}", self.c)
+            header = fields_of(r"(\w+) (\w+)(?:\[(\d+)\])?;", f"struct movaliren_{interface.struct_name(name)}", self.c)
             in_rust = lambda kind, many: f"[{OF_C.get(kind)}; {many}]" if many else OF_C.get(kind)
             self.same(f"struct {name}", fields, [(field, in_rust(kind, many)) for kind, field, many in header])
             if name in interface.OF_RUST:
@@ -232,14 +243,21 @@ class Interfaces:
     def uses(self):
         declared = findall(
             r"#define (MOVALIREN_\w+)|\b(MOVALIREN_\w+) = -?\d|^(?:enum|struct) (movaliren_\w+) \{"
-            r"|^(?:MOVALIREN_INLINE )?(?:const )?(?:struct )?\w+ \*?(movaliren_\w+)\(", self.c)
-        used = set(findall(r"\b(?:MOVALIREN|movaliren)_\w*[A-Za-z0-9]\b", *self.users))
+            r"|^(?:MOVALIREN_INLINE_ )?(?:MOVALIREN_(?:CHECKED_|NONNULL_\(\d\)) )*(?:(?:const )?(?:struct )?\w+ \*?\s*)?"
+            r"(movaliren_\w+)\(", self.c)
+        used = set(findall(r"\b(?:MOVALIREN|movaliren)_(?!\d)\w*[A-Za-z0-9]\b", *self.users))
         self.same("what is not in the header", set(), used - {"".join(names) for names in declared} - NOT_IN_HEADER)
+
+    def borders(self):
+        """Where literals and parse errors without a percent sign begin: movaliren.h has these numbers without their names."""
+        kinds, faults = self.header_numbers("kind"), numbers(r"MOVALIREN_PARSE_ERROR_(\w+) = (\d+)", self.c)
+        border = lambda name: [int(only(rf"MOVALIREN_FIRST_{name}_ = (\d+)", self.c))]
+        self.same("the first literal", border("LITERAL"), [kinds["byte"]])
+        self.same("the first parse error without a percent sign", border("WITHOUT_PERCENT"), [faults["secondflag"]])
 
     def places(self):
         """What could have come in a text, by its number; and the words of a place."""
         header = self.header_numbers("expected")
-        header = {name.removeprefix("expected"): number for name, number in header.items()}
         rust = {words(name): int(number) for number, name in findall(r"(\d+|_) => Expected::(\w+)", *self.rust) if number != "_"}
         rust[words(only(r"_ => Expected::(\w+)", *self.rust))] = len(header)
         # What has the number 0 stands in no text that C reads.
@@ -272,7 +290,8 @@ class Interfaces:
         self.same("what bindings/counts does not count from C", set(), functions - set(map(self.function, names)))
         methods = findall(r"^    fn (\w+)", *self.methods)
         rust = {row.partition("/")[0] for row in self.rust_rows()}
-        calls = {f"{name}:{method}" for name in functions for method in [*methods, name]}
+        # `stamp` takes a moment in UTC alone, as its type says.
+        calls = {f"{name}:{method}" for name in functions for method in [*methods, name, name.removesuffix("_utc")]}
         self.same("a row of Rust alone", set(), rust - names - calls)
         self.same("what bindings/counts does not count from Rust", set(), functions - OF_C_ALONE - set(map(self.function, rust)))
         self.same("a method that is not counted", set(), set(methods) - set(findall(r"\.(\w+)\(", self.speed)))
@@ -291,7 +310,7 @@ class Interfaces:
         """All differences, or those of the first check that has one."""
         checks = (
             self.uses, self.structs, self.usual_flags, self.choices, self.words, self.lengths, self.version,
-            self.places, self.tests, self.counts,
+            self.borders, self.places, self.tests, self.counts,
         )
         for check in checks:
             try:

@@ -7,7 +7,7 @@
 #include <ctime>
 #include <fmt/chrono.h>
 #include <fmt/compile.h>
-#include <movaliren.h>
+#include <movaliren_items.h>
 
 enum { VALUES = 1000, LINE = 64, EAST = 3600 };
 
@@ -16,38 +16,38 @@ static movaliren_moment values[VALUES];
 static char room[VALUES * LINE];
 
 // Each in the order of the fields of a configuration.
-static const movaliren_iso_config milliseconds = MOVALIREN_ISO_DECIMALS(3);
-static const movaliren_iso_config microseconds = MOVALIREN_ISO_DECIMALS(6);
-static const movaliren_iso_config nanoseconds = MOVALIREN_ISO_DEFAULT;
-static const movaliren_iso_config seconds = MOVALIREN_ISO_DECIMALS(0);
-static const movaliren_iso_config with_comma = { 5, 0, 2, 3, 1, 1, 0, 1 };
-static const movaliren_iso_config without_separators = { 5, 0, 2, 3, 1, 0, 0, 0 };
-static const movaliren_iso_config six_digit_year = { 5, 0, 2, 3, 1, 1, 1, 0 };
-static const movaliren_iso_config date = { 1, 0, 2, 3, 1, 1, 0, 0 };
-static const movaliren_iso_config week_date = { 1, 1, 2, 3, 1, 1, 0, 0 };
-static const movaliren_iso_config ordinal_date = { 1, 2, 2, 3, 1, 1, 0, 0 };
-static const movaliren_iso_config time_of_day = { 2, 0, 2, 3, 1, 1, 0, 0 };
-static const movaliren_iso_config parts_of_minute = { 2, 0, 1, 3, 1, 1, 0, 0 };
-static const movaliren_iso_config parts_of_hour = { 2, 0, 0, 3, 1, 1, 0, 0 };
-static const movaliren_iso_config date_and_time = { 4, 0, 2, 3, 1, 1, 0, 0 };
-static const movaliren_iso_config time_and_offset = { 6, 0, 2, 3, 1, 1, 0, 0 };
-static const movaliren_iso_config offset_alone = { 3, 0, 2, 3, 1, 1, 0, 0 };
+static const movaliren_iso8601_config milliseconds = MOVALIREN_ISO8601_DECIMALS(3);
+static const movaliren_iso8601_config microseconds = MOVALIREN_ISO8601_DECIMALS(6);
+static const movaliren_iso8601_config nanoseconds = MOVALIREN_ISO8601_DEFAULT;
+static const movaliren_iso8601_config seconds = MOVALIREN_ISO8601_DECIMALS(0);
+static const movaliren_iso8601_config with_comma = { 5, 0, 2, 3, 1, 1, 0, 1 };
+static const movaliren_iso8601_config without_separators = { 5, 0, 2, 3, 1, 0, 0, 0 };
+static const movaliren_iso8601_config six_digit_year = { 5, 0, 2, 3, 1, 1, 1, 0 };
+static const movaliren_iso8601_config date = { 1, 0, 2, 3, 1, 1, 0, 0 };
+static const movaliren_iso8601_config week_date = { 1, 1, 2, 3, 1, 1, 0, 0 };
+static const movaliren_iso8601_config ordinal_date = { 1, 2, 2, 3, 1, 1, 0, 0 };
+static const movaliren_iso8601_config time_of_day = { 2, 0, 2, 3, 1, 1, 0, 0 };
+static const movaliren_iso8601_config parts_of_minute = { 2, 0, 1, 3, 1, 1, 0, 0 };
+static const movaliren_iso8601_config parts_of_hour = { 2, 0, 0, 3, 1, 1, 0, 0 };
+static const movaliren_iso8601_config date_and_time = { 4, 0, 2, 3, 1, 1, 0, 0 };
+static const movaliren_iso8601_config time_and_offset = { 6, 0, 2, 3, 1, 1, 0, 0 };
+static const movaliren_iso8601_config offset_alone = { 3, 0, 2, 3, 1, 1, 0, 0 };
 
 // Texts of RFC 3339 of the moments, what they are read into, and where one could not be read.
-static char read_texts[VALUES][MOVALIREN_RFC3339_ROOM];
+static char read_texts[VALUES][MOVALIREN_RFC3339_SIZE];
 static movaliren_moment read_moment;
 static movaliren_utc_moment read_utc;
-static movaliren_place read_place;
+static movaliren_read_error read_place;
 
-static movaliren_log kept;
+static movaliren_log_cache kept;
 static movaliren_item made[16];
-static movaliren_fault fault;
+static movaliren_parse_error fault;
 static const char brackets[] = "[year]-[month]-[day] [hour]:[minute]:[second]", conversions[] = "%Y-%m-%d %H:%M:%S";
 
 static movaliren_item items[11], names[7];
 static char texts[5], name_texts[8];
-static movaliren_description line = MOVALIREN_DESCRIPTION(items, texts);
-static movaliren_description day = MOVALIREN_DESCRIPTION(names, name_texts);
+static movaliren_description line = MOVALIREN_BUILDER_INIT(items, texts);
+static movaliren_description day = MOVALIREN_BUILDER_INIT(names, name_texts);
 
 static uint64_t next()
 {
@@ -61,14 +61,14 @@ static uint64_t next()
 // Eleven items, as 2026-11-22 09:55:06.
 static void build(movaliren_description &description)
 {
-    const uint32_t kinds[] = { MOVALIREN_YEAR, MOVALIREN_MONTH, MOVALIREN_DAY, MOVALIREN_HOUR,
-        MOVALIREN_MINUTE, MOVALIREN_SECOND };
+    const movaliren_kind kinds[] = { MOVALIREN_KIND_YEAR, MOVALIREN_KIND_MONTH, MOVALIREN_KIND_DAY, MOVALIREN_KIND_HOUR,
+        MOVALIREN_KIND_MINUTE, MOVALIREN_KIND_SECOND };
     const char *separators[] = { "-", "-", " ", ":", ":" };
     description.items_len = description.texts_len = 0;
     for (int i = 0; i < 6; i++) {
-        movaliren_add(&description, kinds[i], MOVALIREN_ZERO, 0, 0);
+        movaliren_description_add_with(&description, kinds[i], MOVALIREN_PAD_ZERO, 0, 0);
         if (i < 5)
-            movaliren_add_text(&description, separators[i]);
+            movaliren_description_add_text(&description, separators[i]);
     }
 }
 
@@ -78,17 +78,17 @@ static void fill()
         moment.seconds = int64_t(next() % 253402300800u);
         moment.nanosecond = uint32_t(next() % 100000000 * 10 + 1 + next() % 9);
         movaliren_rfc3339_utc(
-            moment.seconds, moment.nanosecond, read_texts[&moment - moments], MOVALIREN_RFC3339_ROOM);
+            moment.seconds, moment.nanosecond, read_texts[&moment - moments], MOVALIREN_RFC3339_SIZE);
     }
     build(line);
     // Sunday, 22 November 2026
-    movaliren_add(&day, MOVALIREN_WEEKDAY_LONG, MOVALIREN_ZERO, 0, 0);
-    movaliren_add_text(&day, ", ");
-    movaliren_add(&day, MOVALIREN_DAY, MOVALIREN_ZERO, 0, 0);
-    movaliren_add_text(&day, " ");
-    movaliren_add(&day, MOVALIREN_MONTH_LONG, MOVALIREN_ZERO, 0, 0);
-    movaliren_add_text(&day, " ");
-    movaliren_add(&day, MOVALIREN_YEAR, MOVALIREN_ZERO, 0, 0);
+    movaliren_description_add_with(&day, MOVALIREN_KIND_WEEKDAY_LONG, MOVALIREN_PAD_ZERO, 0, 0);
+    movaliren_description_add_text(&day, ", ");
+    movaliren_description_add_with(&day, MOVALIREN_KIND_DAY, MOVALIREN_PAD_ZERO, 0, 0);
+    movaliren_description_add_text(&day, " ");
+    movaliren_description_add_with(&day, MOVALIREN_KIND_MONTH_LONG, MOVALIREN_PAD_ZERO, 0, 0);
+    movaliren_description_add_text(&day, " ");
+    movaliren_description_add_with(&day, MOVALIREN_KIND_YEAR, MOVALIREN_PAD_ZERO, 0, 0);
 }
 
 // The number of the items, of which each second one is a literal.
@@ -96,10 +96,10 @@ static size_t build_long(size_t count)
 {
     static movaliren_item long_items[16000];
     static char long_texts[16000];
-    movaliren_description description = MOVALIREN_DESCRIPTION(long_items, long_texts);
+    movaliren_description description = MOVALIREN_BUILDER_INIT(long_items, long_texts);
     while (description.items_len < count) {
-        movaliren_add(&description, MOVALIREN_DAY, MOVALIREN_ZERO, 0, 0);
-        movaliren_add_text(&description, ", ");
+        movaliren_description_add_with(&description, MOVALIREN_KIND_DAY, MOVALIREN_PAD_ZERO, 0, 0);
+        movaliren_description_add_text(&description, ", ");
     }
     return description.items_len;
 }
@@ -189,13 +189,13 @@ typedef movaliren_progress many();
 #define ALL_UTC moments, VALUES
 #define ALL_PARTS all_values(), VALUES
 // A buffer of the bytes that the header names for a format, or by a configuration or a description a line.
-#define ROOM(format) room, MOVALIREN_##format##_ROOM
+#define ROOM(format) room, MOVALIREN_##format##_SIZE
 #define OUT room, LINE
-#define ALL_ROOM(format) '\n', room, VALUES * (MOVALIREN_##format##_ROOM + 1)
+#define ALL_ROOM(format) '\n', room, VALUES * MOVALIREN_##format##_SIZE
 #define ALL_OUT '\n', room, sizeof room
 
 // The text of a moment in UTC with nine decimals.
-#define READ_TEXT read_texts[&moment - moments], MOVALIREN_STAMP_ROOM
+#define READ_TEXT read_texts[&moment - moments], MOVALIREN_STAMP_SIZE - 1
 
 // By the parts that gmtime_r gives.
 #define BY_PARTS(call)                                                                                                 \
@@ -262,9 +262,9 @@ static const struct {
     { "rfc2822_local_batch", 0, MANY(movaliren_rfc2822_local_batch(ALL_UTC, EAST, ALL_ROOM(RFC2822))) },
     { "rfc2822_batch", 0, MANY(movaliren_rfc2822_batch(ALL_PARTS, ALL_ROOM(RFC2822))) },
 
-    { "stamp", ONE(movaliren_stamp(NOW, ROOM(STAMP))), 0 },
-    NINE("stamp", 0, "Z"),
-    { "stamp_batch", 0, MANY(movaliren_stamp_batch(ALL_UTC, ALL_ROOM(STAMP))) },
+    { "stamp_utc", ONE(movaliren_stamp_utc(NOW, ROOM(STAMP))), 0 },
+    NINE("stamp_utc", 0, "Z"),
+    { "stamp_utc_batch", 0, MANY(movaliren_stamp_utc_batch(ALL_UTC, ALL_ROOM(STAMP))) },
     { "iso8601_utc", ONE(movaliren_iso8601_utc(NOW, ROOM(ISO8601))), 0 },
     NINE("iso8601_utc", 0, "Z"),
     { "iso8601_local", ONE(movaliren_iso8601_local(NOW, EAST, ROOM(ISO8601))), 0 },
@@ -274,87 +274,87 @@ static const struct {
     { "iso8601_utc_batch", 0, MANY(movaliren_iso8601_utc_batch(ALL_UTC, ALL_ROOM(ISO8601))) },
     { "iso8601_batch", 0, MANY(movaliren_iso8601_batch(ALL_PARTS, ALL_ROOM(ISO8601))) },
 
-    { "iso8601_by_utc:three-decimals", ONE(movaliren_iso8601_by_utc(&milliseconds, NOW, OUT)), 0 },
-    THREE("iso8601_by_utc:three-decimals"),
-    { "iso8601_by_utc:six-decimals", ONE(movaliren_iso8601_by_utc(&microseconds, NOW, OUT)), 0 },
-    DATE_AND_DECIMALS("iso8601_by_utc:six-decimals", 0, BOTH, PRINTED, ".", "06", 1000, "Z"),
-    { "iso8601_by_utc:nine-decimals", ONE(movaliren_iso8601_by_utc(&nanoseconds, NOW, OUT)), 0 },
-    NINE("iso8601_by_utc:nine-decimals", 0, "Z"),
-    { "iso8601_by_utc:no-decimals", ONE(movaliren_iso8601_by_utc(&seconds, NOW, OUT)), 0 },
-    NO_DECIMALS("iso8601_by_utc:no-decimals", 0, BOTH "Z"),
-    { "iso8601_by_utc:no-decimals/snprintf", ONE(by_snprintf(moment, 0, PRINTED "Z", 1)), 0 },
-    { "iso8601_by_utc:comma", ONE(movaliren_iso8601_by_utc(&with_comma, NOW, OUT)), 0 },
-    DATE_AND_DECIMALS("iso8601_by_utc:comma", 0, BOTH, PRINTED, ",", "03", 1000000, "Z"),
-    { "iso8601_by_utc:no-separators", ONE(movaliren_iso8601_by_utc(&without_separators, NOW, OUT)), 0 },
-    DATE_AND_DECIMALS("iso8601_by_utc:no-separators", 0, "%Y%m%dT%H%M%S", "%d%02d%02dT%02d%02d%02d", ".", "03",
+    { "iso8601_with_utc:three-decimals", ONE(movaliren_iso8601_with_utc(&milliseconds, NOW, OUT)), 0 },
+    THREE("iso8601_with_utc:three-decimals"),
+    { "iso8601_with_utc:six-decimals", ONE(movaliren_iso8601_with_utc(&microseconds, NOW, OUT)), 0 },
+    DATE_AND_DECIMALS("iso8601_with_utc:six-decimals", 0, BOTH, PRINTED, ".", "06", 1000, "Z"),
+    { "iso8601_with_utc:nine-decimals", ONE(movaliren_iso8601_with_utc(&nanoseconds, NOW, OUT)), 0 },
+    NINE("iso8601_with_utc:nine-decimals", 0, "Z"),
+    { "iso8601_with_utc:no-decimals", ONE(movaliren_iso8601_with_utc(&seconds, NOW, OUT)), 0 },
+    NO_DECIMALS("iso8601_with_utc:no-decimals", 0, BOTH "Z"),
+    { "iso8601_with_utc:no-decimals/snprintf", ONE(by_snprintf(moment, 0, PRINTED "Z", 1)), 0 },
+    { "iso8601_with_utc:comma", ONE(movaliren_iso8601_with_utc(&with_comma, NOW, OUT)), 0 },
+    DATE_AND_DECIMALS("iso8601_with_utc:comma", 0, BOTH, PRINTED, ",", "03", 1000000, "Z"),
+    { "iso8601_with_utc:no-separators", ONE(movaliren_iso8601_with_utc(&without_separators, NOW, OUT)), 0 },
+    DATE_AND_DECIMALS("iso8601_with_utc:no-separators", 0, "%Y%m%dT%H%M%S", "%d%02d%02dT%02d%02d%02d", ".", "03",
         1000000, "Z"),
-    { "iso8601_by_utc:six-digit-year", ONE(movaliren_iso8601_by_utc(&six_digit_year, NOW, OUT)), 0 },
-    DATE_AND_DECIMALS("iso8601_by_utc:six-digit-year", 0, "+00" BOTH, "+00" PRINTED, ".", "03", 1000000, "Z"),
-    { "iso8601_by_utc:date", ONE(movaliren_iso8601_by_utc(&date, NOW, OUT)), 0 },
-    NO_DECIMALS("iso8601_by_utc:date", 0, DATE),
-    { "iso8601_by_utc:date/snprintf", ONE(by_snprintf(moment, 0, "%d-%02d-%02d", 1)), 0 },
-    { "iso8601_by_utc:week-date", ONE(movaliren_iso8601_by_utc(&week_date, NOW, OUT)), 0 },
-    NO_DECIMALS("iso8601_by_utc:week-date", 0, "%G-W%V-%u"),
-    { "iso8601_by_utc:day-of-year", ONE(movaliren_iso8601_by_utc(&ordinal_date, NOW, OUT)), 0 },
-    NO_DECIMALS("iso8601_by_utc:day-of-year", 0, "%Y-%j"),
-    { "iso8601_by_utc:time", ONE(movaliren_iso8601_by_utc(&time_of_day, NOW, OUT)), 0 },
-    DECIMALS("iso8601_by_utc:time", 0, CLOCK, ".", "03", 1000000, ""),
-    { "iso8601_by_utc:time/snprintf", ONE(time_by_snprintf(moment, PRINTED_CLOCK ".%03u")), 0 },
-    { "iso8601_by_utc:minutes", ONE(movaliren_iso8601_by_utc(&parts_of_minute, NOW, OUT)), 0 },
-    { "iso8601_by_utc:hours", ONE(movaliren_iso8601_by_utc(&parts_of_hour, NOW, OUT)), 0 },
-    { "iso8601_by_utc:date-time", ONE(movaliren_iso8601_by_utc(&date_and_time, NOW, OUT)), 0 },
-    DATE_AND_DECIMALS("iso8601_by_utc:date-time", 0, BOTH, PRINTED, ".", "03", 1000000, ""),
-    { "iso8601_by_utc:time-offset", ONE(movaliren_iso8601_by_utc(&time_and_offset, NOW, OUT)), 0 },
-    DECIMALS("iso8601_by_utc:time-offset", 0, CLOCK, ".", "03", 1000000, "Z"),
-    { "iso8601_by_utc:time-offset/snprintf", ONE(time_by_snprintf(moment, PRINTED_CLOCK ".%03uZ")), 0 },
-    { "iso8601_by_utc:offset", ONE(movaliren_iso8601_by_utc(&offset_alone, NOW, OUT)), 0 },
-    { "iso8601_by_local:three-decimals", ONE(movaliren_iso8601_by_local(&milliseconds, NOW, EAST, OUT)), 0 },
-    DATE_AND_DECIMALS("iso8601_by_local:three-decimals", EAST, BOTH, PRINTED, ".", "03", 1000000, "+01:00"),
+    { "iso8601_with_utc:six-digit-year", ONE(movaliren_iso8601_with_utc(&six_digit_year, NOW, OUT)), 0 },
+    DATE_AND_DECIMALS("iso8601_with_utc:six-digit-year", 0, "+00" BOTH, "+00" PRINTED, ".", "03", 1000000, "Z"),
+    { "iso8601_with_utc:date", ONE(movaliren_iso8601_with_utc(&date, NOW, OUT)), 0 },
+    NO_DECIMALS("iso8601_with_utc:date", 0, DATE),
+    { "iso8601_with_utc:date/snprintf", ONE(by_snprintf(moment, 0, "%d-%02d-%02d", 1)), 0 },
+    { "iso8601_with_utc:week-date", ONE(movaliren_iso8601_with_utc(&week_date, NOW, OUT)), 0 },
+    NO_DECIMALS("iso8601_with_utc:week-date", 0, "%G-W%V-%u"),
+    { "iso8601_with_utc:day-of-year", ONE(movaliren_iso8601_with_utc(&ordinal_date, NOW, OUT)), 0 },
+    NO_DECIMALS("iso8601_with_utc:day-of-year", 0, "%Y-%j"),
+    { "iso8601_with_utc:time", ONE(movaliren_iso8601_with_utc(&time_of_day, NOW, OUT)), 0 },
+    DECIMALS("iso8601_with_utc:time", 0, CLOCK, ".", "03", 1000000, ""),
+    { "iso8601_with_utc:time/snprintf", ONE(time_by_snprintf(moment, PRINTED_CLOCK ".%03u")), 0 },
+    { "iso8601_with_utc:minutes", ONE(movaliren_iso8601_with_utc(&parts_of_minute, NOW, OUT)), 0 },
+    { "iso8601_with_utc:hours", ONE(movaliren_iso8601_with_utc(&parts_of_hour, NOW, OUT)), 0 },
+    { "iso8601_with_utc:date-time", ONE(movaliren_iso8601_with_utc(&date_and_time, NOW, OUT)), 0 },
+    DATE_AND_DECIMALS("iso8601_with_utc:date-time", 0, BOTH, PRINTED, ".", "03", 1000000, ""),
+    { "iso8601_with_utc:time-offset", ONE(movaliren_iso8601_with_utc(&time_and_offset, NOW, OUT)), 0 },
+    DECIMALS("iso8601_with_utc:time-offset", 0, CLOCK, ".", "03", 1000000, "Z"),
+    { "iso8601_with_utc:time-offset/snprintf", ONE(time_by_snprintf(moment, PRINTED_CLOCK ".%03uZ")), 0 },
+    { "iso8601_with_utc:offset", ONE(movaliren_iso8601_with_utc(&offset_alone, NOW, OUT)), 0 },
+    { "iso8601_with_local:three-decimals", ONE(movaliren_iso8601_with_local(&milliseconds, NOW, EAST, OUT)), 0 },
+    DATE_AND_DECIMALS("iso8601_with_local:three-decimals", EAST, BOTH, PRINTED, ".", "03", 1000000, "+01:00"),
     { "log_time:each-second", ONE(movaliren_log_time(&kept, 3, NOW, 0, OUT)), 0 },
     THREE("log_time:each-second"),
     { "log_time:three-decimals", ONE(movaliren_log_time(&kept, 3, SECOND, 0, OUT)), 0 },
     { "log_time:six-decimals", ONE(movaliren_log_time(&kept, 6, SECOND, 0, OUT)), 0 },
     { "log_time:nine-decimals", ONE(movaliren_log_time(&kept, 9, SECOND, EAST, OUT)), 0 },
-    { "iso8601_by:three-decimals", BY_PARTS(movaliren_iso8601_by(&milliseconds, &value, OUT)), 0 },
-    THREE("iso8601_by:three-decimals"),
-    { "iso8601_by_utc_batch:three-decimals", 0,
-        MANY(movaliren_iso8601_by_utc_batch(&milliseconds, ALL_UTC, ALL_OUT)) },
-    { "iso8601_by_batch:three-decimals", 0, MANY(movaliren_iso8601_by_batch(&milliseconds, ALL_PARTS, ALL_OUT)) },
+    { "iso8601_with:three-decimals", BY_PARTS(movaliren_iso8601_with(&milliseconds, &value, OUT)), 0 },
+    THREE("iso8601_with:three-decimals"),
+    { "iso8601_with_utc_batch:three-decimals", 0,
+        MANY(movaliren_iso8601_with_utc_batch(&milliseconds, ALL_UTC, ALL_OUT)) },
+    { "iso8601_with_batch:three-decimals", 0, MANY(movaliren_iso8601_with_batch(&milliseconds, ALL_PARTS, ALL_OUT)) },
 
-    { "format_utc:11-items", ONE(movaliren_format_utc(items, 11, texts, 5, NOW, OUT)), 0 },
-    NO_DECIMALS("format_utc:11-items", 0, DATE " " CLOCK),
-    { "format_utc:11-items/snprintf", ONE(by_snprintf(moment, 0, "%d-%02d-%02d " PRINTED_CLOCK, 1)), 0 },
-    { "format_local:11-items", ONE(movaliren_format_local(items, 11, texts, 5, NOW, EAST, OUT)), 0 },
-    NO_DECIMALS("format_local:11-items", EAST, DATE " " CLOCK),
-    { "format_local:11-items/snprintf", ONE(by_snprintf(moment, EAST, "%d-%02d-%02d " PRINTED_CLOCK, 1)), 0 },
-    { "format:11-items", BY_PARTS(movaliren_format(items, 11, texts, 5, &value, OUT)), 0 },
-    NO_DECIMALS("format:11-items", 0, DATE " " CLOCK),
-    { "format:11-items/snprintf", ONE(by_snprintf(moment, 0, "%d-%02d-%02d " PRINTED_CLOCK, 1)), 0 },
-    { "format_date:5-items",
-        BY_PARTS(movaliren_format_date(items, 5, texts, 5, value.year, value.month, value.day, OUT)), 0 },
-    NO_DECIMALS("format_date:5-items", 0, DATE),
-    { "format_date:5-items/snprintf", ONE(by_snprintf(moment, 0, "%d-%02d-%02d", 1)), 0 },
-    { "format_utc:names", ONE(movaliren_format_utc(names, 7, name_texts, 4, NOW, OUT)), 0 },
-    NO_DECIMALS("format_utc:names", 0, "%A, %d %B %Y"),
-    { "format_utc:names/snprintf", ONE(names_by_snprintf(moment)), 0 },
-    { "format:names", BY_PARTS(movaliren_format(names, 7, name_texts, 4, &value, OUT)), 0 },
-    NO_DECIMALS("format:names", 0, "%A, %d %B %Y"),
-    { "format:names/snprintf", ONE(names_by_snprintf(moment)), 0 },
-    { "format_date:names",
-        BY_PARTS(movaliren_format_date(names, 7, name_texts, 4, value.year, value.month, value.day, OUT)), 0 },
-    NO_DECIMALS("format_date:names", 0, "%A, %d %B %Y"),
-    { "format_date:names/snprintf", ONE(names_by_snprintf(moment)), 0 },
-    { "describe:11-items", ONE(movaliren_describe(brackets, sizeof brackets - 1, made, 16, &fault)), 0 },
-    { "brackets_utc:11-items", ONE(movaliren_brackets_utc(brackets, sizeof brackets - 1, NOW, OUT)), 0 },
-    { "brackets_local:11-items", ONE(movaliren_brackets_local(brackets, sizeof brackets - 1, NOW, EAST, OUT)), 0 },
-    { "describe_strftime:11-items", ONE(movaliren_describe_strftime(conversions, sizeof conversions - 1, made, 16, &fault)), 0 },
-    { "strftime_utc:11-items", ONE(movaliren_strftime_utc(conversions, sizeof conversions - 1, NOW, OUT)), 0 },
-    NO_DECIMALS("strftime_utc:11-items", 0, DATE " " CLOCK),
-    { "strftime_local:11-items", ONE(movaliren_strftime_local(conversions, sizeof conversions - 1, NOW, EAST, OUT)), 0 },
-    NO_DECIMALS("strftime_local:11-items", EAST, DATE " " CLOCK),
-    { "format_utc_length:11-items", ONE(movaliren_format_utc_length(items, 11, texts, 5, NOW)), 0 },
-    { "width:11-items", ONE(movaliren_width(items, 11, texts, 5)), 0 },
-    { "width:names", ONE(movaliren_width(names, 7, name_texts, 4)), 0 },
+    { "items_format_utc:11-items", ONE(movaliren_items_format_utc(items, 11, texts, 5, NOW, OUT)), 0 },
+    NO_DECIMALS("items_format_utc:11-items", 0, DATE " " CLOCK),
+    { "items_format_utc:11-items/snprintf", ONE(by_snprintf(moment, 0, "%d-%02d-%02d " PRINTED_CLOCK, 1)), 0 },
+    { "items_format_local:11-items", ONE(movaliren_items_format_local(items, 11, texts, 5, NOW, EAST, OUT)), 0 },
+    NO_DECIMALS("items_format_local:11-items", EAST, DATE " " CLOCK),
+    { "items_format_local:11-items/snprintf", ONE(by_snprintf(moment, EAST, "%d-%02d-%02d " PRINTED_CLOCK, 1)), 0 },
+    { "items_format:11-items", BY_PARTS(movaliren_items_format(items, 11, texts, 5, &value, OUT)), 0 },
+    NO_DECIMALS("items_format:11-items", 0, DATE " " CLOCK),
+    { "items_format:11-items/snprintf", ONE(by_snprintf(moment, 0, "%d-%02d-%02d " PRINTED_CLOCK, 1)), 0 },
+    { "items_format_date:5-items",
+        BY_PARTS(movaliren_items_format_date(items, 5, texts, 5, value.year, value.month, value.day, OUT)), 0 },
+    NO_DECIMALS("items_format_date:5-items", 0, DATE),
+    { "items_format_date:5-items/snprintf", ONE(by_snprintf(moment, 0, "%d-%02d-%02d", 1)), 0 },
+    { "items_format_utc:names", ONE(movaliren_items_format_utc(names, 7, name_texts, 4, NOW, OUT)), 0 },
+    NO_DECIMALS("items_format_utc:names", 0, "%A, %d %B %Y"),
+    { "items_format_utc:names/snprintf", ONE(names_by_snprintf(moment)), 0 },
+    { "items_format:names", BY_PARTS(movaliren_items_format(names, 7, name_texts, 4, &value, OUT)), 0 },
+    NO_DECIMALS("items_format:names", 0, "%A, %d %B %Y"),
+    { "items_format:names/snprintf", ONE(names_by_snprintf(moment)), 0 },
+    { "items_format_date:names",
+        BY_PARTS(movaliren_items_format_date(names, 7, name_texts, 4, value.year, value.month, value.day, OUT)), 0 },
+    NO_DECIMALS("items_format_date:names", 0, "%A, %d %B %Y"),
+    { "items_format_date:names/snprintf", ONE(names_by_snprintf(moment)), 0 },
+    { "items_parse:11-items", ONE(movaliren_items_parse(brackets, sizeof brackets - 1, made, 16, &fault)), 0 },
+    { "format_brackets_utc:11-items", ONE(movaliren_format_brackets_utc(brackets, sizeof brackets - 1, NOW, OUT)), 0 },
+    { "format_brackets_local:11-items", ONE(movaliren_format_brackets_local(brackets, sizeof brackets - 1, NOW, EAST, OUT)), 0 },
+    { "items_parse_strftime:11-items", ONE(movaliren_items_parse_strftime(conversions, sizeof conversions - 1, made, 16, &fault)), 0 },
+    { "format_strftime_utc:11-items", ONE(movaliren_format_strftime_utc(conversions, sizeof conversions - 1, NOW, OUT)), 0 },
+    NO_DECIMALS("format_strftime_utc:11-items", 0, DATE " " CLOCK),
+    { "format_strftime_local:11-items", ONE(movaliren_format_strftime_local(conversions, sizeof conversions - 1, NOW, EAST, OUT)), 0 },
+    NO_DECIMALS("format_strftime_local:11-items", EAST, DATE " " CLOCK),
+    { "items_format_utc_length:11-items", ONE(movaliren_items_format_utc_length(items, 11, texts, 5, NOW)), 0 },
+    { "items_max_length:11-items", ONE(movaliren_items_max_length(items, 11, texts, 5)), 0 },
+    { "items_max_length:names", ONE(movaliren_items_max_length(names, 7, name_texts, 4)), 0 },
     { "read_rfc3339", ONE(movaliren_read_rfc3339(READ_TEXT, &read_moment, &read_place)), 0 },
     { "read_rfc3339_utc", ONE(movaliren_read_rfc3339_utc(READ_TEXT, &read_utc, &read_place)), 0 },
     { "read_rfc3339_lenient", ONE(movaliren_read_rfc3339_lenient(READ_TEXT, &read_moment, &read_place)), 0 },

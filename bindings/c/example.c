@@ -3,56 +3,57 @@
 
 #include <stdio.h>
 
-/* The buffer has one byte more than the call was given. */
-static void show(const char *name, ptrdiff_t count, char *room)
+static void show(const char *name, ptrdiff_t count, char *buffer)
 {
     if (count < 0) {
-        printf("%-13s none: %s\n", name, movaliren_error_text(count));
+        printf("%-13s none: %s\n", name, movaliren_strerror(count));
     } else {
-        room[count] = 0;
-        printf("%-13s %s\n", name, room);
+        buffer[count] = 0;
+        printf("%-13s %s\n", name, buffer);
     }
 }
 
 int main(void)
 {
-    char room[MOVALIREN_ISO8601_BY_ROOM + 1];
-    const size_t most = MOVALIREN_ISO8601_BY_ROOM;
+    char buffer[MOVALIREN_ISO8601_WITH_SIZE];
+    const size_t most = sizeof buffer - 1;
     struct movaliren_moment moment = { .year = 1997, .month = 11, .day = 12, .hour = 9,
         .minute = 55, .second = 6, .nanosecond = 120000000, .offset_hours = -6 };
-    show("RFC 3339", movaliren_rfc3339(&moment, room, most), room);
-    show("RFC 2822", movaliren_rfc2822(&moment, room, most), room);
-    show("ISO 8601", movaliren_iso8601(&moment, room, most), room);
+    show("RFC 3339", movaliren_rfc3339(&moment, buffer, most), buffer);
+    show("RFC 2822", movaliren_rfc2822(&moment, buffer, most), buffer);
+    show("ISO 8601", movaliren_iso8601(&moment, buffer, most), buffer);
 
-    struct movaliren_iso_config week = MOVALIREN_ISO_DEFAULT;
-    week.date_kind = MOVALIREN_ISO_WEEK;
+    struct movaliren_iso8601_config week = MOVALIREN_ISO8601_DEFAULT;
+    week.date_kind = MOVALIREN_ISO8601_BY_WEEK;
     week.decimals = 3;
     week.comma = 1;
-    show("by week", movaliren_iso8601_by(&week, &moment, room, most), room);
-    show("stamp", movaliren_stamp(879350106, 120000000, room, most), room);
+    show("by week", movaliren_iso8601_with(&week, &moment, buffer, most), buffer);
+    show("stamp", movaliren_stamp_utc(879350106, 120000000, buffer, most), buffer);
 
-    static const struct movaliren_iso_config milliseconds = MOVALIREN_ISO_DECIMALS(3);
+    static const struct movaliren_iso8601_config milliseconds = MOVALIREN_ISO8601_DECIMALS(3);
     show("milliseconds",
-        movaliren_iso8601_by_utc(&milliseconds, 879350106, 120000000, room, most), room);
-    show("local time", movaliren_rfc3339_local(879350106, 120000000, -21600, room, most), room);
+        movaliren_iso8601_with_utc(&milliseconds, 879350106, 120000000, buffer, most), buffer);
+    show("local time", movaliren_rfc3339_local(879350106, 120000000, -21600, buffer, most), buffer);
 
     struct movaliren_item items[8];
-    struct movaliren_description line = MOVALIREN_ITEMS(items);
-    movaliren_parse_strftime(&line, "%-d %B, week %G-W%V");
-    printf("%-13s %td\n", "width", movaliren_width_by(&line));
-    show("a moment", movaliren_by(&line, &moment, room, most), room);
-    show("a date", movaliren_by_date(&line, 2026, 11, 22, room, most), room);
-    if (movaliren_parse_strftime(&line, "%-d %Q") < 0)
-        printf("%-13s none: %s\n", "%Q", movaliren_fault_text(&line.fault, room));
+    char texts[32];
+    struct movaliren_description line = MOVALIREN_DESCRIPTION_INIT(items, texts);
+    if (movaliren_description_parse_strftime(&line, "%-d %B, week %G-W%V") < 0)
+        return 1;
+    printf("%-13s %td\n", "width", movaliren_description_max_length(&line));
+    show("a moment", movaliren_description_format(&line, &moment, buffer, most), buffer);
+    show("a date", movaliren_description_format_date(&line, 2026, 11, 22, buffer, most), buffer);
+    if (movaliren_description_parse_strftime(&line, "%-d %Q") < 0)
+        printf("%-13s none: %s\n", "%Q", movaliren_parse_error_message(&line.parse_error, buffer));
 
     struct movaliren_moment moments[] = { moment, moment, moment };
     moments[1].offset_hours = 0;
     moments[2].day = 31;
-    struct movaliren_progress progress = movaliren_rfc3339_batch(moments, 3, '\n', room, most);
+    struct movaliren_progress progress = movaliren_rfc3339_batch(moments, 3, '\n', buffer, most);
     printf("%-13s %zu of 3 moments, then none: %s\n%.*s", "a batch", progress.moments,
-        movaliren_error_text(progress.reason), (int)progress.bytes, room);
+        movaliren_strerror(progress.error), (int)progress.bytes, buffer);
 
     moment.year = 10000;
-    show("year 10000", movaliren_rfc3339(&moment, room, most), room);
+    show("year 10000", movaliren_rfc3339(&moment, buffer, most), buffer);
     return 0;
 }

@@ -47,7 +47,7 @@ static void expect_text(writer *write, const void *format, const void *value, co
         }
     }
     for (ptrdiff_t less = 0; less < len; less++)
-        if (called(write, format, value, buffer, (size_t)less) != MOVALIREN_ERROR_NO_ROOM) {
+        if (called(write, format, value, buffer, (size_t)less) != MOVALIREN_ERROR_BUFFER_TOO_SMALL) {
             failures++;
             printf("%s: written to a buffer of %td bytes\n", text, less);
         }

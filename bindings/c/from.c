@@ -1,4 +1,4 @@
-/* The lines of docs/FROM.md in C: what strftime writes, and the call here that writes it. */
+/* The lines of docs/C.md in C: what strftime writes, and the call here that writes it. */
 #define _GNU_SOURCE
 #include "movaliren.h"
 
@@ -32,8 +32,8 @@ static void moments(void)
 
     size_t count = strftime(theirs, sizeof theirs, "%Y-%m-%dT%H:%M:%S", &utc);
     snprintf(theirs + count, sizeof theirs - count, ".%03uZ", nanosecond / 1000000);
-    static const struct movaliren_iso_config milliseconds = MOVALIREN_ISO_DECIMALS(3);
-    same(movaliren_iso8601_by_utc(&milliseconds, seconds, nanosecond, line, most), "2026-11-22T15:55:06.120Z", theirs);
+    static const struct movaliren_iso8601_config milliseconds = MOVALIREN_ISO8601_DECIMALS(3);
+    same(movaliren_iso8601_with_utc(&milliseconds, seconds, nanosecond, line, most), "2026-11-22T15:55:06.120Z", theirs);
 
     strftime(theirs, sizeof theirs, "%a, %d %b %Y %H:%M:%S %z", &local);
     same(movaliren_rfc2822_local(seconds, nanosecond, local.tm_gmtoff, line, most), "Sun, 22 Nov 2026 09:55:06 -0600", theirs);
@@ -42,33 +42,35 @@ static void moments(void)
 
     count = strftime(theirs, sizeof theirs, "%Y-%m-%dT%H:%M:%S", &local);
     snprintf(theirs + count, sizeof theirs - count, ".%03u-06:00", nanosecond / 1000000);
-    same(movaliren_iso8601_by_local(&milliseconds, seconds, nanosecond, local.tm_gmtoff, line, most), "2026-11-22T09:55:06.120-06:00", theirs);
+    same(movaliren_iso8601_with_local(&milliseconds, seconds, nanosecond, local.tm_gmtoff, line, most), "2026-11-22T09:55:06.120-06:00", theirs);
 
     strftime(theirs, sizeof theirs, "%G-W%V-%u", &utc);
-    struct movaliren_iso_config week = MOVALIREN_ISO_DEFAULT;
-    week.components = MOVALIREN_ISO_DATE;
-    week.date_kind = MOVALIREN_ISO_WEEK;
-    same(movaliren_iso8601_by_utc(&week, seconds, 0, line, most), "2026-W47-7", theirs);
+    struct movaliren_iso8601_config week = MOVALIREN_ISO8601_DEFAULT;
+    week.parts = MOVALIREN_ISO8601_PARTS_DATE;
+    week.date_kind = MOVALIREN_ISO8601_BY_WEEK;
+    same(movaliren_iso8601_with_utc(&week, seconds, 0, line, most), "2026-W47-7", theirs);
 }
 
 static void descriptions(void)
 {
     struct movaliren_item items[16];
-    struct movaliren_description day = MOVALIREN_ITEMS(items);
-    movaliren_parse_strftime(&day, "%d %B %Y");
+    char texts[16];
+    struct movaliren_description day = MOVALIREN_DESCRIPTION_INIT(items, texts);
+    if (movaliren_description_parse_strftime(&day, "%d %B %Y") < 0)
+        puts("%d %B %Y is not read");
     strftime(theirs, sizeof theirs, "%d %B %Y", &utc);
-    same(movaliren_by_utc(&day, seconds, 0, line, most), "22 November 2026", theirs);
+    same(movaliren_description_format_utc(&day, seconds, 0, line, most), "22 November 2026", theirs);
 
     const char *clock = "%A, %H:%M";
     strftime(theirs, sizeof theirs, clock, &local);
-    same(movaliren_strftime_local(clock, strlen(clock), seconds, 0, local.tm_gmtoff, line, most), "Sunday, 09:55", theirs);
+    same(movaliren_format_strftime_local(clock, strlen(clock), seconds, 0, local.tm_gmtoff, line, most), "Sunday, 09:55", theirs);
 }
 
 static void texts_read(void)
 {
     const char *text = "2026-11-22T15:55:06Z";
     struct movaliren_utc_moment moment;
-    struct movaliren_place place;
+    struct movaliren_read_error place;
     struct tm parts = { 0 };
     const ptrdiff_t reason = movaliren_read_rfc3339_utc(text, strlen(text), &moment, &place);
     if (reason != 0 || moment.seconds != seconds || moment.nanosecond != 0) {

@@ -2,8 +2,8 @@
 #ifndef ITEMS_H
 #define ITEMS_H
 
-#include "movaliren.h"
+#include "movaliren_items.h"
 
-#define TEXT(start_, len_) { .kind = MOVALIREN_TEXT, .start = start_, .len = len_ }
+#define TEXT(start_, len_) { .kind = MOVALIREN_KIND_TEXT, .start = start_, .len = len_ }
 
 #endif

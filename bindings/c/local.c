@@ -8,15 +8,15 @@
 
 int main(void)
 {
-    static const struct movaliren_iso_config milliseconds = MOVALIREN_ISO_DECIMALS(3);
-    char line[MOVALIREN_ISO8601_ROOM + 1];
+    static const struct movaliren_iso8601_config milliseconds = MOVALIREN_ISO8601_DECIMALS(3);
+    char line[MOVALIREN_ISO8601_SIZE];
     struct timespec now;
     struct tm local;
     clock_gettime(CLOCK_REALTIME, &now);
     do {
         localtime_r(&now.tv_sec, &local);
-        ptrdiff_t n = MOVALIREN_STRING(line, movaliren_iso8601_by_local, &milliseconds, now.tv_sec,
+        ptrdiff_t n = MOVALIREN_TO_ARRAY(line, movaliren_iso8601_with_local, &milliseconds, now.tv_sec,
             (uint32_t)now.tv_nsec, local.tm_gmtoff);
-        printf("%s opened\n", n < 0 ? movaliren_error_text(n) : line);
+        printf("%s opened\n", n < 0 ? movaliren_strerror(n) : line);
     } while (scanf("%ld %ld", &now.tv_sec, &now.tv_nsec) == 2);
 }

@@ -8,13 +8,13 @@
 
 static void *work(void *name)
 {
-    static _Thread_local struct movaliren_log kept;
-    char stamp[MOVALIREN_ISO8601_ROOM + 1];
+    static _Thread_local struct movaliren_log_cache kept;
+    char stamp[MOVALIREN_ISO8601_SIZE];
     struct timespec now;
     for (int line = 0; line < 3 && clock_gettime(CLOCK_REALTIME, &now) == 0; line++) {
-        ptrdiff_t n = MOVALIREN_STRING(
+        ptrdiff_t n = MOVALIREN_TO_ARRAY(
             stamp, movaliren_log_time, &kept, 3, now.tv_sec, (uint32_t)now.tv_nsec, 0);
-        printf("%s %s line %d\n", n < 0 ? movaliren_error_text(n) : stamp, (char *)name, line);
+        printf("%s %s line %d\n", n < 0 ? movaliren_strerror(n) : stamp, (char *)name, line);
     }
     return 0;
 }

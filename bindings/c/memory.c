@@ -37,94 +37,94 @@ static const struct movaliren_moment moment = { .year = 1997, .month = 11, .day 
                                      year_0 = { .month = 1, .day = 1 },
                                      last = { .year = 9999, .month = 12, .day = 31 };
 static const struct movaliren_utc_moment epoch = { 0, 0 };
-static const struct movaliren_iso_config config = { 5, 1, 2, 255, 1, 1, 1, 0 };
-static const struct movaliren_item items[] = { { .kind = MOVALIREN_YEAR }, TEXT(0, 1),
-    { .kind = MOVALIREN_MONTH_LONG }, TEXT(0, 1), { .kind = MOVALIREN_DAY } };
+static const struct movaliren_iso8601_config config = { 5, 1, 2, 255, 1, 1, 1, 0 };
+static const struct movaliren_item items[] = { { .kind = MOVALIREN_KIND_YEAR }, TEXT(0, 1),
+    { .kind = MOVALIREN_KIND_MONTH_LONG }, TEXT(0, 1), { .kind = MOVALIREN_KIND_DAY } };
 static const struct movaliren_item usual[]
-    = { { .kind = MOVALIREN_YEAR }, TEXT(0, 1), { .kind = MOVALIREN_MONTH } };
+    = { { .kind = MOVALIREN_KIND_YEAR }, TEXT(0, 1), { .kind = MOVALIREN_KIND_MONTH } };
 /* Nov 12 1997-11-12T09:55:06.120-06:00 */
-static const struct movaliren_item twenty[20] = { { .kind = MOVALIREN_MONTH_SHORT }, TEXT(0, 1),
-    { .kind = MOVALIREN_DAY }, TEXT(0, 1), { .kind = MOVALIREN_YEAR_EXTENDED }, TEXT(1, 1),
-    { .kind = MOVALIREN_MONTH }, TEXT(1, 1), { .kind = MOVALIREN_DAY },
-    TEXT(2, 1), { .kind = MOVALIREN_HOUR }, TEXT(3, 1),
-    { .kind = MOVALIREN_MINUTE }, TEXT(3, 1), { .kind = MOVALIREN_SECOND },
-    TEXT(4, 1), { .kind = MOVALIREN_SUBSECOND, .digits = 3 },
-    { .kind = MOVALIREN_OFFSET_HOUR, .flag = 1 }, TEXT(3, 1),
-    { .kind = MOVALIREN_OFFSET_MINUTE } };
+static const struct movaliren_item twenty[20] = { { .kind = MOVALIREN_KIND_MONTH_SHORT }, TEXT(0, 1),
+    { .kind = MOVALIREN_KIND_DAY }, TEXT(0, 1), { .kind = MOVALIREN_KIND_YEAR_EXTENDED }, TEXT(1, 1),
+    { .kind = MOVALIREN_KIND_MONTH }, TEXT(1, 1), { .kind = MOVALIREN_KIND_DAY },
+    TEXT(2, 1), { .kind = MOVALIREN_KIND_HOUR }, TEXT(3, 1),
+    { .kind = MOVALIREN_KIND_MINUTE }, TEXT(3, 1), { .kind = MOVALIREN_KIND_SECOND },
+    TEXT(4, 1), { .kind = MOVALIREN_KIND_SUBSECOND, .digits = 3 },
+    { .kind = MOVALIREN_KIND_OFFSET_HOUR, .flag = 1 }, TEXT(3, 1),
+    { .kind = MOVALIREN_KIND_OFFSET_MINUTE } };
 
 static const char leap_day[] = "2028-02-29T00:00:00Z";
 static struct movaliren_moment read;
 static struct movaliren_utc_moment read_utc;
-static struct movaliren_place place;
-static struct movaliren_log kept;
+static struct movaliren_read_error place;
+static struct movaliren_log_cache kept;
 static struct movaliren_item made[8];
-static struct movaliren_fault fault;
+static struct movaliren_parse_error fault;
 
 static ptrdiff_t bytes_of(struct movaliren_progress progress)
 {
-    return progress.reason ? progress.reason : (ptrdiff_t)progress.bytes;
+    return progress.error ? progress.error : (ptrdiff_t)progress.bytes;
 }
 
 static ptrdiff_t call(int which, uint8_t *room)
 {
     const char *dash = "-";
     switch (which) {
-    case 0: return movaliren_format(items, 5, dash, 1, &moment, room, ROOM);
-    case 1: return movaliren_format_utc(items, 5, dash, 1, 0, 0, room, ROOM);
-    case 2: return movaliren_format_date(items, 5, dash, 1, 2026, 1, 1, room, ROOM);
-    case 3: return movaliren_width(items, 5, dash, 1);
+    case 0: return movaliren_items_format(items, 5, dash, 1, &moment, room, ROOM);
+    case 1: return movaliren_items_format_utc(items, 5, dash, 1, 0, 0, room, ROOM);
+    case 2: return movaliren_items_format_date(items, 5, dash, 1, 2026, 1, 1, room, ROOM);
+    case 3: return movaliren_items_max_length(items, 5, dash, 1);
     case 4: return movaliren_rfc3339(&moment, room, ROOM);
     case 5: return movaliren_rfc2822(&moment, room, ROOM);
     case 6: return movaliren_iso8601(&moment, room, ROOM);
-    case 7: return movaliren_iso8601_by(&config, &moment, room, ROOM);
-    case 8: return movaliren_stamp(0, 0, room, ROOM);
+    case 7: return movaliren_iso8601_with(&config, &moment, room, ROOM);
+    case 8: return movaliren_stamp_utc(0, 0, room, ROOM);
     case 9: return bytes_of(movaliren_rfc3339_batch(&moment, 1, '\n', room, ROOM));
     case 10: return bytes_of(movaliren_rfc2822_batch(&moment, 1, '\n', room, ROOM));
     case 11: return bytes_of(movaliren_iso8601_batch(&moment, 1, '\n', room, ROOM));
-    case 12: return bytes_of(movaliren_iso8601_by_batch(&config, &moment, 1, '\n', room, ROOM));
-    case 13: return bytes_of(movaliren_stamp_batch(&epoch, 1, '\n', room, ROOM));
+    case 12: return bytes_of(movaliren_iso8601_with_batch(&config, &moment, 1, '\n', room, ROOM));
+    case 13: return bytes_of(movaliren_stamp_utc_batch(&epoch, 1, '\n', room, ROOM));
     case 14: return movaliren_rfc3339_utc(0, 1, room, ROOM);
     case 15: return movaliren_rfc2822_utc(0, 1, room, ROOM);
     case 16: return movaliren_iso8601_utc(0, 1, room, ROOM);
-    case 17: return movaliren_iso8601_by_utc(&config, 0, 1, room, ROOM);
+    case 17: return movaliren_iso8601_with_utc(&config, 0, 1, room, ROOM);
     case 18: return movaliren_rfc3339_local(0, 1, 60, room, ROOM);
     case 19: return movaliren_rfc2822_local(0, 1, 60, room, ROOM);
     case 20: return bytes_of(movaliren_rfc3339_utc_batch(&epoch, 1, '\n', room, ROOM));
     case 21: return bytes_of(movaliren_rfc2822_utc_batch(&epoch, 1, '\n', room, ROOM));
     case 22: return bytes_of(movaliren_iso8601_utc_batch(&epoch, 1, '\n', room, ROOM));
-    case 23: return bytes_of(movaliren_iso8601_by_utc_batch(&config, &epoch, 1, '\n', room, ROOM));
+    case 23: return bytes_of(movaliren_iso8601_with_utc_batch(&config, &epoch, 1, '\n', room, ROOM));
     case 24: return bytes_of(movaliren_rfc3339_local_batch(&epoch, 1, 60, '\n', room, ROOM));
     case 25: return bytes_of(movaliren_rfc2822_local_batch(&epoch, 1, 60, '\n', room, ROOM));
-    case 26: return movaliren_format(usual, 3, dash, 1, &moment, room, ROOM);
-    case 27: return movaliren_format_utc(usual, 3, dash, 1, 0, 0, room, ROOM);
-    case 28: return movaliren_format_date(usual, 3, dash, 1, 2026, 1, 1, room, ROOM);
-    case 29: return movaliren_format(twenty, 20, " -T:.", 5, &moment, room, ROOM);
-    case 30: return movaliren_format_utc(twenty, 20, " -T:.", 5, -1, 999500000, room, ROOM);
-    case 31: return movaliren_format(twenty, 20, " -T:.", 5, &year_0, room, ROOM);
-    case 32: return movaliren_format_utc(twenty, 20, " -T:.", 5, -62167219200, 0, room, ROOM);
-    case 33: return movaliren_format(twenty, 20, " -T:.", 5, &last, room, ROOM);
+    case 26: return movaliren_items_format(usual, 3, dash, 1, &moment, room, ROOM);
+    case 27: return movaliren_items_format_utc(usual, 3, dash, 1, 0, 0, room, ROOM);
+    case 28: return movaliren_items_format_date(usual, 3, dash, 1, 2026, 1, 1, room, ROOM);
+    case 29: return movaliren_items_format(twenty, 20, " -T:.", 5, &moment, room, ROOM);
+    case 30: return movaliren_items_format_utc(twenty, 20, " -T:.", 5, -1, 999500000, room, ROOM);
+    case 31: return movaliren_items_format(twenty, 20, " -T:.", 5, &year_0, room, ROOM);
+    case 32: return movaliren_items_format_utc(twenty, 20, " -T:.", 5, -62167219200, 0, room, ROOM);
+    case 33: return movaliren_items_format(twenty, 20, " -T:.", 5, &last, room, ROOM);
     case 34: return movaliren_iso8601_local(0, 1, 60, room, ROOM);
-    case 35: return movaliren_iso8601_by_local(&config, 0, 1, 60, room, ROOM);
-    case 36: return movaliren_format_local(usual, 3, dash, 1, 0, 0, 60, room, ROOM);
+    case 35: return movaliren_iso8601_with_local(&config, 0, 1, 60, room, ROOM);
+    case 36: return movaliren_items_format_local(usual, 3, dash, 1, 0, 0, 60, room, ROOM);
     case 37: return 1 + movaliren_read_rfc3339(leap_day, 20, &read, &place);
     case 38: return 1 + movaliren_read_rfc3339_utc(leap_day, 20, &read_utc, &place);
     case 39: return 1 + movaliren_read_rfc3339_lenient(leap_day, 20, &read, &place);
     case 40: return -movaliren_read_rfc3339_lenient_utc(leap_day, 19, &read_utc, &place);
-    case 41: return movaliren_error_words(MOVALIREN_ERROR_NO_ROOM, room, ROOM);
+    case 41: return movaliren_strerror_r(MOVALIREN_ERROR_BUFFER_TOO_SMALL, room, ROOM);
     case 42: return (ptrdiff_t)movaliren_version();
-    case 45: return movaliren_describe_strftime("%H:%M", 5, made, 8, &fault);
-    case 46: return movaliren_strftime_utc("%H:%M", 5, 0, 0, room, ROOM);
-    case 47: return movaliren_strftime_local("%H:%M", 5, 0, 0, 60, room, ROOM);
-    case 44: return movaliren_fault_words(MOVALIREN_FAULT_UNFINISHED, room, ROOM);
-    case 48: return movaliren_describe("[day]", 5, made, 8, &fault);
-    case 49: return movaliren_brackets_utc("[day]", 5, 0, 0, room, ROOM);
-    case 50: return movaliren_brackets_local("[day]", 5, 0, 0, 60, room, ROOM);
+    case 45: return movaliren_items_parse_strftime("%H:%M", 5, made, 8, &fault);
+    case 46: return movaliren_format_strftime_utc("%H:%M", 5, 0, 0, room, ROOM);
+    case 47: return movaliren_format_strftime_local("%H:%M", 5, 0, 0, 60, room, ROOM);
+    case 44: return movaliren_parse_strerror_r(MOVALIREN_PARSE_ERROR_UNFINISHED, room, ROOM);
+    case 48: return movaliren_items_parse("[day]", 5, made, 8, &fault);
+    case 49: return movaliren_format_brackets_utc("[day]", 5, 0, 0, room, ROOM);
+    case 50: return movaliren_format_brackets_local("[day]", 5, 0, 0, 60, room, ROOM);
     case 43: return movaliren_log_time(&kept, 3, 0, 1, 60, room, ROOM);
-    case 51: return movaliren_format_length(twenty, 20, " -T:.", 5, &moment);
-    case 52: return movaliren_format_utc_length(twenty, 20, " -T:.", 5, 0, 0);
-    case 53: return movaliren_format_local_length(twenty, 20, " -T:.", 5, 0, 0, 60);
-    case 54: return movaliren_format_date_length(usual, 3, dash, 1, 2026, 1, 1);
-    default: return movaliren_format_date(usual, 3, dash, 1, 0, 1, 1, room, ROOM);
+    case 51: return movaliren_items_format_length(twenty, 20, " -T:.", 5, &moment);
+    case 52: return movaliren_items_format_utc_length(twenty, 20, " -T:.", 5, 0, 0);
+    case 53: return movaliren_items_format_local_length(twenty, 20, " -T:.", 5, 0, 0, 60);
+    case 54: return movaliren_items_format_date_length(usual, 3, dash, 1, 2026, 1, 1);
+    default: return movaliren_items_format_date(usual, 3, dash, 1, 0, 1, 1, room, ROOM);
     }
 }
 
@@ -144,13 +144,13 @@ static int allocates_nothing(int which)
 static int do_errors_allocate_nothing(void)
 {
     static const struct movaliren_item day_and_hour[]
-        = { { .kind = MOVALIREN_DAY }, { .kind = MOVALIREN_HOUR } };
+        = { { .kind = MOVALIREN_KIND_DAY }, { .kind = MOVALIREN_KIND_HOUR } };
     const void *dash = "-";
     char three[3], wide[ROOM];
     void *few = three, *enough = wide;
     asked = 0;
-    return movaliren_format(items, 5, dash, 1, &moment, few, 3) == MOVALIREN_ERROR_NO_ROOM
-        && movaliren_format_date(day_and_hour, 2, dash, 1, 2026, 1, 1, enough, ROOM)
+    return movaliren_items_format(items, 5, dash, 1, &moment, few, 3) == MOVALIREN_ERROR_BUFFER_TOO_SMALL
+        && movaliren_items_format_date(day_and_hour, 2, dash, 1, 2026, 1, 1, enough, ROOM)
         == MOVALIREN_ERROR_INSUFFICIENT && !asked;
 }
 
@@ -164,20 +164,20 @@ static int is_written_to(size_t len, size_t room_len, int is_usual)
 {
     static const char names[2][MAY + 1] = { "May", "05" };
     const struct movaliren_item sized[]
-        = { TEXT(0, len), { .kind = is_usual ? MOVALIREN_MONTH : MOVALIREN_MONTH_LONG } };
+        = { TEXT(0, len), { .kind = is_usual ? MOVALIREN_KIND_MONTH : MOVALIREN_KIND_MONTH_LONG } };
     const char *name = names[is_usual];
     const size_t name_len = strlen(name);
     const int is_held = len + name_len <= room_len;
     const struct movaliren_moment may = { .year = 2026, .month = 5, .day = 1 };
     memset(text_room, '#', room_len + 1);
     asked = 0;
-    const ptrdiff_t count = movaliren_format(sized, 2, letters, len, &may, text_room, room_len);
+    const ptrdiff_t count = movaliren_items_format(sized, 2, letters, len, &may, text_room, room_len);
     int is_well = !asked;
     if (is_held)
         is_well &= count == (ptrdiff_t)(len + name_len) && !memcmp(text_room, letters, len)
             && !memcmp(text_room + len, name, name_len) && text_room[len + name_len] == '#';
     else
-        is_well &= count == MOVALIREN_ERROR_NO_ROOM && text_room[0] == '#' && text_room[room_len] == '#';
+        is_well &= count == MOVALIREN_ERROR_BUFFER_TOO_SMALL && text_room[0] == '#' && text_room[room_len] == '#';
     if (!is_well)
         printf("%zu letters in %zu bytes: %td, %ld allocations\n", len, room_len, count, asked);
     return is_well;

@@ -9,14 +9,18 @@
 #ifndef MOVALIREN_HPP
 #define MOVALIREN_HPP
 
+#include <algorithm>
 #include <chrono>
 #include <cstddef>
 #include <cstdint>
-#include <movaliren.h>
+#include <iterator>
+#include <movaliren_items.h>
+#include <movaliren_lines.h>
 #include <ostream>
 #include <string>
 #include <string_view>
 #include <system_error>
+#include <utility>
 #include <vector>
 #if __has_include(<version>)
 #include <version>
@@ -40,28 +44,26 @@ enum class errc : int {
     offset_minutes = MOVALIREN_ERROR_OFFSET_MINUTES,
     offset_seconds = MOVALIREN_ERROR_OFFSET_SECONDS,
     moment_seconds = MOVALIREN_ERROR_MOMENT_SECONDS,
-    no_place_for_year = MOVALIREN_ERROR_NO_PLACE_FOR_YEAR,
-    no_place_for_offset_hour = MOVALIREN_ERROR_NO_PLACE_FOR_OFFSET_HOUR,
-    no_place_for_offset_minute = MOVALIREN_ERROR_NO_PLACE_FOR_OFFSET_MINUTE,
-    no_place_for_offset_second = MOVALIREN_ERROR_NO_PLACE_FOR_OFFSET_SECOND,
+    format_year = MOVALIREN_ERROR_FORMAT_YEAR,
+    format_offset_hour = MOVALIREN_ERROR_FORMAT_OFFSET_HOUR,
+    format_offset_minute = MOVALIREN_ERROR_FORMAT_OFFSET_MINUTE,
+    format_offset_second = MOVALIREN_ERROR_FORMAT_OFFSET_SECOND,
     insufficient = MOVALIREN_ERROR_INSUFFICIENT,
     out_of_range = MOVALIREN_ERROR_OUT_OF_RANGE,
     bad_config = MOVALIREN_ERROR_BAD_CONFIG,
     bad_item = MOVALIREN_ERROR_BAD_ITEM,
-    no_room = MOVALIREN_ERROR_NO_ROOM,
-    out_of_memory = MOVALIREN_ERROR_OUT_OF_MEMORY,
-    other = MOVALIREN_ERROR_OTHER,
+    buffer_too_small = MOVALIREN_ERROR_BUFFER_TOO_SMALL,
     not_read = MOVALIREN_ERROR_NOT_READ,
     bad_description = MOVALIREN_ERROR_BAD_DESCRIPTION,
     many_items = MOVALIREN_ERROR_MANY_ITEMS
 };
 
-// The category of these errors, whose messages are those of movaliren_error_text.
+// The category of these errors, whose messages are those of movaliren_strerror.
 inline const std::error_category &category() noexcept
 {
     struct named final : std::error_category {
         const char *name() const noexcept override { return "movaliren"; }
-        std::string message(int reason) const override { return movaliren_error_text(reason); }
+        std::string message(int reason) const override { return movaliren_strerror(reason); }
     };
     static const named category;
     return category;
@@ -81,11 +83,11 @@ namespace movaliren {
 // A time point of the system's clock, with any duration.
 template <class Duration> using sys_time = std::chrono::time_point<std::chrono::system_clock, Duration>;
 
-// A text of at most `Room` bytes, in this object, or the error that kept it from being written.
-template <std::size_t Room> class text {
+// A text of less than `Size` bytes, in this object, or the error that kept it from being written.
+template <std::size_t Size> class text {
 public:
     // Takes a call that writes to a buffer and its size, as those of movaliren.h.
-    template <class Call> explicit text(Call write) { len_ = write(bytes_, Room); }
+    template <class Call> explicit text(Call write) { len_ = write(bytes_, Size - 1); }
 
     // Whether the text was written.
     explicit operator bool() const noexcept { return len_ >= 0; }
@@ -114,16 +116,14 @@ public:
     std::string value() && { return std::string(static_cast<const text &>(*this).value()); }
 
 private:
-    char bytes_[Room];
+    char bytes_[Size];
     std::ptrdiff_t len_ = 0;
 };
 
-// Writes the text. After an error writes nothing and sets failbit.
-template <std::size_t Room> std::ostream &operator<<(std::ostream &out, const text<Room> &text)
+// Writes the text. After an error writes the reason in angle brackets, as a log has it, and leaves the stream good.
+template <std::size_t Size> std::ostream &operator<<(std::ostream &out, const text<Size> &text)
 {
-    if (!text)
-        out.setstate(std::ios_base::failbit);
-    return out << text.view();
+    return text ? out << text.view() : out << '<' << text.error().message() << '>';
 }
 
 // The seconds and the nanosecond of a time point, rounded down.
@@ -142,124 +142,147 @@ template <class Duration> movaliren_utc_moment moment_of(sys_time<Duration> poin
 }
 
 // RFC 3339, as 1985-04-12T23:20:50.52Z.
-template <class Duration> text<MOVALIREN_RFC3339_ROOM> rfc3339(sys_time<Duration> point)
+template <class Duration> text<MOVALIREN_RFC3339_SIZE> rfc3339(sys_time<Duration> point)
 {
     const auto moment = moment_of(point);
-    return text<MOVALIREN_RFC3339_ROOM>([moment](char *room, std::size_t most) {
-        return movaliren_rfc3339_utc(moment.seconds, moment.nanosecond, room, most);
+    return text<MOVALIREN_RFC3339_SIZE>([moment](char *buffer, std::size_t size) {
+        return movaliren_rfc3339_utc(moment.seconds, moment.nanosecond, buffer, size);
     });
 }
 
 // The same by the local date and time, which is `offset` ahead of UTC, as 1985-04-12T23:20:50.52+02:00.
 template <class Duration>
-text<MOVALIREN_RFC3339_ROOM> rfc3339(sys_time<Duration> point, std::chrono::seconds offset)
+text<MOVALIREN_RFC3339_SIZE> rfc3339(sys_time<Duration> point, std::chrono::seconds offset)
 {
     const auto moment = moment_of(point);
-    return text<MOVALIREN_RFC3339_ROOM>([moment, offset](char *room, std::size_t most) {
-        return movaliren_rfc3339_local(moment.seconds, moment.nanosecond, offset.count(), room, most);
+    return text<MOVALIREN_RFC3339_SIZE>([moment, offset](char *buffer, std::size_t size) {
+        return movaliren_rfc3339_local(moment.seconds, moment.nanosecond, offset.count(), buffer, size);
     });
 }
 
-inline text<MOVALIREN_RFC3339_ROOM> rfc3339(const movaliren_moment &moment)
+inline text<MOVALIREN_RFC3339_SIZE> rfc3339(const movaliren_utc_moment &moment)
 {
-    return text<MOVALIREN_RFC3339_ROOM>(
-        [&moment](char *room, std::size_t most) { return movaliren_rfc3339(&moment, room, most); });
+    return text<MOVALIREN_RFC3339_SIZE>([&moment](char *buffer, std::size_t size) {
+        return movaliren_rfc3339_utc(moment.seconds, moment.nanosecond, buffer, size);
+    });
 }
 
+inline text<MOVALIREN_RFC3339_SIZE> rfc3339(const movaliren_moment &moment)
+{
+    return text<MOVALIREN_RFC3339_SIZE>(
+        [&moment](char *buffer, std::size_t size) { return movaliren_rfc3339(&moment, buffer, size); });
+}
+
+// That of a zoned time by its local date and time: of std::chrono::zoned_time, and of another type with its members.
+template <class Zoned, class = decltype(std::declval<const Zoned &>().get_info().offset)>
+text<MOVALIREN_RFC3339_SIZE> rfc3339(const Zoned &zoned)
+{
+    return rfc3339(zoned.get_sys_time(), zoned.get_info().offset);
+}
+
+#if __cplusplus >= 202002L
+// That of a local date and time, which is `offset` ahead of UTC.
+template <class Duration>
+text<MOVALIREN_RFC3339_SIZE> rfc3339(std::chrono::local_time<Duration> local, std::chrono::seconds offset)
+{
+    return rfc3339(sys_time<Duration>(local.time_since_epoch()) - offset, offset);
+}
+#endif
+
 // RFC 2822, as Fri, 21 Nov 1997 15:55:06 +0000.
-template <class Duration> text<MOVALIREN_RFC2822_ROOM> rfc2822(sys_time<Duration> point)
+template <class Duration> text<MOVALIREN_RFC2822_SIZE> rfc2822(sys_time<Duration> point)
 {
     const auto moment = moment_of(point);
-    return text<MOVALIREN_RFC2822_ROOM>([moment](char *room, std::size_t most) {
-        return movaliren_rfc2822_utc(moment.seconds, moment.nanosecond, room, most);
+    return text<MOVALIREN_RFC2822_SIZE>([moment](char *buffer, std::size_t size) {
+        return movaliren_rfc2822_utc(moment.seconds, moment.nanosecond, buffer, size);
     });
 }
 
 // The same by the local date and time, which is `offset` ahead of UTC.
 template <class Duration>
-text<MOVALIREN_RFC2822_ROOM> rfc2822(sys_time<Duration> point, std::chrono::seconds offset)
+text<MOVALIREN_RFC2822_SIZE> rfc2822(sys_time<Duration> point, std::chrono::seconds offset)
 {
     const auto moment = moment_of(point);
-    return text<MOVALIREN_RFC2822_ROOM>([moment, offset](char *room, std::size_t most) {
-        return movaliren_rfc2822_local(moment.seconds, moment.nanosecond, offset.count(), room, most);
+    return text<MOVALIREN_RFC2822_SIZE>([moment, offset](char *buffer, std::size_t size) {
+        return movaliren_rfc2822_local(moment.seconds, moment.nanosecond, offset.count(), buffer, size);
     });
 }
 
-inline text<MOVALIREN_RFC2822_ROOM> rfc2822(const movaliren_moment &moment)
+inline text<MOVALIREN_RFC2822_SIZE> rfc2822(const movaliren_moment &moment)
 {
-    return text<MOVALIREN_RFC2822_ROOM>(
-        [&moment](char *room, std::size_t most) { return movaliren_rfc2822(&moment, room, most); });
+    return text<MOVALIREN_RFC2822_SIZE>(
+        [&moment](char *buffer, std::size_t size) { return movaliren_rfc2822(&moment, buffer, size); });
 }
 
 // ISO 8601 by a configuration.
 template <class Duration>
-text<MOVALIREN_ISO8601_BY_ROOM> iso8601(sys_time<Duration> point, const movaliren_iso_config &config)
+text<MOVALIREN_ISO8601_WITH_SIZE> iso8601(sys_time<Duration> point, const movaliren_iso8601_config &config)
 {
     const auto moment = moment_of(point);
-    return text<MOVALIREN_ISO8601_BY_ROOM>([&config, moment](char *room, std::size_t most) {
-        return movaliren_iso8601_by_utc(&config, moment.seconds, moment.nanosecond, room, most);
+    return text<MOVALIREN_ISO8601_WITH_SIZE>([&config, moment](char *buffer, std::size_t size) {
+        return movaliren_iso8601_with_utc(&config, moment.seconds, moment.nanosecond, buffer, size);
     });
 }
 
 // The same by the local date and time, which is `offset` ahead of UTC.
 template <class Duration>
-text<MOVALIREN_ISO8601_BY_ROOM> iso8601(
-    sys_time<Duration> point, std::chrono::seconds offset, const movaliren_iso_config &config)
+text<MOVALIREN_ISO8601_WITH_SIZE> iso8601(
+    sys_time<Duration> point, std::chrono::seconds offset, const movaliren_iso8601_config &config)
 {
     const auto moment = moment_of(point);
-    return text<MOVALIREN_ISO8601_BY_ROOM>([&config, moment, offset](char *room, std::size_t most) {
-        return movaliren_iso8601_by_local(
-            &config, moment.seconds, moment.nanosecond, offset.count(), room, most);
+    return text<MOVALIREN_ISO8601_WITH_SIZE>([&config, moment, offset](char *buffer, std::size_t size) {
+        return movaliren_iso8601_with_local(
+            &config, moment.seconds, moment.nanosecond, offset.count(), buffer, size);
     });
 }
 
-inline text<MOVALIREN_ISO8601_BY_ROOM> iso8601(
-    const movaliren_moment &moment, const movaliren_iso_config &config)
+inline text<MOVALIREN_ISO8601_WITH_SIZE> iso8601(
+    const movaliren_moment &moment, const movaliren_iso8601_config &config)
 {
-    return text<MOVALIREN_ISO8601_BY_ROOM>([&config, &moment](char *room, std::size_t most) {
-        return movaliren_iso8601_by(&config, &moment, room, most);
+    return text<MOVALIREN_ISO8601_WITH_SIZE>([&config, &moment](char *buffer, std::size_t size) {
+        return movaliren_iso8601_with(&config, &moment, buffer, size);
     });
 }
 
-// ISO 8601 with this many decimals of a second, 0 to 9, as 1997-11-12T15:55:06.120Z for 3. A text of more than 35 bytes,
-// which has more decimals than 9, is an error.
+// ISO 8601 with this many decimals of a second, 0 to 9, as 1997-11-12T15:55:06.120Z for 3. More decimals than
+// 9 are an error where the text has more than 35 bytes.
 template <class Duration>
-text<MOVALIREN_ISO8601_ROOM> iso8601(sys_time<Duration> point, std::uint8_t decimals)
+text<MOVALIREN_ISO8601_SIZE> iso8601(sys_time<Duration> point, std::uint8_t decimals)
 {
-    const movaliren_iso_config config = MOVALIREN_ISO_DECIMALS(decimals);
+    const movaliren_iso8601_config config = MOVALIREN_ISO8601_DECIMALS(decimals);
     const auto moment = moment_of(point);
-    return text<MOVALIREN_ISO8601_ROOM>([&config, moment](char *room, std::size_t most) {
-        return movaliren_iso8601_by_utc(&config, moment.seconds, moment.nanosecond, room, most);
+    return text<MOVALIREN_ISO8601_SIZE>([&config, moment](char *buffer, std::size_t size) {
+        return movaliren_iso8601_with_utc(&config, moment.seconds, moment.nanosecond, buffer, size);
     });
 }
 
 // The same by the local date and time, which is `offset` ahead of UTC, as 1997-11-12T16:55:06.120+01:00.
 template <class Duration>
-text<MOVALIREN_ISO8601_ROOM> iso8601(
+text<MOVALIREN_ISO8601_SIZE> iso8601(
     sys_time<Duration> point, std::chrono::seconds offset, std::uint8_t decimals)
 {
-    const movaliren_iso_config config = MOVALIREN_ISO_DECIMALS(decimals);
+    const movaliren_iso8601_config config = MOVALIREN_ISO8601_DECIMALS(decimals);
     const auto moment = moment_of(point);
-    return text<MOVALIREN_ISO8601_ROOM>([&config, moment, offset](char *room, std::size_t most) {
-        return movaliren_iso8601_by_local(
-            &config, moment.seconds, moment.nanosecond, offset.count(), room, most);
+    return text<MOVALIREN_ISO8601_SIZE>([&config, moment, offset](char *buffer, std::size_t size) {
+        return movaliren_iso8601_with_local(
+            &config, moment.seconds, moment.nanosecond, offset.count(), buffer, size);
     });
 }
 
 // A stamp of 30 bytes, as 1997-11-12T15:55:06.000000000Z. Stamps sort by bytes as their moments do.
-template <class Duration> text<MOVALIREN_STAMP_ROOM> stamp(sys_time<Duration> point)
+template <class Duration> text<MOVALIREN_STAMP_SIZE> stamp(sys_time<Duration> point)
 {
     const auto moment = moment_of(point);
-    return text<MOVALIREN_STAMP_ROOM>([moment](char *room, std::size_t most) {
-        return movaliren_stamp(moment.seconds, moment.nanosecond, room, most);
+    return text<MOVALIREN_STAMP_SIZE>([moment](char *buffer, std::size_t size) {
+        return movaliren_stamp_utc(moment.seconds, moment.nanosecond, buffer, size);
     });
 }
 
 // A moment that was read from a text, or where the text could not be read.
 template <class Moment> class reading {
 public:
-    // Takes a call that reads into a moment and a place, as those of movaliren.h.
-    template <class Call> explicit reading(Call read) { answer_ = read(&moment_, &place_); }
+    // Takes a call that reads into a moment and an error, as those of movaliren.h.
+    template <class Call> explicit reading(Call read) { answer_ = read(&moment_, &read_error_); }
 
     // Whether the text was read.
     explicit operator bool() const noexcept { return answer_ == 0; }
@@ -271,13 +294,13 @@ public:
     }
 
     // Where the text could not be read, and what could have come there. Zeros where it was read.
-    const movaliren_place &place() const noexcept { return place_; }
+    const movaliren_read_error &read_error() const noexcept { return read_error_; }
 
-    // The place in words, as "byte 9: expected a digit from 0 to 8", or nothing where the text was read.
+    // The same in words, as "byte 9: expected a digit from 0 to 8", or nothing where the text was read.
     std::string message() const
     {
-        char room[MOVALIREN_PLACE_ROOM];
-        return answer_ < 0 ? movaliren_place_text(&place_, room) : "";
+        char buffer[MOVALIREN_READ_MESSAGE_SIZE];
+        return answer_ < 0 ? movaliren_read_error_message(&read_error_, buffer) : "";
     }
 
     // The moment. Where the text was not read throws std::system_error.
@@ -290,9 +313,20 @@ public:
 
 private:
     Moment moment_ = Moment();
-    movaliren_place place_ = movaliren_place();
+    movaliren_read_error read_error_ = movaliren_read_error();
     std::ptrdiff_t answer_ = 0;
 };
+
+// The time point of a moment, in nanoseconds. Outside of the years 1677 to 2262, which these reach, throws
+// std::system_error with errc::moment_seconds.
+inline sys_time<std::chrono::nanoseconds> time_point_of(const movaliren_utc_moment &moment)
+{
+    const std::int64_t least = INT64_MIN / 1'000'000'000, most = INT64_MAX / 1'000'000'000;
+    if (moment.seconds < least || moment.seconds >= most)
+        throw std::system_error(make_error_code(errc::moment_seconds));
+    return sys_time<std::chrono::nanoseconds>(
+        std::chrono::seconds(moment.seconds) + std::chrono::nanoseconds(moment.nanosecond));
+}
 
 // Which texts are read: those of the format alone, or those of other programs too.
 enum class profile { strict, lenient };
@@ -300,41 +334,39 @@ enum class profile { strict, lenient };
 // Reads a text of RFC 3339 as a moment in UTC.
 inline reading<movaliren_utc_moment> read_rfc3339(std::string_view text, profile by = profile::strict)
 {
-    return reading<movaliren_utc_moment>([text, by](movaliren_utc_moment *moment, movaliren_place *place) {
-        const char *bytes = text.data() ? text.data() : "";
-        return by == profile::strict ? movaliren_read_rfc3339_utc(bytes, text.size(), moment, place)
-                                     : movaliren_read_rfc3339_lenient_utc(bytes, text.size(), moment, place);
+    return reading<movaliren_utc_moment>([text, by](movaliren_utc_moment *moment, movaliren_read_error *error) {
+        return by == profile::strict ? movaliren_read_rfc3339_utc(text.data(), text.size(), moment, error)
+                                     : movaliren_read_rfc3339_lenient_utc(text.data(), text.size(), moment, error);
     });
 }
 
 // Reads a text of RFC 3339 as a local date and time with its offset.
 inline reading<movaliren_moment> read_rfc3339_local(std::string_view text, profile by = profile::strict)
 {
-    return reading<movaliren_moment>([text, by](movaliren_moment *moment, movaliren_place *place) {
-        const char *bytes = text.data() ? text.data() : "";
-        return by == profile::strict ? movaliren_read_rfc3339(bytes, text.size(), moment, place)
-                                     : movaliren_read_rfc3339_lenient(bytes, text.size(), moment, place);
+    return reading<movaliren_moment>([text, by](movaliren_moment *moment, movaliren_read_error *error) {
+        return by == profile::strict ? movaliren_read_rfc3339(text.data(), text.size(), moment, error)
+                                     : movaliren_read_rfc3339_lenient(text.data(), text.size(), moment, error);
     });
 }
 
 // A text is no description: what is wrong, and at which byte. what() says both.
 class invalid_description : public std::system_error {
 public:
-    explicit invalid_description(const movaliren_fault &fault)
-        : std::system_error(make_error_code(errc::bad_description), message(fault)), fault_(fault)
+    explicit invalid_description(const movaliren_parse_error &error)
+        : std::system_error(make_error_code(errc::bad_description), message(error)), parse_error_(error)
     {
     }
 
-    const movaliren_fault &fault() const noexcept { return fault_; }
+    const movaliren_parse_error &parse_error() const noexcept { return parse_error_; }
 
 private:
-    static std::string message(const movaliren_fault &fault)
+    static std::string message(const movaliren_parse_error &error)
     {
-        char room[MOVALIREN_FAULT_ROOM];
-        return movaliren_fault_text(&fault, room);
+        char buffer[MOVALIREN_PARSE_MESSAGE_SIZE];
+        return movaliren_parse_error_message(&error, buffer);
     }
 
-    movaliren_fault fault_;
+    movaliren_parse_error parse_error_;
 };
 
 // A description, which is made once from a text, or of components and texts, and formats any number of moments.
@@ -344,18 +376,18 @@ private:
 class description {
 public:
     // The description in brackets, as [year]-[month]-[day]. Throws invalid_description.
-    static description parse(std::string_view text) { return read(text, movaliren_describe); }
+    static description parse(std::string_view text) { return read(text, movaliren_items_parse); }
 
     // The description in the syntax of strftime. Throws invalid_description.
-    static description parse_strftime(std::string_view text) { return read(text, movaliren_describe_strftime); }
+    static description parse_strftime(std::string_view text) { return read(text, movaliren_items_parse_strftime); }
 
-    // Adds a component by its usual choices, as movaliren_add_usual does.
+    // Adds a component by its usual choices, as movaliren_description_add does.
     description &add(movaliren_kind kind)
     {
         movaliren_item items[1] = {};
-        movaliren_description one = MOVALIREN_ITEMS(items);
-        one.reason = 0;
-        movaliren_add_usual(&one, static_cast<std::uint32_t>(kind));
+        movaliren_description one = MOVALIREN_BORROWER_INIT(items);
+        one.error = 0;
+        movaliren_description_add(&one, kind);
         items_.push_back(items[0]);
         return *this;
     }
@@ -371,24 +403,24 @@ public:
     // Adds a text.
     description &add(std::string_view text)
     {
-        items_.push_back({ MOVALIREN_TEXT, 0, 0, 0, 0, texts_.size(), text.size() });
+        items_.push_back({ MOVALIREN_KIND_TEXT, 0, 0, 0, 0, texts_.size(), text.size() });
         texts_ += text;
         return *this;
     }
 
-    // What movaliren_width returns. Throws std::system_error if a kind or a choice is invalid.
-    std::size_t width() const
+    // What movaliren_items_max_length returns. Throws std::system_error if a kind or a choice is invalid.
+    std::size_t max_length() const
     {
-        return checked(movaliren_width(items(), items_.size(), texts_.data(), texts_.size()));
+        return checked(movaliren_items_max_length(items_.data(), items_.size(), texts_.data(), texts_.size()));
     }
 
     // The text of a moment in UTC. Throws std::system_error.
     template <class Duration> std::string format(sys_time<Duration> point) const
     {
         const auto moment = moment_of(point);
-        return written([&](char *room, std::size_t most) {
-            return movaliren_format_utc(items(), items_.size(), texts_.data(), texts_.size(),
-                moment.seconds, moment.nanosecond, room, most);
+        return written([&](char *buffer, std::size_t size) {
+            return movaliren_items_format_utc(items_.data(), items_.size(), texts_.data(), texts_.size(),
+                moment.seconds, moment.nanosecond, buffer, size);
         });
     }
 
@@ -396,33 +428,52 @@ public:
     template <class Duration> std::string format(sys_time<Duration> point, std::chrono::seconds offset) const
     {
         const auto moment = moment_of(point);
-        return written([&](char *room, std::size_t most) {
-            return movaliren_format_local(items(), items_.size(), texts_.data(), texts_.size(),
-                moment.seconds, moment.nanosecond, offset.count(), room, most);
+        return written([&](char *buffer, std::size_t size) {
+            return movaliren_items_format_local(items_.data(), items_.size(), texts_.data(), texts_.size(),
+                moment.seconds, moment.nanosecond, offset.count(), buffer, size);
         });
     }
 
     // The text of a local date and time with its offset. Throws std::system_error.
     std::string format(const movaliren_moment &moment) const
     {
-        return written([&](char *room, std::size_t most) {
-            return movaliren_format(items(), items_.size(), texts_.data(), texts_.size(), &moment, room, most);
+        return written([&](char *buffer, std::size_t size) {
+            return movaliren_items_format(items_.data(), items_.size(), texts_.data(), texts_.size(), &moment, buffer, size);
         });
+    }
+
+    // The text of a date: of std::chrono::year_month_day, and of another type with its members. Throws std::system_error.
+    template <class Date, class = decltype(unsigned(std::declval<const Date &>().month()))>
+    std::string format(const Date &date) const
+    {
+        const auto month = static_cast<std::uint8_t>(unsigned(date.month()));
+        const auto day = static_cast<std::uint8_t>(unsigned(date.day()));
+        return written([&](char *buffer, std::size_t size) {
+            return movaliren_items_format_date(items_.data(), items_.size(), texts_.data(), texts_.size(),
+                int(date.year()), month, day, buffer, size);
+        });
+    }
+
+    // Writes the text of what `format` takes to an output iterator, and returns the place after it.
+    template <class Out, class... Value> Out format_to(Out out, const Value &...value) const
+    {
+        const std::string text = format(value...);
+        return std::copy(text.begin(), text.end(), out);
     }
 
     // The number of bytes of the text of a moment in UTC. Throws std::system_error.
     template <class Duration> std::size_t length(sys_time<Duration> point) const
     {
         const auto moment = moment_of(point);
-        return checked(movaliren_format_utc_length(
-            items(), items_.size(), texts_.data(), texts_.size(), moment.seconds, moment.nanosecond));
+        return checked(movaliren_items_format_utc_length(
+            items_.data(), items_.size(), texts_.data(), texts_.size(), moment.seconds, moment.nanosecond));
     }
 
     // That of a moment by its local date and time, which is `offset` ahead of UTC. Throws std::system_error.
     template <class Duration> std::size_t length(sys_time<Duration> point, std::chrono::seconds offset) const
     {
         const auto moment = moment_of(point);
-        return checked(movaliren_format_local_length(items(), items_.size(), texts_.data(), texts_.size(),
+        return checked(movaliren_items_format_local_length(items_.data(), items_.size(), texts_.data(), texts_.size(),
             moment.seconds, moment.nanosecond, offset.count()));
     }
 
@@ -430,7 +481,7 @@ public:
     std::size_t length(const movaliren_moment &moment) const
     {
         return checked(
-            movaliren_format_length(items(), items_.size(), texts_.data(), texts_.size(), &moment));
+            movaliren_items_format_length(items_.data(), items_.size(), texts_.data(), texts_.size(), &moment));
     }
 
 private:
@@ -439,23 +490,16 @@ private:
         description made;
         made.texts_ = text;
         made.items_.resize(16);
-        movaliren_fault fault;
-        auto count = describe(made.texts_.data(), text.size(), made.items_.data(), made.items_.size(), &fault);
+        movaliren_parse_error error;
+        auto count = describe(made.texts_.data(), text.size(), made.items_.data(), made.items_.size(), &error);
         if (count == MOVALIREN_ERROR_MANY_ITEMS) {
-            made.items_.resize(fault.items);
-            count = describe(made.texts_.data(), text.size(), made.items_.data(), made.items_.size(), &fault);
+            made.items_.resize(error.items);
+            count = describe(made.texts_.data(), text.size(), made.items_.data(), made.items_.size(), &error);
         }
         if (count < 0)
-            throw invalid_description(fault);
+            throw invalid_description(error);
         made.items_.resize(static_cast<std::size_t>(count));
         return made;
-    }
-
-    // No pointer is null, not even to no items.
-    const movaliren_item *items() const noexcept
-    {
-        static const movaliren_item none = { 0, 0, 0, 0, 0, 0, 0 };
-        return items_.empty() ? &none : items_.data();
     }
 
     static std::size_t checked(std::ptrdiff_t count)
@@ -467,7 +511,7 @@ private:
 
     template <class Call> std::string written(Call write) const
     {
-        std::string text(width(), '\0');
+        std::string text(max_length(), '\0');
         text.resize(checked(write(text.data(), text.size())));
         return text;
     }
@@ -476,13 +520,85 @@ private:
     std::string texts_ = {};
 };
 
+// A time point of a range has no text: why, and its index.
+class row_error : public std::system_error {
+public:
+    row_error(std::error_code error, std::size_t row)
+        : std::system_error(error, "row " + std::to_string(row)), row_(row)
+    {
+    }
+
+    std::size_t row() const noexcept { return row_; }
+
+private:
+    std::size_t row_;
+};
+
+// The lines of a range of time points, as MOVALIREN_LINES(MOVALIREN_LINES_RFC3339) has them. Throws row_error.
+template <class Range> std::string lines(const movaliren_lines &lines, const Range &points)
+{
+    std::string text(64 * std::size_t(std::distance(std::begin(points), std::end(points))), '\0');
+    movaliren_progress progress = { 0, 0, 0 };
+    for (const auto &point : points) {
+        const auto moment = moment_of(point);
+        while (!movaliren_lines_add(&lines, &progress, moment.seconds, moment.nanosecond, text.data(), text.size())) {
+            if (progress.error != MOVALIREN_ERROR_BUFFER_TOO_SMALL)
+                throw row_error(make_error_code(static_cast<errc>(progress.error)), progress.moments);
+            text.resize(2 * text.size());
+        }
+    }
+    text.resize(progress.bytes);
+    return text;
+}
+
+// A time point at an offset, as an argument of std::format, by a description in the syntax of strftime:
+//
+//     std::format("{:%d %B, %H:%M}", movaliren::at(std::chrono::system_clock::now()))
+struct moment_at {
+    movaliren_utc_moment moment;
+    std::chrono::seconds offset;
+};
+
+template <class Duration>
+moment_at at(sys_time<Duration> point, std::chrono::seconds offset = std::chrono::seconds(0))
+{
+    return { moment_of(point), offset };
+}
+
 } // namespace movaliren
 
 #ifdef __cpp_lib_format
+// Formats a moment by the text after the colon, or to the second by %FT%T%:z where there is none. A text that is no description, or
+// describes what the moment has not, throws std::format_error when it is formatted.
+template <> struct std::formatter<movaliren::moment_at> {
+    constexpr auto parse(std::format_parse_context &context)
+    {
+        const auto end = std::find(context.begin(), context.end(), '}');
+        text_ = std::string_view(context.begin(), end);
+        return end;
+    }
+
+    template <class Context> auto format(const movaliren::moment_at &at, Context &context) const
+    {
+        const std::string_view text = text_.empty() ? "%FT%T%:z" : text_;
+        const auto length = movaliren_format_strftime_local_length(
+            text.data(), text.size(), at.moment.seconds, at.moment.nanosecond, at.offset.count());
+        if (length < 0)
+            throw std::format_error(movaliren_strerror(length));
+        std::string made(static_cast<std::size_t>(length), '\0');
+        movaliren_format_strftime_local(text.data(), text.size(), at.moment.seconds, at.moment.nanosecond,
+            at.offset.count(), made.data(), made.size());
+        return std::copy(made.begin(), made.end(), context.out());
+    }
+
+private:
+    std::string_view text_;
+};
+
 // Formats a text as a std::string_view. After an error throws std::format_error.
-template <std::size_t Room>
-struct std::formatter<movaliren::text<Room>> : std::formatter<std::string_view> {
-    template <class Context> auto format(const movaliren::text<Room> &text, Context &context) const
+template <std::size_t Size>
+struct std::formatter<movaliren::text<Size>> : std::formatter<std::string_view> {
+    template <class Context> auto format(const movaliren::text<Size> &text, Context &context) const
     {
         if (!text)
             throw std::format_error(text.error().message());

@@ -7,8 +7,8 @@
 static ptrdiff_t of_one(struct movaliren_progress progress, uint8_t *room)
 {
     if (progress.moments == 0)
-        return progress.bytes == 0 ? progress.reason : -100;
-    if (progress.moments != 1 || progress.reason != 0 || room[progress.bytes - 1] != 0)
+        return progress.bytes == 0 ? progress.error : -100;
+    if (progress.moments != 1 || progress.error != 0 || room[progress.bytes - 1] != 0)
         return -101;
     room[progress.bytes - 1] = FILL;
     return (ptrdiff_t)progress.bytes - 1;
@@ -34,26 +34,26 @@ ALONE_AND_AS_BATCH(iso8601, struct movaliren_moment)
 
 static ptrdiff_t iso8601_by(const void *format, const void *value, uint8_t *room, size_t room_len)
 {
-    return movaliren_iso8601_by(format, value, room, room_len);
+    return movaliren_iso8601_with(format, value, room, room_len);
 }
 
 static ptrdiff_t iso8601_by_batch(
     const void *format, const void *value, uint8_t *room, size_t room_len)
 {
-    return of_one(movaliren_iso8601_by_batch(format, value, 1, 0, room, room_len + 1), room);
+    return of_one(movaliren_iso8601_with_batch(format, value, 1, 0, room, room_len + 1), room);
 }
 
 static ptrdiff_t stamp(const void *format, const void *value, uint8_t *room, size_t room_len)
 {
     (void)format;
     const struct movaliren_utc_moment *moment = value;
-    return movaliren_stamp(moment->seconds, moment->nanosecond, room, room_len);
+    return movaliren_stamp_utc(moment->seconds, moment->nanosecond, room, room_len);
 }
 
 static ptrdiff_t stamp_batch(const void *format, const void *value, uint8_t *room, size_t room_len)
 {
     (void)format;
-    return of_one(movaliren_stamp_batch(value, 1, 0, room, room_len + 1), room);
+    return of_one(movaliren_stamp_utc_batch(value, 1, 0, room, room_len + 1), room);
 }
 
 /* ---- moments with an offset */
@@ -91,11 +91,11 @@ static const struct {
     { iso8601, iso8601_batch, MOMENT(2000, 1, 1, 0, 0, 0, 0, -1, 1, 0), 0,
         MOVALIREN_ERROR_OFFSET_MINUTES },
     { rfc3339, rfc3339_batch, MOMENT(10000, 1, 1, 0, 0, 0, 0, 24, 0, 1), 0,
-        MOVALIREN_ERROR_NO_PLACE_FOR_YEAR },
+        MOVALIREN_ERROR_FORMAT_YEAR },
     { rfc3339, rfc3339_batch, MOMENT(2000, 1, 1, 0, 0, 0, 0, 24, 0, 1), 0,
-        MOVALIREN_ERROR_NO_PLACE_FOR_OFFSET_HOUR },
+        MOVALIREN_ERROR_FORMAT_OFFSET_HOUR },
     { rfc3339, rfc3339_batch, MOMENT(2000, 1, 1, 0, 0, 0, 0, 23, 59, 1), 0,
-        MOVALIREN_ERROR_NO_PLACE_FOR_OFFSET_SECOND },
+        MOVALIREN_ERROR_FORMAT_OFFSET_SECOND },
     { rfc3339, rfc3339_batch, MOMENT(1000000, 13, 1, 0, 0, 0, 0, 0, 0, 0), 0, MOVALIREN_ERROR_YEAR },
     { rfc3339, rfc3339_batch, MOMENT(2000, 13, 32, 0, 0, 0, 0, 0, 0, 0), 0, MOVALIREN_ERROR_MONTH },
     { rfc3339, rfc3339_batch, MOMENT(2000, 2, 30, 24, 0, 0, 0, 0, 0, 0), 0, MOVALIREN_ERROR_DAY },
@@ -120,15 +120,15 @@ static const struct {
     { rfc2822, rfc2822_batch, MOMENT(1970, 1, 1, 0, 0, 0, 0, 0, 0, 0),
         "Thu, 01 Jan 1970 00:00:00 +0000", 0 },
     { rfc2822, rfc2822_batch, MOMENT(1899, 12, 31, 0, 0, 0, 0, 0, 0, 1), 0,
-        MOVALIREN_ERROR_NO_PLACE_FOR_YEAR },
+        MOVALIREN_ERROR_FORMAT_YEAR },
     { rfc2822, rfc2822_batch, MOMENT(2000, 1, 1, 0, 0, 0, 0, 23, 59, 1), 0,
-        MOVALIREN_ERROR_NO_PLACE_FOR_OFFSET_SECOND },
+        MOVALIREN_ERROR_FORMAT_OFFSET_SECOND },
     { iso8601, iso8601_batch, MOMENT(1997, 11, 12, 9, 55, 6, 0, -6, 0, 0),
         "1997-11-12T09:55:06.000000000-06:00", 0 },
     { iso8601, iso8601_batch, MOMENT(70000, 1, 1, 0, 0, 0, 0, 0, 0, 1), 0,
-        MOVALIREN_ERROR_NO_PLACE_FOR_YEAR },
+        MOVALIREN_ERROR_FORMAT_YEAR },
     { iso8601, iso8601_batch, MOMENT(2000, 1, 1, 0, 0, 0, 0, 1, 0, 1), 0,
-        MOVALIREN_ERROR_NO_PLACE_FOR_OFFSET_SECOND },
+        MOVALIREN_ERROR_FORMAT_OFFSET_SECOND },
 };
 
 static void try_moments(void)
@@ -147,14 +147,14 @@ static void try_moments(void)
  * separators, six digits, comma */
 
 static const struct {
-    struct movaliren_iso_config config;
+    struct movaliren_iso8601_config config;
     struct movaliren_moment moment;
     const char *text;
     int error;
 } config_rows[] = {
-    { MOVALIREN_ISO_DEFAULT, MOMENT(1997, 11, 12, 9, 55, 6, 0, -6, 0, 0),
+    { MOVALIREN_ISO8601_DEFAULT, MOMENT(1997, 11, 12, 9, 55, 6, 0, -6, 0, 0),
         "1997-11-12T09:55:06.000000000-06:00", 0 },
-    { MOVALIREN_ISO_DECIMALS(3), MOMENT(1997, 11, 12, 15, 55, 6, 120000000, 0, 0, 0),
+    { MOVALIREN_ISO8601_DECIMALS(3), MOMENT(1997, 11, 12, 15, 55, 6, 120000000, 0, 0, 0),
         "1997-11-12T15:55:06.120Z", 0 },
     { { 5, 0, 2, 9, 1, 1, 0, 1 }, MOMENT(1997, 11, 12, 9, 55, 6, 0, -6, 0, 0),
         "1997-11-12T09:55:06,000000000-06:00", 0 },
@@ -165,9 +165,9 @@ static const struct {
     { { 1, 2, 2, 9, 1, 0, 0, 0 }, MOMENT(1997, 11, 12, 0, 0, 0, 0, 0, 0, 0), "1997316", 0 },
     { { 1, 0, 2, 9, 1, 1, 1, 0 }, MOMENT(1997, 11, 12, 0, 0, 0, 0, 0, 0, 0), "+001997-11-12", 0 },
     { { 1, 1, 2, 9, 1, 1, 0, 0 }, MOMENT(0, 1, 1, 0, 0, 0, 0, 0, 0, 0), 0,
-        MOVALIREN_ERROR_NO_PLACE_FOR_YEAR },
+        MOVALIREN_ERROR_FORMAT_YEAR },
     { { 1, 0, 2, 9, 1, 1, 0, 0 }, MOMENT(-60000, 1, 1, 0, 0, 0, 0, 0, 0, 0), 0,
-        MOVALIREN_ERROR_NO_PLACE_FOR_YEAR },
+        MOVALIREN_ERROR_FORMAT_YEAR },
     { { 2, 0, 2, 0, 1, 0, 0, 0 }, MOMENT(1997, 11, 12, 9, 55, 6, 0, 0, 0, 0), "T095506", 0 },
     { { 2, 0, 0, 3, 1, 1, 0, 0 }, MOMENT(1997, 11, 12, 9, 55, 6, 0, 0, 0, 0), "09.918", 0 },
     { { 2, 0, 1, 2, 1, 0, 0, 0 }, MOMENT(1997, 11, 12, 9, 55, 6, 0, 0, 0, 0), "T0955.10", 0 },
@@ -180,7 +180,7 @@ static const struct {
     { { 6, 0, 2, 9, 1, 1, 0, 0 }, MOMENT(1997, 11, 12, 0, 0, 0, 0, 0, 0, 0),
         "00:00:00.000000000Z", 0 },
     { { 3, 0, 2, 9, 0, 1, 0, 0 }, MOMENT(1997, 11, 12, 0, 0, 0, 0, 5, 30, 0), 0,
-        MOVALIREN_ERROR_NO_PLACE_FOR_OFFSET_MINUTE },
+        MOVALIREN_ERROR_FORMAT_OFFSET_MINUTE },
     { { 0, 0, 2, 9, 1, 1, 0, 0 }, MOMENT(1997, 11, 12, 0, 0, 0, 0, 0, 0, 0), 0,
         MOVALIREN_ERROR_BAD_CONFIG },
     { { 0, 0, 0, 0, 0, 0, 0, 0 }, MOMENT(1997, 11, 12, 0, 0, 0, 0, 0, 0, 0), 0,
@@ -221,24 +221,24 @@ static const char *long_text(char *text, const char *first, const char *middle, 
 static void try_long_decimals(void)
 {
     char text[WIDE];
-    struct movaliren_iso_config config = { 2, 0, 2, 255, 1, 1, 0, 0 };
+    struct movaliren_iso8601_config config = { 2, 0, 2, 255, 1, 1, 0, 0 };
     struct movaliren_moment moment = example;
     moment.hour = moment.minute = moment.second = 0;
     moment.nanosecond = 1;
     expect_text(
         iso8601_by, &config, &moment, long_text(text, "00:00:00.00000000", "1", '0', 246));
-    config.time_precision = MOVALIREN_ISO_HOUR;
+    config.time_precision = MOVALIREN_ISO8601_TO_HOUR;
     moment.hour = 23, moment.minute = moment.second = 59, moment.nanosecond = 999999999;
     expect_text(iso8601_by, &config, &moment, long_text(text, "23.999999999999", "7", '2', 242));
-    config.time_precision = MOVALIREN_ISO_MINUTE;
+    config.time_precision = MOVALIREN_ISO8601_TO_MINUTE;
     moment.hour = moment.minute = 0, moment.second = 10, moment.nanosecond = 0;
     expect_text(iso8601_by, &config, &moment, long_text(text, "00:00.", "1", '6', 254));
 
     /* The widest text by any configuration. */
-    config = (struct movaliren_iso_config) { 5, 1, 2, 255, 1, 1, 1, 0 };
+    config = (struct movaliren_iso8601_config) { 5, 1, 2, 255, 1, 1, 1, 0 };
     moment.offset_hours = 1;
-    uint8_t room[MOVALIREN_ISO8601_BY_ROOM];
-    if (movaliren_iso8601_by(&config, &moment, room, sizeof room) != sizeof room) {
+    uint8_t room[MOVALIREN_ISO8601_WITH_SIZE];
+    if (movaliren_iso8601_with(&config, &moment, room, sizeof room) != sizeof room - 1) {
         failures++;
         puts("the widest text has another length");
     }
@@ -258,9 +258,9 @@ static void try_stamps(void)
         { { 0, 0 }, "1970-01-01T00:00:00.000000000Z", 0 },
         { { -62167219200, 0 }, "0000-01-01T00:00:00.000000000Z", 0 },
         { { 253402300799, 999999999 }, "9999-12-31T23:59:59.999999999Z", 0 },
-        { { 253402300800, 0 }, 0, MOVALIREN_ERROR_NO_PLACE_FOR_YEAR },
-        { { -62167219201, 0 }, 0, MOVALIREN_ERROR_NO_PLACE_FOR_YEAR },
-        { { 31494784780799, 0 }, 0, MOVALIREN_ERROR_NO_PLACE_FOR_YEAR },
+        { { 253402300800, 0 }, 0, MOVALIREN_ERROR_FORMAT_YEAR },
+        { { -62167219201, 0 }, 0, MOVALIREN_ERROR_FORMAT_YEAR },
+        { { 31494784780799, 0 }, 0, MOVALIREN_ERROR_FORMAT_YEAR },
         { { 31494784780800, 1000000000 }, 0, MOVALIREN_ERROR_MOMENT_SECONDS },
         { { -31619087596801, 0 }, 0, MOVALIREN_ERROR_MOMENT_SECONDS },
         { { INT64_MIN, 0 }, 0, MOVALIREN_ERROR_MOMENT_SECONDS },
@@ -301,7 +301,7 @@ struct clock {
 
 #define NOW c->moment.seconds, c->moment.nanosecond
 
-static const struct movaliren_iso_config milliseconds = MOVALIREN_ISO_DECIMALS(3);
+static const struct movaliren_iso8601_config milliseconds = MOVALIREN_ISO8601_DECIMALS(3);
 
 BY_THE_CLOCK(rfc3339_utc, movaliren_rfc3339_utc(NOW, room, room_len),
     movaliren_rfc3339_utc_batch(&c->moment, 1, 0, room, room_len + 1))
@@ -309,8 +309,8 @@ BY_THE_CLOCK(rfc2822_utc, movaliren_rfc2822_utc(NOW, room, room_len),
     movaliren_rfc2822_utc_batch(&c->moment, 1, 0, room, room_len + 1))
 BY_THE_CLOCK(iso8601_utc, movaliren_iso8601_utc(NOW, room, room_len),
     movaliren_iso8601_utc_batch(&c->moment, 1, 0, room, room_len + 1))
-BY_THE_CLOCK(milliseconds_utc, movaliren_iso8601_by_utc(&milliseconds, NOW, room, room_len),
-    movaliren_iso8601_by_utc_batch(&milliseconds, &c->moment, 1, 0, room, room_len + 1))
+BY_THE_CLOCK(milliseconds_utc, movaliren_iso8601_with_utc(&milliseconds, NOW, room, room_len),
+    movaliren_iso8601_with_utc_batch(&milliseconds, &c->moment, 1, 0, room, room_len + 1))
 static ptrdiff_t iso8601_local(
     const void *format, const void *value, uint8_t *room, size_t room_len)
 {
@@ -324,7 +324,7 @@ static ptrdiff_t milliseconds_local(
 {
     const struct clock *c = value;
     (void)format;
-    return movaliren_iso8601_by_local(&milliseconds, NOW, c->offset, room, room_len);
+    return movaliren_iso8601_with_local(&milliseconds, NOW, c->offset, room, room_len);
 }
 
 BY_THE_CLOCK(rfc3339_local, movaliren_rfc3339_local(NOW, c->offset, room, room_len),
@@ -345,24 +345,24 @@ static void try_the_clock(void)
     } rows[] = {
         { BOTH(rfc3339_utc), { { 482196050, 520000000 }, 0 }, "1985-04-12T23:20:50.52Z", 0 },
         { BOTH(rfc3339_utc), { { -1, 999999999 }, 0 }, "1969-12-31T23:59:59.999999999Z", 0 },
-        { BOTH(rfc3339_utc), { { 253402300800, 0 }, 0 }, 0, MOVALIREN_ERROR_NO_PLACE_FOR_YEAR },
+        { BOTH(rfc3339_utc), { { 253402300800, 0 }, 0 }, 0, MOVALIREN_ERROR_FORMAT_YEAR },
         { BOTH(rfc3339_utc), { { INT64_MAX, 0 }, 0 }, 0, MOVALIREN_ERROR_MOMENT_SECONDS },
         { BOTH(rfc3339_utc), { { 0, 1000000000 }, 0 }, 0, MOVALIREN_ERROR_NANOSECOND },
         { BOTH(rfc2822_utc), { { 880127706, 0 }, 0 }, "Fri, 21 Nov 1997 15:55:06 +0000", 0 },
-        { BOTH(rfc2822_utc), { { -2208988801, 0 }, 0 }, 0, MOVALIREN_ERROR_NO_PLACE_FOR_YEAR },
+        { BOTH(rfc2822_utc), { { -2208988801, 0 }, 0 }, 0, MOVALIREN_ERROR_FORMAT_YEAR },
         { BOTH(iso8601_utc), { { 482196050, 520000000 }, 0 }, "1985-04-12T23:20:50.520000000Z", 0 },
         { BOTH(milliseconds_utc), { { 482196050, 520000000 }, 0 }, "1985-04-12T23:20:50.520Z", 0 },
         { BOTH(rfc3339_local), { { 851042397, 0 }, -28800 }, "1996-12-19T16:39:57-08:00", 0 },
         { BOTH(rfc3339_local), { { -1041337173, 870000000 }, 1200 },
             "1937-01-01T12:00:27.87+00:20", 0 },
-        { BOTH(rfc3339_local), { { 253402300799, 0 }, 1800 }, 0, MOVALIREN_ERROR_NO_PLACE_FOR_YEAR },
-        { BOTH(rfc3339_local), { { 0, 0 }, -86400 }, 0, MOVALIREN_ERROR_NO_PLACE_FOR_OFFSET_HOUR },
-        { BOTH(rfc3339_local), { { 0, 0 }, 3601 }, 0, MOVALIREN_ERROR_NO_PLACE_FOR_OFFSET_SECOND },
+        { BOTH(rfc3339_local), { { 253402300799, 0 }, 1800 }, 0, MOVALIREN_ERROR_FORMAT_YEAR },
+        { BOTH(rfc3339_local), { { 0, 0 }, -86400 }, 0, MOVALIREN_ERROR_FORMAT_OFFSET_HOUR },
+        { BOTH(rfc3339_local), { { 0, 0 }, 3601 }, 0, MOVALIREN_ERROR_FORMAT_OFFSET_SECOND },
         { BOTH(rfc3339_local), { { 0, 0 }, 93600 }, 0, MOVALIREN_ERROR_OFFSET_HOURS },
         { BOTH(rfc3339_local), { { 0, 1000000000 }, INT64_MIN }, 0, MOVALIREN_ERROR_NANOSECOND },
         /* a moment that there is, whose local date is of the year 1000000 or -1000000 */
-        { BOTH(rfc3339_local), { { 31494784780799, 0 }, 60 }, 0, MOVALIREN_ERROR_NO_PLACE_FOR_YEAR },
-        { BOTH(rfc2822_local), { { -31619087596800, 0 }, -1 }, 0, MOVALIREN_ERROR_NO_PLACE_FOR_YEAR },
+        { BOTH(rfc3339_local), { { 31494784780799, 0 }, 60 }, 0, MOVALIREN_ERROR_FORMAT_YEAR },
+        { BOTH(rfc2822_local), { { -31619087596800, 0 }, -1 }, 0, MOVALIREN_ERROR_FORMAT_YEAR },
         { BOTH(rfc3339_local), { { 31494784780800, 0 }, -60 }, 0, MOVALIREN_ERROR_MOMENT_SECONDS },
         { BOTH(rfc2822_local), { { -31619087596801, 0 }, 1 }, 0, MOVALIREN_ERROR_MOMENT_SECONDS },
         { BOTH(rfc2822_local), { { 880127706, 0 }, -21600 }, "Fri, 21 Nov 1997 09:55:06 -0600", 0 },
@@ -373,9 +373,9 @@ static void try_the_clock(void)
         { ALONE(iso8601_local), { { 0, 1000000000 }, 93600 }, 0, MOVALIREN_ERROR_NANOSECOND },
         { ALONE(milliseconds_local), { { -1041337173, 870000000 }, 1200 },
             "1937-01-01T12:00:27.870+00:20", 0 },
-        { ALONE(milliseconds_local), { { 0, 0 }, 1 }, 0, MOVALIREN_ERROR_NO_PLACE_FOR_OFFSET_SECOND },
+        { ALONE(milliseconds_local), { { 0, 0 }, 1 }, 0, MOVALIREN_ERROR_FORMAT_OFFSET_SECOND },
         { ALONE(milliseconds_local), { { 253402300799, 0 }, 1800 }, 0,
-            MOVALIREN_ERROR_NO_PLACE_FOR_YEAR },
+            MOVALIREN_ERROR_FORMAT_YEAR },
     };
     for (size_t i = 0; i < sizeof rows / sizeof *rows; i++) {
         writer *writers[] = { rows[i].write, rows[i].batch };
@@ -397,7 +397,7 @@ static void expect_true(int is_right, const char *text, const char *name)
 
 /* ---- times of log lines: the texts of RFC 3339, section 5.8, and those of the call that keeps nothing */
 
-static struct movaliren_log kept;
+static struct movaliren_log_cache kept;
 
 static ptrdiff_t log_time(const void *format, const void *value, uint8_t *room, size_t room_len)
 {
@@ -422,9 +422,9 @@ static void try_log_times(void)
         { 0, { { 851042397, 0 }, -28800 }, "1996-12-19T16:39:57-08:00", 0 },
         { 1, { { 851042397, 987654321 }, -28800 }, "1996-12-19T16:39:57.9-08:00", 0 },
         { 3, { { 851042397, 1000000000 }, -28800 }, 0, MOVALIREN_ERROR_NANOSECOND },
-        { 3, { { 851042397, 0 }, 1 }, 0, MOVALIREN_ERROR_NO_PLACE_FOR_OFFSET_SECOND },
+        { 3, { { 851042397, 0 }, 1 }, 0, MOVALIREN_ERROR_FORMAT_OFFSET_SECOND },
         { 3, { { 851042397, 0 }, 93600 }, 0, MOVALIREN_ERROR_OFFSET_HOURS },
-        { 3, { { 253402300800, 0 }, 0 }, 0, MOVALIREN_ERROR_NO_PLACE_FOR_YEAR },
+        { 3, { { 253402300800, 0 }, 0 }, 0, MOVALIREN_ERROR_FORMAT_YEAR },
         { 3, { { INT64_MAX, 0 }, 0 }, 0, MOVALIREN_ERROR_MOMENT_SECONDS },
         { 3, { { -1, 1000000 }, 0 }, "1969-12-31T23:59:59.001Z", 0 },
         { 3, { { 0, 0 }, 0 }, "1970-01-01T00:00:00.000Z", 0 },
@@ -443,14 +443,14 @@ static void try_random_log_times(void)
     uint64_t random = 88172645463325252u;
     for (int i = 0; i < 10000; i++) {
         random ^= random << 13, random ^= random >> 7, random ^= random << 17;
-        const struct movaliren_iso_config config = MOVALIREN_ISO_DECIMALS((uint8_t)(random % 12));
+        const struct movaliren_iso8601_config config = MOVALIREN_ISO8601_DECIMALS((uint8_t)(random % 12));
         const int64_t seconds = (int64_t)(random >> 20 & 3) + (random >> 22 & 31 ? 253402300797 : 0);
         const uint32_t nanosecond = (uint32_t)(random >> 32) % 1000000010;
         const int64_t offset = random >> 27 & 7 ? offsets[0] : offsets[(random >> 30) % 6];
         const size_t len = random >> 60 ? 40 : random >> 40 & 31;
         uint8_t line[40] = { 0 }, wanted[40] = { 0 };
         const ptrdiff_t n = movaliren_log_time(&kept, config.decimals, seconds, nanosecond, offset, line, len);
-        expect_true(n == movaliren_iso8601_by_local(&config, seconds, nanosecond, offset, wanted, len)
+        expect_true(n == movaliren_iso8601_with_local(&config, seconds, nanosecond, offset, wanted, len)
                 && !memcmp(line, wanted, sizeof line),
             (const char *)wanted, "another time of a log");
     }
@@ -513,12 +513,12 @@ static void try_reading(size_t i, int is_lenient)
 {
     const char *text = read_rows[i].text, *words = is_lenient ? read_rows[i].lenient : read_rows[i].strict;
     const struct movaliren_moment before = MOMENT(-7, 7, 7, 7, 7, 7, 7, 7, 7, 7);
-    const struct movaliren_place no_place = { 77, 77, 77, 77, 77, 77 };
+    const struct movaliren_read_error no_place = { 77, 77, 77, 77, 77, 77 };
     struct movaliren_moment moment = before, wanted = words ? before : read_rows[i].moment;
     struct movaliren_utc_moment utc = { -7, 7 };
-    struct movaliren_place place = no_place, place_of_utc = no_place;
+    struct movaliren_read_error place = no_place, place_of_utc = no_place;
     const size_t len = strlen(text);
-    char said[MOVALIREN_PLACE_ROOM];
+    char said[MOVALIREN_READ_MESSAGE_SIZE];
     const ptrdiff_t error = words ? MOVALIREN_ERROR_NOT_READ : 0;
     ptrdiff_t answer, of_utc;
     if (is_lenient) {
@@ -534,7 +534,7 @@ static void try_reading(size_t i, int is_lenient)
     expect_true(utc.nanosecond == (words ? 7 : read_rows[i].utc.nanosecond), text, "another nanosecond");
     expect_true(place.at == place_of_utc.at && (words || place.at == 77), text, "another place");
     if (words)
-        expect_true(!strcmp(movaliren_place_text(&place, said), words), words, said);
+        expect_true(!strcmp(movaliren_read_error_message(&place, said), words), words, said);
 }
 
 static void try_reading_all(void)
@@ -549,7 +549,7 @@ static ptrdiff_t error_words(
     const void *format, const void *value, uint8_t *room, size_t room_len)
 {
     (void)format;
-    return movaliren_error_words(*(const ptrdiff_t *)value, room, room_len);
+    return movaliren_strerror_r(*(const ptrdiff_t *)value, room, room_len);
 }
 
 /* The words of the library are those of the header. */
@@ -557,29 +557,29 @@ static void try_words(void)
 {
     const ptrdiff_t others[] = { PTRDIFF_MIN, MOVALIREN_ERROR_MANY_ITEMS - 1, 0, 1, PTRDIFF_MAX };
     for (ptrdiff_t reason = MOVALIREN_ERROR_MANY_ITEMS; reason < 0; reason++) {
-        expect_text(error_words, 0, &reason, movaliren_error_text(reason));
-        expect_true(strlen(movaliren_error_text(reason)) <= 200, movaliren_error_text(reason), "longer than is said");
+        expect_text(error_words, 0, &reason, movaliren_strerror(reason));
+        expect_true(strlen(movaliren_strerror(reason)) <= 200, movaliren_strerror(reason), "longer than is said");
     }
     for (size_t i = 0; i < sizeof others / sizeof *others; i++)
-        expect_text(error_words, 0, &others[i], movaliren_error_text(others[i]));
+        expect_text(error_words, 0, &others[i], movaliren_strerror(others[i]));
 }
 
 static void try_version(void)
 {
-    char line[MOVALIREN_RFC3339_ROOM + 1];
+    char line[MOVALIREN_RFC3339_SIZE];
     const unsigned version = movaliren_version();
     snprintf(line, sizeof line, "%u.%u.%u", version / 10000, version / 100 % 100, version % 100);
     expect_true(!strcmp(line, MOVALIREN_VERSION), line, "the version");
     expect_true(version == MOVALIREN_VERSION_NUMBER, line, "the number of the version");
-    expect_true(MOVALIREN_STRING(line, movaliren_rfc3339_utc, 0, 0) == 20, line, "the count");
+    expect_true(MOVALIREN_TO_ARRAY(line, movaliren_rfc3339_utc, 0, 0) == 20, line, "the count");
     expect_true(!strcmp(line, "1970-01-01T00:00:00Z"), line, "a string");
-    expect_true(MOVALIREN_STRING(line, movaliren_rfc3339_utc, 0, 1000000000) == MOVALIREN_ERROR_NANOSECOND, line,
+    expect_true(MOVALIREN_TO_ARRAY(line, movaliren_rfc3339_utc, 0, 1000000000) == MOVALIREN_ERROR_NANOSECOND, line,
         "the error");
     expect_true(!*line, line, "a string after an error");
     char twenty[20], more[21];
-    expect_true(MOVALIREN_STRING(twenty, movaliren_rfc3339_utc, 0, 0) == MOVALIREN_ERROR_NO_ROOM && !*twenty, "20 bytes",
+    expect_true(MOVALIREN_TO_ARRAY(twenty, movaliren_rfc3339_utc, 0, 0) == MOVALIREN_ERROR_BUFFER_TOO_SMALL && !*twenty, "20 bytes",
         "a string without its zero");
-    expect_true(MOVALIREN_STRING(more, movaliren_rfc3339_utc, 0, 0) == 20 && !more[20], more, "a string that fills its array");
+    expect_true(MOVALIREN_TO_ARRAY(more, movaliren_rfc3339_utc, 0, 0) == 20 && !more[20], more, "a string that fills its array");
 }
 
 /* ---- batches */
@@ -587,12 +587,12 @@ static void try_version(void)
 static void expect_progress(struct movaliren_progress progress, size_t moments, size_t bytes,
     ptrdiff_t reason, const uint8_t *room, const char *text)
 {
-    if (progress.moments == moments && progress.bytes == bytes && progress.reason == reason
+    if (progress.moments == moments && progress.bytes == bytes && progress.error == reason
         && !memcmp(room, text, strlen(text)))
         return;
     failures++;
     printf("a batch: %zu moments, %zu bytes, %td, %.*s\n", progress.moments, progress.bytes,
-        progress.reason, (int)progress.bytes, room);
+        progress.error, (int)progress.bytes, room);
 }
 
 static void try_batches(void)
@@ -607,9 +607,9 @@ static void try_batches(void)
         memset(room, FILL, sizeof room);
         struct movaliren_progress progress = movaliren_rfc3339_batch(moments, 3, '\n', room, len);
         if (len < 26)
-            expect_progress(progress, 0, 0, MOVALIREN_ERROR_NO_ROOM, room, "#");
+            expect_progress(progress, 0, 0, MOVALIREN_ERROR_BUFFER_TOO_SMALL, room, "#");
         else if (len < 47)
-            expect_progress(progress, 1, 26, MOVALIREN_ERROR_NO_ROOM, room, first);
+            expect_progress(progress, 1, 26, MOVALIREN_ERROR_BUFFER_TOO_SMALL, room, first);
         else
             expect_progress(progress, 2, 47, MOVALIREN_ERROR_MONTH, room, both);
     }
@@ -624,8 +624,8 @@ static void try_empty_slices(void)
     uint8_t none = FILL;
     const struct movaliren_utc_moment epoch = { 0, 0 };
     expect_progress(movaliren_rfc3339_batch(&example, 0, '\n', &none, 0), 0, 0, 0, &none, "#");
-    expect_progress(movaliren_stamp_batch(&epoch, 0, '\n', &none, 0), 0, 0, 0, &none, "#");
-    expect_progress(movaliren_stamp_batch(&epoch, 1, '\n', &none, 0), 0, 0, MOVALIREN_ERROR_NO_ROOM,
+    expect_progress(movaliren_stamp_utc_batch(&epoch, 0, '\n', &none, 0), 0, 0, 0, &none, "#");
+    expect_progress(movaliren_stamp_utc_batch(&epoch, 1, '\n', &none, 0), 0, 0, MOVALIREN_ERROR_BUFFER_TOO_SMALL,
         &none, "#");
 }
 

@@ -53,9 +53,9 @@ static void texts()
     expect("three decimals at an offset", movaliren::iso8601(at(seconds(851042397)), hours(-8), 3).value(),
         "1996-12-19T16:39:57.000-08:00");
     expect("a stamp", movaliren::stamp(at(nanoseconds(1))).value(), "1970-01-01T00:00:00.000000001Z");
-    const movaliren_iso_config date = { MOVALIREN_ISO_DATE, MOVALIREN_ISO_WEEK, 0, 0, 0, 1, 0, 0 };
+    const movaliren_iso8601_config date = { MOVALIREN_ISO8601_PARTS_DATE, MOVALIREN_ISO8601_BY_WEEK, 0, 0, 0, 1, 0, 0 };
     expect("a week date", movaliren::iso8601(at(hours(0)), date).value(), "1970-W01-4");
-    const movaliren_moment moment = { 1937, 870000000, 1, 1, 12, 0, 27, 0, 20, 0 };
+    const movaliren_moment moment = { 1937, 1, 1, 12, 0, 27, 870000000, 0, 20, 0 };
     expect("a date at an offset", movaliren::iso8601(at(hours(0)), hours(-1), date).value(), "1970-W01-3");
     expect("a moment", movaliren::rfc3339(moment).value(), "1937-01-01T12:00:27.87+00:20");
     expect("a moment by RFC 2822", movaliren::rfc2822(moment).value(), "Fri, 01 Jan 1937 12:00:27 +0020");
@@ -73,7 +73,7 @@ static void durations()
     expect("nearly a second", movaliren::rfc3339(at(duration<long double>(std::nextafter(1.0L, 0.0L)))).value(),
         "1970-01-01T00:00:00.999999999Z");
     expect("barely below 1970", movaliren::rfc3339(at(duration<double>(-1e-30))).value(), "1969-12-31T23:59:59.999999999Z");
-    const auto far = movaliren::description().add(MOVALIREN_YEAR_EXTENDED).add("-").add(MOVALIREN_MONTH);
+    const auto far = movaliren::description().add(MOVALIREN_KIND_YEAR_EXTENDED).add("-").add(MOVALIREN_KIND_MONTH);
     expect("10^13 seconds", far.format(at(seconds(10000000000000))), "+318857-05");
     using gregorian_years = duration<std::int64_t, std::ratio<31556952>>;
     expect_error("years", movaliren::rfc3339(at(gregorian_years(INT64_MAX))).error(), errc::moment_seconds);
@@ -86,7 +86,7 @@ static void durations()
 static void errors()
 {
     const auto far = movaliren::rfc2822(at(seconds(-2208988801)));
-    expect_error("the year 1899", far.error(), errc::no_place_for_year);
+    expect_error("the year 1899", far.error(), errc::format_year);
     expect("an error's text", far.view(), "");
     expect("an error's category", far.error().category().name(), "movaliren");
     expect_error("an offset of 26 hours", movaliren::rfc3339(at(seconds(0)), hours(26)).error(), errc::offset_hours);
@@ -98,37 +98,38 @@ static void errors()
         (void)far.value();
         failed++;
     } catch (const std::system_error &error) {
-        expect_error("thrown", error.code(), errc::no_place_for_year);
+        expect_error("thrown", error.code(), errc::format_year);
     }
     std::ostringstream out;
     out << movaliren::rfc3339(at(seconds(0)));
     expect("a stream", out.str(), "1970-01-01T00:00:00Z");
-    out << far;
-    expect("a stream after an error", out.fail() ? "failed" : "well", "failed");
+    out << ' ' << far << " stopped";
+    expect("a stream after an error", out.str(),
+        "1970-01-01T00:00:00Z <the format cannot represent the year> stopped");
 }
 
 static void descriptions()
 {
-    const auto day = movaliren::description().add(MOVALIREN_DAY, MOVALIREN_NO_PADDING).add(" of ").add(MOVALIREN_MONTH_LONG);
+    const auto day = movaliren::description().add(MOVALIREN_KIND_DAY, MOVALIREN_PAD_NONE).add(" of ").add(MOVALIREN_KIND_MONTH_LONG);
     expect("a description", day.format(at(seconds(880127706))), "21 of November");
-    const auto texts = movaliren::description().add("day ").add(MOVALIREN_DAY).add(" of the month");
+    const auto texts = movaliren::description().add("day ").add(MOVALIREN_KIND_DAY).add(" of the month");
     expect("two texts", texts.format(at(seconds(880127706))), "day 21 of the month");
-    const movaliren_moment moment = { 1937, 0, 1, 1, 12, 0, 27, 0, 20, 0 };
+    const movaliren_moment moment = { 1937, 1, 1, 12, 0, 27, 0, 0, 20, 0 };
     expect("of a moment", day.format(moment), "1 of January");
     expect("at an offset", day.format(at(seconds(880127706)), hours(9)), "22 of November");
-    expect("its width", std::to_string(day.width()), "15");
+    expect("its greatest length", std::to_string(day.max_length()), "15");
     expect("a length", std::to_string(day.length(at(seconds(880127706)))), "14");
     expect("of a moment", std::to_string(day.length(moment)), "12");
     expect("at an offset", std::to_string(day.length(at(seconds(880127706)), hours(9))), "14");
     expect("nothing", movaliren::description().format(moment), "");
-    const auto usual = movaliren::description().add(MOVALIREN_PERIOD).add(MOVALIREN_WEEKDAY_FROM_SUNDAY);
+    const auto usual = movaliren::description().add(MOVALIREN_KIND_PERIOD).add(MOVALIREN_KIND_WEEKDAY_FROM_SUNDAY);
     expect("usual choices", usual.format(moment), "PM6");
-    const auto chosen = movaliren::description().add(MOVALIREN_PERIOD, MOVALIREN_ZERO, false)
-        .add(MOVALIREN_HOUR_12, MOVALIREN_SPACE).add(MOVALIREN_SUBSECOND, MOVALIREN_ZERO, false, 3)
-        .add(MOVALIREN_OFFSET_HOUR, MOVALIREN_ZERO, true);
+    const auto chosen = movaliren::description().add(MOVALIREN_KIND_PERIOD, MOVALIREN_PAD_ZERO, false)
+        .add(MOVALIREN_KIND_HOUR_12, MOVALIREN_PAD_SPACE).add(MOVALIREN_KIND_SUBSECOND, MOVALIREN_PAD_ZERO, false, 3)
+        .add(MOVALIREN_KIND_OFFSET_HOUR, MOVALIREN_PAD_ZERO, true);
     expect("other choices", chosen.format(at(milliseconds(-10))), "pm11990+00");
-    const auto hour = movaliren::description().add(MOVALIREN_HOUR, MOVALIREN_NO_PADDING);
-    const auto spaced = movaliren::description().add(MOVALIREN_HOUR, MOVALIREN_SPACE);
+    const auto hour = movaliren::description().add(MOVALIREN_KIND_HOUR, MOVALIREN_PAD_NONE);
+    const auto spaced = movaliren::description().add(MOVALIREN_KIND_HOUR, MOVALIREN_PAD_SPACE);
     expect("a digit behind a space", spaced.format(at(hours(9))), " 9");
     expect("a length in UTC", std::to_string(hour.length(at(hours(9)))), "1");
     expect("a length at an offset", std::to_string(hour.length(at(hours(9)), hours(1))), "2");
@@ -161,8 +162,55 @@ static void descriptions_from_texts()
         failed++;
     } catch (const movaliren::invalid_description &error) {
         expect_error("no description", error.code(), errc::bad_description);
-        expect("its byte", std::to_string(error.fault().at), "4");
+        expect("its byte", std::to_string(error.parse_error().at), "4");
         expect("its words", std::string_view(error.what()).substr(0, 31), "unknown conversion `%Q` at byte");
+    }
+}
+
+// A type with the members of std::chrono::zoned_time, which not every library has.
+struct zoned {
+    struct info {
+        seconds offset;
+    };
+    info get_info() const { return { hours(-8) }; }
+    movaliren::sys_time<seconds> get_sys_time() const { return at(seconds(851042397)); }
+};
+
+// A type with the members of std::chrono::year_month_day.
+struct ymd {
+    int year() const { return 1997; }
+    unsigned month() const { return 11; }
+    unsigned day() const { return 21; }
+};
+
+static void other_values()
+{
+    expect("a zoned time", movaliren::rfc3339(zoned()).value(), "1996-12-19T16:39:57-08:00");
+    const auto line = movaliren::description::parse_strftime("%d of %B");
+    expect("a date", line.format(ymd()), "21 of November");
+    std::string out = "on ";
+    line.format_to(std::back_inserter(out), at(seconds(880127706)), hours(9));
+    expect("to an iterator", out, "on 22 of November");
+#if __cplusplus >= 202002L
+    expect("a local time", movaliren::rfc3339(local_time<seconds>(seconds(851013597)), hours(-8)).value(),
+        "1996-12-19T16:39:57-08:00");
+    expect("a year_month_day", line.format(year(1997) / 11 / 21), "21 of November");
+#endif
+}
+
+static void lines()
+{
+    movaliren_lines form = MOVALIREN_LINES(MOVALIREN_LINES_RFC3339);
+    const std::vector<movaliren::sys_time<milliseconds>> points = { at(milliseconds(-1)), at(milliseconds(0)) };
+    expect("two lines", movaliren::lines(form, points), "1969-12-31T23:59:59.999Z\n1970-01-01T00:00:00Z\n");
+    expect("no lines", movaliren::lines(form, std::vector<movaliren::sys_time<seconds>>()), "");
+    const movaliren::sys_time<seconds> wrong[] = { at(seconds(0)), at(seconds(253402300800)) };
+    try {
+        movaliren::lines(form, wrong);
+        failed++;
+    } catch (const movaliren::row_error &error) {
+        expect_error("a wrong row", error.code(), errc::format_year);
+        expect("its index", std::to_string(error.row()), "1");
     }
 }
 
@@ -171,6 +219,16 @@ static void readings()
     const auto moment = movaliren::read_rfc3339("1937-01-01T12:00:27.87+00:20");
     expect("read", moment ? std::to_string(moment.value().seconds) : moment.message(), "-1041337173");
     expect("its nanosecond", std::to_string(moment.value().nanosecond), "870000000");
+    expect("read and written", movaliren::rfc3339(moment.value()).value(), "1937-01-01T11:40:27.87Z");
+    expect("a time point", movaliren::rfc3339(movaliren::time_point_of(moment.value()), minutes(20)).value(),
+        "1937-01-01T12:00:27.87+00:20");
+    for (const std::int64_t far : { INT64_MAX / 1'000'000'000, INT64_MIN / 1'000'000'000 - 1 })
+        try {
+            (void)movaliren::time_point_of({ far, 0 });
+            failed++;
+        } catch (const std::system_error &error) {
+            expect_error("a far time point", error.code(), errc::moment_seconds);
+        }
     const auto local = movaliren::read_rfc3339_local("1996-12-19t16:39:57-08:00", movaliren::profile::lenient);
     expect("read locally", std::to_string(local.value().offset_hours), "-8");
     expect("read locally and strictly", movaliren::read_rfc3339_local("1996-12-19t16:39:57-08:00").message(),
@@ -218,7 +276,15 @@ static void formatted()
         (void)std::format("{}", movaliren::rfc2822(at(seconds(-2208988801))));
         failed++;
     } catch (const std::format_error &error) {
-        expect("std::format of an error", error.what(), make_error_code(errc::no_place_for_year).message());
+        expect("std::format of an error", error.what(), make_error_code(errc::format_year).message());
+    }
+    expect("a description", std::format("{:%d %B} and {}", movaliren::at(at(seconds(880127706))),
+        movaliren::at(at(seconds(880127706)), hours(-6))), "21 November and 1997-11-21T09:55:06-06:00");
+    try {
+        (void)std::format("{:%Q}", movaliren::at(at(seconds(0))));
+        failed++;
+    } catch (const std::format_error &error) {
+        expect("no description", error.what(), make_error_code(errc::bad_description).message());
     }
     std::cout << "std::format: checked\n";
 #endif
@@ -231,6 +297,8 @@ int main()
     errors();
     descriptions();
     descriptions_from_texts();
+    other_values();
+    lines();
     readings();
     random_moments();
     formatted();

@@ -18,53 +18,53 @@ static void expect_true(int is_right, const char *text, const char *name)
 
 static ptrdiff_t by(const void *format, const void *value, uint8_t *room, size_t room_len)
 {
-    return movaliren_by(format, value, room, room_len);
+    return movaliren_description_format(format, value, room, room_len);
 }
 
 static ptrdiff_t by_utc(const void *format, const void *value, uint8_t *room, size_t room_len)
 {
     const struct movaliren_utc_moment *moment = value;
-    return movaliren_by_utc(format, moment->seconds, moment->nanosecond, room, room_len);
+    return movaliren_description_format_utc(format, moment->seconds, moment->nanosecond, room, room_len);
 }
 
 static ptrdiff_t by_local(const void *format, const void *value, uint8_t *room, size_t room_len)
 {
     const struct movaliren_utc_moment *moment = value;
-    return movaliren_by_local(format, moment->seconds, moment->nanosecond, -21600, room, room_len);
+    return movaliren_description_format_local(format, moment->seconds, moment->nanosecond, -21600, room, room_len);
 }
 
 static ptrdiff_t by_date(const void *format, const void *value, uint8_t *room, size_t room_len)
 {
     const struct movaliren_moment *date = value;
-    return movaliren_by_date(format, date->year, date->month, date->day, room, room_len);
+    return movaliren_description_format_date(format, date->year, date->month, date->day, room, room_len);
 }
 
 /* The text is read and formatted by one call. */
 static ptrdiff_t strftime_utc(const void *format, const void *value, uint8_t *room, size_t room_len)
 {
     const struct movaliren_utc_moment *moment = value;
-    return movaliren_strftime_utc(
+    return movaliren_format_strftime_utc(
         format, strlen(format), moment->seconds, moment->nanosecond, room, room_len);
 }
 
 static ptrdiff_t strftime_local(const void *format, const void *value, uint8_t *room, size_t room_len)
 {
     const struct movaliren_utc_moment *moment = value;
-    return movaliren_strftime_local(
+    return movaliren_format_strftime_local(
         format, strlen(format), moment->seconds, moment->nanosecond, -21600, room, room_len);
 }
 
 static ptrdiff_t brackets_utc(const void *format, const void *value, uint8_t *room, size_t room_len)
 {
     const struct movaliren_utc_moment *moment = value;
-    return movaliren_brackets_utc(
+    return movaliren_format_brackets_utc(
         format, strlen(format), moment->seconds, moment->nanosecond, room, room_len);
 }
 
 static ptrdiff_t brackets_local(const void *format, const void *value, uint8_t *room, size_t room_len)
 {
     const struct movaliren_utc_moment *moment = value;
-    return movaliren_brackets_local(
+    return movaliren_format_brackets_local(
         format, strlen(format), moment->seconds, moment->nanosecond, -21600, room, room_len);
 }
 
@@ -79,30 +79,30 @@ static const struct {
     const char *utc;               /* in UTC */
     const char *date;              /* of the date, or none: the description needs more */
 } rows[] = {
-    { movaliren_parse_strftime, "%a, %d %b %Y %H:%M:%S %z", "Fri, 21 Nov 1997 09:55:06 -0600",
+    { movaliren_description_parse_strftime, "%a, %d %b %Y %H:%M:%S %z", "Fri, 21 Nov 1997 09:55:06 -0600",
         "Fri, 21 Nov 1997 15:55:06 +0000", 0 },
-    { movaliren_parse_strftime, "%FT%T.%3N%:z", "1997-11-21T09:55:06.120-06:00",
+    { movaliren_description_parse_strftime, "%FT%T.%3N%:z", "1997-11-21T09:55:06.120-06:00",
         "1997-11-21T15:55:06.120+00:00", 0 },
-    { movaliren_parse_strftime, "%G-W%V-%u %j", "1997-W47-5 325", "1997-W47-5 325", "1997-W47-5 325" },
-    { movaliren_parse_strftime, "%s%%%n%t%D", "880127706%\n\t11/21/97", "880127706%\n\t11/21/97", 0 },
-    { movaliren_parse_strftime, "%-d. %B %Y \xc3\xa0 %-I %p", "21. November 1997 \xc3\xa0 9 AM",
+    { movaliren_description_parse_strftime, "%G-W%V-%u %j", "1997-W47-5 325", "1997-W47-5 325", "1997-W47-5 325" },
+    { movaliren_description_parse_strftime, "%s%%%n%t%D", "880127706%\n\t11/21/97", "880127706%\n\t11/21/97", 0 },
+    { movaliren_description_parse_strftime, "%-d. %B %Y \xc3\xa0 %-I %p", "21. November 1997 \xc3\xa0 9 AM",
         "21. November 1997 \xc3\xa0 3 PM", 0 },
-    { movaliren_parse_strftime, "", "", "", "" },
-    { movaliren_parse, "[weekday repr:short], [day] [month repr:short] [year]", "Fri, 21 Nov 1997",
+    { movaliren_description_parse_strftime, "", "", "", "" },
+    { movaliren_description_parse, "[weekday repr:short], [day] [month repr:short] [year]", "Fri, 21 Nov 1997",
         "Fri, 21 Nov 1997", "Fri, 21 Nov 1997" },
-    { movaliren_parse, "[year]-[month]-[day]T[hour]:[minute]:[second].[subsecond digits:3][offset_hour sign:mandatory]:[offset_minute]",
+    { movaliren_description_parse, "[year]-[month]-[day]T[hour]:[minute]:[second].[subsecond digits:3][offset_hour sign:mandatory]:[offset_minute]",
         "1997-11-21T09:55:06.120-06:00", "1997-11-21T15:55:06.120+00:00", 0 },
-    { movaliren_parse, "\\[[day padding:none]\\] \\[\\\\", "[21] [\\", "[21] [\\", "[21] [\\" },
-    { movaliren_parse, "[year base:iso_week]-W[week_number]-[weekday repr:monday]", "1997-W47-5",
+    { movaliren_description_parse, "\\[[day padding:none]\\] \\[\\\\", "[21] [\\", "[21] [\\", "[21] [\\" },
+    { movaliren_description_parse, "[year base:iso_week]-W[week_number]-[weekday repr:monday]", "1997-W47-5",
         "1997-W47-5", "1997-W47-5" },
-    { movaliren_parse, "\xe6\x97\xa5 [hour repr:12]", "\xe6\x97\xa5 09", "\xe6\x97\xa5 03", 0 },
-    { movaliren_parse, "[first [[month]/[first [[day]] [x]]] [[hour]]][optional [ in [year]]][first]", "11/21 in 1997",
+    { movaliren_description_parse, "\xe6\x97\xa5 [hour repr:12]", "\xe6\x97\xa5 09", "\xe6\x97\xa5 03", 0 },
+    { movaliren_description_parse, "[first [[month]/[first [[day]] [x]]] [[hour]]][optional [ in [year]]][first]", "11/21 in 1997",
         "11/21 in 1997", "11/21 in 1997" },
-    { movaliren_parse, "[day][first [[optional [a[end]]]b] [[optional [c]][hour]]]d[ignore count:2]", "21abd", "21abd", "21abd" },
+    { movaliren_description_parse, "[day][first [[optional [a[end]]]b] [[optional [c]][hour]]]d[ignore count:2]", "21abd", "21abd", "21abd" },
     /* texts whose length depends on the offset, and on the nanosecond */
-    { movaliren_parse, "[hour padding:none]", "9", "15", 0 },
-    { movaliren_parse, "[second].[subsecond]", "06.12", "06.12", 0 },
-    { movaliren_parse, "", "", "", "" },
+    { movaliren_description_parse, "[hour padding:none]", "9", "15", 0 },
+    { movaliren_description_parse, "[second].[subsecond]", "06.12", "06.12", 0 },
+    { movaliren_description_parse, "", "", "", "" },
 };
 
 static void expect_length(ptrdiff_t length, const char *text, const char *format, const char *name)
@@ -113,13 +113,13 @@ static void expect_length(ptrdiff_t length, const char *text, const char *format
 static void try_lengths(const struct movaliren_description *line, size_t i)
 {
     const char *format = rows[i].format;
-    expect_length(movaliren_length_by(line, &mail), rows[i].text, format, "its length");
-    expect_length(movaliren_length_by_local(line, mail_utc.seconds, mail_utc.nanosecond, -21600), rows[i].text, format,
+    expect_length(movaliren_description_format_length(line, &mail), rows[i].text, format, "its length");
+    expect_length(movaliren_description_format_local_length(line, mail_utc.seconds, mail_utc.nanosecond, -21600), rows[i].text, format,
         "its length at an offset");
     expect_length(
-        movaliren_length_by_utc(line, mail_utc.seconds, mail_utc.nanosecond), rows[i].utc, format, "its length in UTC");
+        movaliren_description_format_utc_length(line, mail_utc.seconds, mail_utc.nanosecond), rows[i].utc, format, "its length in UTC");
     expect_length(
-        movaliren_length_by_date(line, mail.year, mail.month, mail.day), rows[i].date, format, "its length of a date");
+        movaliren_description_format_date_length(line, mail.year, mail.month, mail.day), rows[i].date, format, "its length of a date");
 }
 
 /* The lengths by one call, at six hours behind UTC and in UTC. */
@@ -127,10 +127,10 @@ static void expect_lengths(int is_strftime, const char *format, ptrdiff_t local,
 {
     const size_t len = strlen(format);
     const int64_t second = mail_utc.seconds;
-    const ptrdiff_t in_utc = is_strftime ? movaliren_strftime_utc_length(format, len, second, 120000000)
-                                         : movaliren_brackets_utc_length(format, len, second, 120000000);
-    const ptrdiff_t there = is_strftime ? movaliren_strftime_local_length(format, len, second, 120000000, -21600)
-                                        : movaliren_brackets_local_length(format, len, second, 120000000, -21600);
+    const ptrdiff_t in_utc = is_strftime ? movaliren_format_strftime_utc_length(format, len, second, 120000000)
+                                         : movaliren_format_brackets_utc_length(format, len, second, 120000000);
+    const ptrdiff_t there = is_strftime ? movaliren_format_strftime_local_length(format, len, second, 120000000, -21600)
+                                        : movaliren_format_brackets_local_length(format, len, second, 120000000, -21600);
     expect_true(in_utc == utc && there == local, format, "its length by one call");
 }
 
@@ -138,8 +138,9 @@ static void try_texts(void)
 {
     struct movaliren_item items[32];
     for (size_t i = 0; i < sizeof rows / sizeof *rows; i++) {
-        struct movaliren_description line = MOVALIREN_ITEMS(items);
-        const int is_strftime = rows[i].parse == movaliren_parse_strftime;
+        char copy_line[512];
+        struct movaliren_description line = MOVALIREN_DESCRIPTION_INIT(items, copy_line);
+        const int is_strftime = rows[i].parse == movaliren_description_parse_strftime;
         expect_true(rows[i].parse(&line, rows[i].format) == 0, rows[i].format, "not read");
         expect_text(by, &line, &mail, rows[i].text);
         expect_text(by_local, &line, &mail_utc, rows[i].text);
@@ -150,7 +151,7 @@ static void try_texts(void)
             expect_error(by_date, &line, &mail, MOVALIREN_ERROR_INSUFFICIENT);
         expect_text(is_strftime ? strftime_utc : brackets_utc, rows[i].format, &mail_utc, rows[i].utc);
         expect_text(is_strftime ? strftime_local : brackets_local, rows[i].format, &mail_utc, rows[i].text);
-        expect_true(movaliren_width_by(&line) >= (ptrdiff_t)strlen(rows[i].text), rows[i].format, "its width");
+        expect_true(movaliren_description_max_length(&line) >= (ptrdiff_t)strlen(rows[i].text), rows[i].format, "its width");
         try_lengths(&line, i);
         expect_lengths(is_strftime, rows[i].format, (ptrdiff_t)strlen(rows[i].text), (ptrdiff_t)strlen(rows[i].utc));
     }
@@ -165,35 +166,35 @@ static const struct {
     uint8_t reason, byte;
     const char *words;
 } faults[] = {
-    { movaliren_parse, "[year", 0, MOVALIREN_FAULT_UNCLOSED_BRACKET, 0, "unclosed bracket at byte 0" },
-    { movaliren_parse, "x\\y", 1, MOVALIREN_FAULT_INVALID_ESCAPE, 0, "invalid escape sequence at byte 1" },
-    { movaliren_parse, "a[]", 2, MOVALIREN_FAULT_MISSING_NAME, 0, "missing component name at byte 2" },
-    { movaliren_parse, "[yaer]", 1, MOVALIREN_FAULT_UNKNOWN_NAME, 0, "unknown component at byte 1" },
-    { movaliren_parse, "[day pad:none]", 5, MOVALIREN_FAULT_UNKNOWN_MODIFIER, 0, "unknown modifier at byte 5" },
-    { movaliren_parse, "[day padding:no]", 5, MOVALIREN_FAULT_INVALID_VALUE, 0, "invalid modifier value at byte 5" },
-    { movaliren_parse, "[ignore]", 7, MOVALIREN_FAULT_MISSING_MODIFIER, 0, "missing modifier `count` at byte 7" },
-    { movaliren_parse, "a[optional ]", 11, MOVALIREN_FAULT_MISSING_ITEMS, 0, "missing list of items at byte 11" },
-    { movaliren_parse, "[first [a] x]", 11, MOVALIREN_FAULT_UNEXPECTED_BYTE, 0, "unexpected text at byte 11" },
-    { movaliren_parse_strftime, "%H:%", 3, MOVALIREN_FAULT_UNFINISHED, 0, "unfinished conversion `%` at byte 3" },
-    { movaliren_parse_strftime, "at %Q", 4, MOVALIREN_FAULT_UNKNOWN_CONVERSION, 'Q', "unknown conversion `%Q` at byte 4" },
-    { movaliren_parse_strftime, "%\xc3\xa9", 1, MOVALIREN_FAULT_UNKNOWN_CONVERSION, 0xc3, "unknown conversion `%\\xc3` at byte 1" },
-    { movaliren_parse_strftime, "% d", 1, MOVALIREN_FAULT_UNKNOWN_CONVERSION, ' ', "unknown conversion `% ` at byte 1" },
-    { movaliren_parse_strftime, "%\t", 1, MOVALIREN_FAULT_UNKNOWN_CONVERSION, '\t', "unknown conversion `%\\t` at byte 1" },
-    { movaliren_parse_strftime, "%\r", 1, MOVALIREN_FAULT_UNKNOWN_CONVERSION, '\r', "unknown conversion `%\\r` at byte 1" },
-    { movaliren_parse_strftime, "%\n", 1, MOVALIREN_FAULT_UNKNOWN_CONVERSION, '\n', "unknown conversion `%\\n` at byte 1" },
-    { movaliren_parse_strftime, "%'", 1, MOVALIREN_FAULT_UNKNOWN_CONVERSION, '\'', "unknown conversion `%\\'` at byte 1" },
-    { movaliren_parse_strftime, "%\"", 1, MOVALIREN_FAULT_UNKNOWN_CONVERSION, '"', "unknown conversion `%\\\"` at byte 1" },
-    { movaliren_parse_strftime, "%\\", 1, MOVALIREN_FAULT_UNKNOWN_CONVERSION, '\\', "unknown conversion `%\\\\` at byte 1" },
-    { movaliren_parse_strftime, "%~", 1, MOVALIREN_FAULT_UNKNOWN_CONVERSION, '~', "unknown conversion `%~` at byte 1" },
-    { movaliren_parse_strftime, "%\x7f", 1, MOVALIREN_FAULT_UNKNOWN_CONVERSION, 0x7f, "unknown conversion `%\\x7f` at byte 1" },
-    { movaliren_parse_strftime, "%\x1f", 1, MOVALIREN_FAULT_UNKNOWN_CONVERSION, 0x1f, "unknown conversion `%\\x1f` at byte 1" },
-    { movaliren_parse_strftime, "%T %Z", 4, MOVALIREN_FAULT_ZONE_NAME, 0, "unsupported conversion `%Z` at byte 4" },
-    { movaliren_parse_strftime, "%Ey", 1, MOVALIREN_FAULT_LOCALE_MODIFIER, 'E', "unsupported modifier `%E` at byte 1" },
-    { movaliren_parse_strftime, "%5Y", 1, MOVALIREN_FAULT_FIELD_WIDTH, '5', "unsupported field width `%5` at byte 1" },
-    { movaliren_parse_strftime, "%^a", 1, MOVALIREN_FAULT_CASE_FLAG, '^', "unsupported flag `%^` at byte 1" },
-    { movaliren_parse_strftime, "%+", 1, MOVALIREN_FAULT_PLUS_FLAG, 0, "unsupported flag `%+` at byte 1" },
-    { movaliren_parse_strftime, "%-0d", 2, MOVALIREN_FAULT_SECOND_FLAG, '0', "second flag `0` at byte 2" },
-    { movaliren_parse_strftime, "%-F", 2, MOVALIREN_FAULT_FLAG_WITHOUT_NUMBER, 'F', "no flag is allowed before `F` at byte 2" },
+    { movaliren_description_parse, "[year", 0, MOVALIREN_PARSE_ERROR_UNCLOSED_BRACKET, 0, "unclosed bracket at byte 0" },
+    { movaliren_description_parse, "x\\y", 1, MOVALIREN_PARSE_ERROR_INVALID_ESCAPE, 0, "invalid escape sequence at byte 1" },
+    { movaliren_description_parse, "a[]", 2, MOVALIREN_PARSE_ERROR_MISSING_NAME, 0, "missing component name at byte 2" },
+    { movaliren_description_parse, "[yaer]", 1, MOVALIREN_PARSE_ERROR_UNKNOWN_NAME, 0, "unknown component at byte 1" },
+    { movaliren_description_parse, "[day pad:none]", 5, MOVALIREN_PARSE_ERROR_UNKNOWN_MODIFIER, 0, "unknown modifier at byte 5" },
+    { movaliren_description_parse, "[day padding:no]", 5, MOVALIREN_PARSE_ERROR_INVALID_VALUE, 0, "invalid modifier value at byte 5" },
+    { movaliren_description_parse, "[ignore]", 7, MOVALIREN_PARSE_ERROR_MISSING_MODIFIER, 0, "missing modifier `count` at byte 7" },
+    { movaliren_description_parse, "a[optional ]", 11, MOVALIREN_PARSE_ERROR_MISSING_ITEMS, 0, "missing list of items at byte 11" },
+    { movaliren_description_parse, "[first [a] x]", 11, MOVALIREN_PARSE_ERROR_UNEXPECTED_BYTE, 0, "unexpected text at byte 11" },
+    { movaliren_description_parse_strftime, "%H:%", 3, MOVALIREN_PARSE_ERROR_UNFINISHED, 0, "unfinished conversion `%` at byte 3" },
+    { movaliren_description_parse_strftime, "at %Q", 4, MOVALIREN_PARSE_ERROR_UNKNOWN_CONVERSION, 'Q', "unknown conversion `%Q` at byte 4" },
+    { movaliren_description_parse_strftime, "%\xc3\xa9", 1, MOVALIREN_PARSE_ERROR_UNKNOWN_CONVERSION, 0xc3, "unknown conversion `%\\xc3` at byte 1" },
+    { movaliren_description_parse_strftime, "% d", 1, MOVALIREN_PARSE_ERROR_UNKNOWN_CONVERSION, ' ', "unknown conversion `% ` at byte 1" },
+    { movaliren_description_parse_strftime, "%\t", 1, MOVALIREN_PARSE_ERROR_UNKNOWN_CONVERSION, '\t', "unknown conversion `%\\t` at byte 1" },
+    { movaliren_description_parse_strftime, "%\r", 1, MOVALIREN_PARSE_ERROR_UNKNOWN_CONVERSION, '\r', "unknown conversion `%\\r` at byte 1" },
+    { movaliren_description_parse_strftime, "%\n", 1, MOVALIREN_PARSE_ERROR_UNKNOWN_CONVERSION, '\n', "unknown conversion `%\\n` at byte 1" },
+    { movaliren_description_parse_strftime, "%'", 1, MOVALIREN_PARSE_ERROR_UNKNOWN_CONVERSION, '\'', "unknown conversion `%\\'` at byte 1" },
+    { movaliren_description_parse_strftime, "%\"", 1, MOVALIREN_PARSE_ERROR_UNKNOWN_CONVERSION, '"', "unknown conversion `%\\\"` at byte 1" },
+    { movaliren_description_parse_strftime, "%\\", 1, MOVALIREN_PARSE_ERROR_UNKNOWN_CONVERSION, '\\', "unknown conversion `%\\\\` at byte 1" },
+    { movaliren_description_parse_strftime, "%~", 1, MOVALIREN_PARSE_ERROR_UNKNOWN_CONVERSION, '~', "unknown conversion `%~` at byte 1" },
+    { movaliren_description_parse_strftime, "%\x7f", 1, MOVALIREN_PARSE_ERROR_UNKNOWN_CONVERSION, 0x7f, "unknown conversion `%\\x7f` at byte 1" },
+    { movaliren_description_parse_strftime, "%\x1f", 1, MOVALIREN_PARSE_ERROR_UNKNOWN_CONVERSION, 0x1f, "unknown conversion `%\\x1f` at byte 1" },
+    { movaliren_description_parse_strftime, "%T %Z", 4, MOVALIREN_PARSE_ERROR_ZONE_NAME, 0, "unsupported conversion `%Z` at byte 4" },
+    { movaliren_description_parse_strftime, "%Ey", 1, MOVALIREN_PARSE_ERROR_LOCALE_MODIFIER, 'E', "unsupported modifier `%E` at byte 1" },
+    { movaliren_description_parse_strftime, "%5Y", 1, MOVALIREN_PARSE_ERROR_FIELD_WIDTH, '5', "unsupported field width `%5` at byte 1" },
+    { movaliren_description_parse_strftime, "%^a", 1, MOVALIREN_PARSE_ERROR_CASE_FLAG, '^', "unsupported flag `%^` at byte 1" },
+    { movaliren_description_parse_strftime, "%+", 1, MOVALIREN_PARSE_ERROR_PLUS_FLAG, 0, "unsupported flag `%+` at byte 1" },
+    { movaliren_description_parse_strftime, "%-0d", 2, MOVALIREN_PARSE_ERROR_SECOND_FLAG, '0', "second flag `0` at byte 2" },
+    { movaliren_description_parse_strftime, "%-F", 2, MOVALIREN_PARSE_ERROR_FLAG_WITHOUT_NUMBER, 'F', "no flag is allowed before `F` at byte 2" },
 };
 
 /* Each way to format by a description that was not made whole is refused. */
@@ -204,26 +205,27 @@ static void expect_refused(const struct movaliren_description *line, int reason,
     expect_error(by_utc, line, &mail_utc, reason);
     expect_error(by_local, line, &mail_utc, reason);
     expect_error(by_date, line, &mail, reason);
-    expect_true(movaliren_width_by(line) == reason, name, "a width of none");
-    expect_true(line->items_room == 0
-            || movaliren_width(items, 1, line->texts, line->texts_len) == MOVALIREN_ERROR_BAD_ITEM,
+    expect_true(movaliren_description_max_length(line) == reason, name, "a width of none");
+    expect_true(line->items_capacity == 0
+            || movaliren_items_max_length(items, 1, line->texts, line->texts_len) == MOVALIREN_ERROR_BAD_ITEM,
         name, "a first item that is valid");
 }
 
 static void try_faults(void)
 {
     struct movaliren_item items[32];
-    char said[MOVALIREN_FAULT_ROOM];
+    char said[MOVALIREN_PARSE_MESSAGE_SIZE];
     for (size_t i = 0; i < sizeof faults / sizeof *faults; i++) {
         const char *format = faults[i].format;
-        const int is_strftime = faults[i].parse == movaliren_parse_strftime;
-        struct movaliren_description line = MOVALIREN_ITEMS(items);
+        const int is_strftime = faults[i].parse == movaliren_description_parse_strftime;
+        char copy_line[512];
+        struct movaliren_description line = MOVALIREN_DESCRIPTION_INIT(items, copy_line);
         memset(items, 0xff, sizeof items);
         expect_true(faults[i].parse(&line, format) == MOVALIREN_ERROR_BAD_DESCRIPTION, format, "read");
-        expect_true(line.fault.at == faults[i].at && line.fault.reason == faults[i].reason
-                && line.fault.byte == faults[i].byte && line.fault.items == 0,
+        expect_true(line.parse_error.at == faults[i].at && line.parse_error.kind == faults[i].reason
+                && line.parse_error.byte == faults[i].byte && line.parse_error.items == 0,
             format, "another fault");
-        expect_true(!strcmp(movaliren_fault_text(&line.fault, said), faults[i].words), faults[i].words, said);
+        expect_true(!strcmp(movaliren_parse_error_message(&line.parse_error, said), faults[i].words), faults[i].words, said);
         expect_refused(&line, MOVALIREN_ERROR_BAD_DESCRIPTION, format);
         expect_error(is_strftime ? strftime_utc : brackets_utc, format, &mail_utc, MOVALIREN_ERROR_BAD_DESCRIPTION);
         expect_error(is_strftime ? strftime_local : brackets_local, format, &mail_utc, MOVALIREN_ERROR_BAD_DESCRIPTION);
@@ -235,23 +237,25 @@ static void try_faults(void)
 static void try_rooms(void)
 {
     struct movaliren_item items[5];
-    char said[MOVALIREN_FAULT_ROOM];
-    struct movaliren_description none = MOVALIREN_ITEMS(items);
+    char said[MOVALIREN_PARSE_MESSAGE_SIZE];
+    char copy_none[512];
+    struct movaliren_description none = MOVALIREN_DESCRIPTION_INIT(items, copy_none);
     memset(items, 0, sizeof items);
     expect_refused(&none, MOVALIREN_ERROR_BAD_DESCRIPTION, "no text");
     for (size_t room = 0; room <= 5; room++) {
-        struct movaliren_description line = MOVALIREN_ITEMS(items);
-        line.items_room = room;
+        char copy_line[512];
+        struct movaliren_description line = MOVALIREN_DESCRIPTION_INIT(items, copy_line);
+        line.items_capacity = room;
         if (room < 5) {
-            expect_true(movaliren_parse_strftime(&line, "%H:%M:%S") == MOVALIREN_ERROR_MANY_ITEMS, "five items", "read");
-            expect_true(line.fault.items == 5, "five items", "another number");
-            expect_true(!strcmp(movaliren_fault_text(&line.fault, said), "the description has 5 items"), said, "words");
+            expect_true(movaliren_description_parse_strftime(&line, "%H:%M:%S") == MOVALIREN_ERROR_MANY_ITEMS, "five items", "read");
+            expect_true(line.parse_error.items == 5, "five items", "another number");
+            expect_true(!strcmp(movaliren_parse_error_message(&line.parse_error, said), "the description has 5 items"), said, "words");
             expect_refused(&line, MOVALIREN_ERROR_MANY_ITEMS, "five items");
         } else {
-            expect_true(movaliren_parse_strftime(&line, "%H:%M:%S") == 0, "five items", "refused");
+            expect_true(movaliren_description_parse_strftime(&line, "%H:%M:%S") == 0, "five items", "refused");
             expect_text(by, &line, &mail, "09:55:06");
-            movaliren_add_text(&line, "x");
-            expect_refused(&line, MOVALIREN_ERROR_NO_ROOM, "a sixth item");
+            movaliren_description_add_text(&line, "x");
+            expect_refused(&line, MOVALIREN_ERROR_BUFFER_TOO_SMALL, "a sixth item");
         }
     }
 }
@@ -272,27 +276,32 @@ static void try_many(void)
     expect_error(brackets_local, brackets, &mail_utc, MOVALIREN_ERROR_MANY_ITEMS);
 }
 
-/* A component is added to a description that was read, and no text, since its texts are those of the caller. */
+/* A component and a text are added to a description that was read, and no text to one that borrows. */
 static void try_adding(void)
 {
     struct movaliren_item items[5];
-    struct movaliren_description line = MOVALIREN_ITEMS(items);
-    movaliren_parse_strftime(&line, "at %H");
-    movaliren_add_usual(&line, MOVALIREN_PERIOD);
+    char copy_line[512];
+    struct movaliren_description line = MOVALIREN_DESCRIPTION_INIT(items, copy_line);
+    expect_true(movaliren_description_parse_strftime(&line, "at %H") == 0, "at %H", "refused");
+    movaliren_description_add(&line, MOVALIREN_KIND_PERIOD);
+    movaliren_description_add_text(&line, ".");
+    expect_text(by, &line, &mail, "at 09AM.");
+    expect_true(movaliren_description_borrow_strftime(&line, "at %H") == 0, "at %H", "refused");
+    movaliren_description_add(&line, MOVALIREN_KIND_PERIOD);
     expect_text(by, &line, &mail, "at 09AM");
-    movaliren_add_text(&line, "x");
-    expect_refused(&line, MOVALIREN_ERROR_NO_ROOM, "a text is added");
+    movaliren_description_add_text(&line, "x");
+    expect_refused(&line, MOVALIREN_ERROR_BUFFER_TOO_SMALL, "a text is added");
 }
 
 static ptrdiff_t fault_words(const void *format, const void *value, uint8_t *room, size_t room_len)
 {
     (void)format;
-    return movaliren_fault_words(*(const uint8_t *)value, room, room_len);
+    return movaliren_parse_strerror_r(*(const uint8_t *)value, room, room_len);
 }
 
 static void try_words(void)
 {
-    const uint8_t reasons[] = { 0, MOVALIREN_FAULT_TOO_MANY_ITEMS, MOVALIREN_FAULT_FLAG_WITHOUT_NUMBER, 21, 255 };
+    const uint8_t reasons[] = { 0, MOVALIREN_PARSE_ERROR_TOO_MANY_ITEMS, MOVALIREN_PARSE_ERROR_FLAG_WITHOUT_NUMBER, 21, 255 };
     expect_text(fault_words, 0, &reasons[0], "unknown reason");
     expect_text(fault_words, 0, &reasons[1], "more than 65536 items");
     expect_text(fault_words, 0, &reasons[2], "no flag is allowed before");
@@ -303,12 +312,12 @@ static void try_words(void)
 /* A text of so many copies of another has this fault. */
 static void expect_fault_of(const char *piece, size_t count, parser *parse, size_t at, uint8_t reason)
 {
-    static char text[200000];
+    static char text[200000], copy_line[200000];
     struct movaliren_item items[1];
-    struct movaliren_description line = MOVALIREN_ITEMS(items);
+    struct movaliren_description line = MOVALIREN_DESCRIPTION_INIT(items, copy_line);
     for (size_t i = 0; i < count; i++)
         strcpy(text + i * strlen(piece), piece);
-    expect_true(parse(&line, text) == MOVALIREN_ERROR_BAD_DESCRIPTION && line.fault.at == at && line.fault.reason == reason,
+    expect_true(parse(&line, text) == MOVALIREN_ERROR_BAD_DESCRIPTION && line.parse_error.at == at && line.parse_error.kind == reason,
         piece, "a long text");
 }
 
@@ -318,17 +327,17 @@ static void try_prefixes(const char *text, int is_strftime)
     struct movaliren_item items[64];
     for (size_t len = 0; len <= strlen(text); len++) {
         char *prefix = malloc(len ? len : 1);
-        struct movaliren_fault fault = { 77, 77, 77, 77 };
+        struct movaliren_parse_error fault = { 77, 77, 77, 77 };
         ptrdiff_t count;
         if (!prefix)
             exit(1);
         memcpy(prefix, text, len);
-        count = is_strftime ? movaliren_describe_strftime(prefix, len, items, 64, &fault)
-                            : movaliren_describe(prefix, len, items, 64, &fault);
+        count = is_strftime ? movaliren_items_parse_strftime(prefix, len, items, 64, &fault)
+                            : movaliren_items_parse(prefix, len, items, 64, &fault);
         if (count < 0)
             expect_true(count == MOVALIREN_ERROR_BAD_DESCRIPTION && fault.at <= len && !fault.items, text, "a prefix");
         else
-            expect_true(fault.at == 77 && movaliren_width(items, (size_t)count, prefix, len) >= 0, text, "a prefix");
+            expect_true(fault.at == 77 && movaliren_items_max_length(items, (size_t)count, prefix, len) >= 0, text, "a prefix");
         free(prefix);
     }
 }
@@ -346,14 +355,120 @@ static void try_random_moments(void)
         const time_t second = (time_t)(random % 284013820800u) - 30610224000;
         const char *format = formats[i % (sizeof formats / sizeof *formats)];
         char wanted[200], text[200];
-        struct movaliren_description line = MOVALIREN_ITEMS(items);
+        char copy_line[512];
+        struct movaliren_description line = MOVALIREN_DESCRIPTION_INIT(items, copy_line);
         struct tm parts;
         gmtime_r(&second, &parts);
         strftime(wanted, sizeof wanted, format, &parts);
-        movaliren_parse_strftime(&line, format);
-        MOVALIREN_STRING(text, movaliren_by_utc, &line, second, 0);
+        expect_true(movaliren_description_parse_strftime(&line, format) == 0, format, "refused");
+        MOVALIREN_TO_ARRAY(text, movaliren_description_format_utc, &line, second, 0);
         expect_true(!strcmp(text, wanted), wanted, text);
     }
+}
+
+/* ---- mistakes that are none */
+
+/* The text of a description may change after it was read, as the buffer of a line that is read next. */
+static void try_text_that_changes(void)
+{
+    struct movaliren_item items[8];
+    char copy[32], text[32], buffer[32] = "[year]-[month]";
+    struct movaliren_description line = MOVALIREN_DESCRIPTION_INIT(items, copy);
+    expect_true(movaliren_description_parse(&line, buffer) == 0, buffer, "refused");
+    strcpy(buffer, "a line after it");
+    expect_text(by, &line, &mail, "1997-11");
+    strcpy(buffer, "%Y/%m");
+    expect_true(movaliren_description_parse_strftime(&line, buffer) == 0, buffer, "refused");
+    memset(buffer, 'x', sizeof buffer - 1);
+    expect_text(by, &line, &mail, "1997/11");
+    expect_true(movaliren_description_borrow(&line, "\\[[day]\\]") == 0, "a literal", "refused");
+    MOVALIREN_TO_ARRAY(text, movaliren_description_format, &line, &mail);
+    expect_true(!strcmp(text, "[21]"), "a literal", text);
+}
+
+/* A text that the array of texts does not hold is refused, and leaves no description. */
+static void try_long_text(void)
+{
+    struct movaliren_item items[8];
+    char copy[6], said[MOVALIREN_PARSE_MESSAGE_SIZE];
+    struct movaliren_description line = MOVALIREN_DESCRIPTION_INIT(items, copy);
+    expect_true(movaliren_description_parse_strftime(&line, "%Y-%m") == 0, "five bytes", "refused");
+    expect_true(movaliren_description_parse_strftime(&line, "%Y-%m.") == 0, "six bytes", "refused");
+    expect_text(by, &line, &mail, "1997-11.");
+    expect_true(movaliren_description_parse_strftime(&line, "%Y-%m-%d") == MOVALIREN_ERROR_BUFFER_TOO_SMALL, "eight bytes", "read");
+    expect_refused(&line, MOVALIREN_ERROR_BUFFER_TOO_SMALL, "eight bytes");
+    expect_true(!strcmp(movaliren_parse_error_message(&line.parse_error, said), "the description has more than 6 bytes"), said, "words");
+}
+
+/* A description in the other syntax has no component. */
+static void try_components(void)
+{
+    static const struct { parser *parse; const char *text; int has_component; } rows[] = {
+        { movaliren_description_parse, "[year]-[month]", 1 },
+        { movaliren_description_parse_strftime, "%Y", 1 },
+        { movaliren_description_parse_strftime, "[year]-[month]", 0 },
+        { movaliren_description_parse, "%Y-%m", 0 },
+        { movaliren_description_parse, "\\[", 0 },
+        { movaliren_description_parse, "", 0 },
+        { movaliren_description_parse, "[yaer][day]", 0 },
+    };
+    for (size_t i = 0; i < sizeof rows / sizeof *rows; i++) {
+        struct movaliren_item items[8];
+        char copy[32];
+        struct movaliren_description line = MOVALIREN_DESCRIPTION_INIT(items, copy);
+        const int is_read = rows[i].parse(&line, rows[i].text) == 0;
+        expect_true(is_read || i == 6, rows[i].text, "refused");
+        expect_true(movaliren_description_has_component(&line) == rows[i].has_component, rows[i].text, "components");
+    }
+}
+
+/* An array of the size that the header names holds the longest text, and the fields of a moment are in their order. */
+static void try_usual_arrays(void)
+{
+    const struct movaliren_moment moment = { 2026, 5, 6, 7, 8, 9, 123456789, -10, -30, 0 }, no_more = { 2026, 5, 6, 7, 8, 9, 0, 0, 0, 0 };
+    struct movaliren_iso8601_config config = MOVALIREN_ISO8601_DEFAULT;
+    char rfc3339[MOVALIREN_RFC3339_SIZE], mail_date[MOVALIREN_RFC2822_SIZE], iso[MOVALIREN_ISO8601_SIZE];
+    char stamp[MOVALIREN_STAMP_SIZE], widest[MOVALIREN_ISO8601_WITH_SIZE];
+    expect_true(MOVALIREN_TO_ARRAY(rfc3339, movaliren_rfc3339, &moment) == 35, "RFC 3339", "another length");
+    expect_true(!strcmp(rfc3339, "2026-05-06T07:08:09.123456789-10:30"), "RFC 3339", rfc3339);
+    expect_true(MOVALIREN_TO_ARRAY(mail_date, movaliren_rfc2822, &moment) == 31, "RFC 2822", "another length");
+    expect_true(MOVALIREN_TO_ARRAY(iso, movaliren_iso8601, &moment) == 35, "ISO 8601", "another length");
+    expect_true(MOVALIREN_TO_ARRAY(stamp, movaliren_stamp_utc, 0, 0) == 30, "a stamp", "another length");
+    config.decimals = 255, config.year_is_six_digits = 1;
+    expect_true(MOVALIREN_TO_ARRAY(widest, movaliren_iso8601_with, &config, &moment) == 284, "ISO 8601", "another length");
+    MOVALIREN_TO_ARRAY(rfc3339, movaliren_rfc3339, &no_more);
+    expect_true(!strcmp(rfc3339, "2026-05-06T07:08:09Z"), "RFC 3339", rfc3339);
+}
+
+/* A null pointer with the length 0 is an array of nothing. */
+static void try_nothing(void)
+{
+    struct movaliren_parse_error parse_error;
+    struct movaliren_read_error read_error;
+    struct movaliren_moment moment;
+    struct movaliren_utc_moment utc;
+    struct movaliren_log_cache cache = { 0, 0, { 0 }, { 0 }, 0 };
+    struct movaliren_iso8601_config config = MOVALIREN_ISO8601_DEFAULT;
+    const ptrdiff_t too_small = MOVALIREN_ERROR_BUFFER_TOO_SMALL;
+    expect_true(movaliren_rfc3339(&mail, NULL, 0) == too_small, "rfc3339", "written");
+    expect_true(movaliren_rfc3339_utc(0, 0, NULL, 0) == too_small, "rfc3339_utc", "written");
+    expect_true(movaliren_rfc2822_local(0, 0, 0, NULL, 0) == too_small, "rfc2822_local", "written");
+    expect_true(movaliren_iso8601_with(&config, &mail, NULL, 0) == too_small, "iso8601_with", "written");
+    expect_true(movaliren_log_time(&cache, 3, 0, 0, 0, NULL, 0) == too_small, "log_time", "written");
+    expect_true(movaliren_strerror_r(-1, NULL, 0) == too_small, "strerror_r", "written");
+    expect_true(movaliren_parse_strerror_r(1, NULL, 0) == too_small, "parse_strerror_r", "written");
+    expect_true(movaliren_read_rfc3339(NULL, 0, &moment, &read_error) == MOVALIREN_ERROR_NOT_READ && read_error.at == 0, "read_rfc3339", "read");
+    expect_true(movaliren_read_rfc3339_lenient_utc(NULL, 0, &utc, &read_error) == MOVALIREN_ERROR_NOT_READ, "read_rfc3339_lenient_utc", "read");
+    expect_true(movaliren_rfc3339_batch(NULL, 0, '\n', NULL, 0).error == 0, "rfc3339_batch", "refused");
+    expect_true(movaliren_rfc3339_batch(&mail, 1, '\n', NULL, 0).error == too_small, "rfc3339_batch", "written");
+    expect_true(movaliren_stamp_utc_batch(NULL, 0, '\n', NULL, 0).error == 0, "stamp_utc_batch", "refused");
+    expect_true(movaliren_items_parse(NULL, 0, NULL, 0, &parse_error) == 0, "items_parse", "refused");
+    expect_true(movaliren_items_parse_strftime("%d", 2, NULL, 0, &parse_error) == MOVALIREN_ERROR_MANY_ITEMS && parse_error.items == 1, "items_parse_strftime", "read");
+    expect_true(movaliren_items_format(NULL, 0, NULL, 0, &mail, NULL, 0) == 0, "items_format", "refused");
+    expect_true(movaliren_items_max_length(NULL, 0, NULL, 0) == 0, "items_max_length", "refused");
+    expect_true(movaliren_items_format_date_length(NULL, 0, NULL, 0, 2026, 1, 1) == 0, "items_format_date_length", "refused");
+    expect_true(movaliren_format_brackets_utc(NULL, 0, 0, 0, NULL, 0) == 0, "format_brackets_utc", "refused");
+    expect_true(movaliren_format_strftime_local("%d", 2, 0, 0, 0, NULL, 0) == too_small, "format_strftime_local", "written");
 }
 
 int main(void)
@@ -362,17 +477,22 @@ int main(void)
     tzset();
     try_texts();
     try_faults();
+    try_text_that_changes();
+    try_long_text();
+    try_components();
+    try_usual_arrays();
+    try_nothing();
     try_rooms();
     try_adding();
     try_many();
     try_words();
     for (size_t i = 0; i < sizeof rows / sizeof *rows; i++)
-        try_prefixes(rows[i].format, rows[i].parse == movaliren_parse_strftime);
+        try_prefixes(rows[i].format, rows[i].parse == movaliren_description_parse_strftime);
     for (size_t i = 0; i < sizeof faults / sizeof *faults; i++)
-        try_prefixes(faults[i].format, faults[i].parse == movaliren_parse_strftime);
-    expect_fault_of("[first [", 33, movaliren_parse, 263, MOVALIREN_FAULT_TOO_DEEP);
-    expect_fault_of("\\[", 32769, movaliren_parse, 65536, MOVALIREN_FAULT_TOO_MANY_ITEMS);
-    expect_fault_of("%%", 65537, movaliren_parse_strftime, 131072, MOVALIREN_FAULT_TOO_MANY_ITEMS);
+        try_prefixes(faults[i].format, faults[i].parse == movaliren_description_parse_strftime);
+    expect_fault_of("[first [", 33, movaliren_description_parse, 263, MOVALIREN_PARSE_ERROR_TOO_DEEP);
+    expect_fault_of("\\[", 32769, movaliren_description_parse, 65536, MOVALIREN_PARSE_ERROR_TOO_MANY_ITEMS);
+    expect_fault_of("%%", 65537, movaliren_description_parse_strftime, 131072, MOVALIREN_PARSE_ERROR_TOO_MANY_ITEMS);
     try_random_moments();
     printf("texts: %d wrong\n", failures);
     return failures != 0;

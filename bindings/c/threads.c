@@ -19,11 +19,11 @@ static void *work(void *argument)
 {
     static const struct movaliren_moment moment
         = { .year = 2026, .month = 11, .day = 22, .nanosecond = 1 };
-    static const struct movaliren_iso_config config = MOVALIREN_ISO_DEFAULT,
-                                             week = { 5, MOVALIREN_ISO_WEEK, 2, 9, 1, 1, 0, 0 };
-    static const struct movaliren_item items[] = { { .kind = MOVALIREN_DAY }, TEXT(0, 1),
-        { .kind = MOVALIREN_MONTH_LONG }, TEXT(0, 1), { .kind = MOVALIREN_UNIX_MILLISECOND },
-        TEXT(0, 1), { .kind = MOVALIREN_ISO_YEAR }, TEXT(0, 1), { .kind = MOVALIREN_WEEK_ISO } };
+    static const struct movaliren_iso8601_config config = MOVALIREN_ISO8601_DEFAULT,
+                                             week = { 5, MOVALIREN_ISO8601_BY_WEEK, 2, 9, 1, 1, 0, 0 };
+    static const struct movaliren_item items[] = { { .kind = MOVALIREN_KIND_DAY }, TEXT(0, 1),
+        { .kind = MOVALIREN_KIND_MONTH_LONG }, TEXT(0, 1), { .kind = MOVALIREN_KIND_UNIX_MILLISECOND },
+        TEXT(0, 1), { .kind = MOVALIREN_KIND_ISO_YEAR }, TEXT(0, 1), { .kind = MOVALIREN_KIND_WEEK_ISO } };
     uint8_t room[64];
     long *wrong = argument;
     for (long i = 0; i < calls; i++) {
@@ -31,13 +31,13 @@ static void *work(void *argument)
             "2026-11-22T00:00:00.000000001Z");
         *wrong += !is_text(movaliren_rfc2822(&moment, room, sizeof room), room,
             "Sun, 22 Nov 2026 00:00:00 +0000");
-        *wrong += !is_text(movaliren_iso8601_by(&config, &moment, room, sizeof room), room,
+        *wrong += !is_text(movaliren_iso8601_with(&config, &moment, room, sizeof room), room,
             "2026-11-22T00:00:00.000000001Z");
-        *wrong += !is_text(movaliren_iso8601_by(&week, &moment, room, sizeof room), room,
+        *wrong += !is_text(movaliren_iso8601_with(&week, &moment, room, sizeof room), room,
             "2026-W47-7T00:00:00.000000001Z");
-        *wrong += !is_text(movaliren_stamp(0, 1, room, sizeof room), room,
+        *wrong += !is_text(movaliren_stamp_utc(0, 1, room, sizeof room), room,
             "1970-01-01T00:00:00.000000001Z");
-        *wrong += !is_text(movaliren_format(items, 9, " ", 1, &moment, room, sizeof room), room,
+        *wrong += !is_text(movaliren_items_format(items, 9, " ", 1, &moment, room, sizeof room), room,
             "22 November 1795305600000 2026 47");
     }
     return 0;

@@ -126,7 +126,7 @@ fn write_text<V>(format: &impl Format<V>, value: &V, writer: &mut Writer<'_>) ->
     match format.text(value) {
         Ok(text) => writer.write_str(&text),
         // Longer than a text in place.
-        Err(Error::NoRoom) => {
+        Err(Error::BufferTooSmall) => {
             let text = format.format(value).map_err(|_| fmt::Error)?;
             writer.write_str(&text)
         }

@@ -36,8 +36,8 @@ fn moments_are_written_as_rfc_3339() {
 fn a_moment_without_a_text_is_the_error_of_the_serializer() {
     let late = Moment::new(10_000, 1, 1);
     for (entry, error) in [
-        (entry(late, None), Error::NoPlaceForYear),
-        (entry(NOVEMBER, Some(late)), Error::NoPlaceForYear),
+        (entry(late, None), Error::FormatYear),
+        (entry(NOVEMBER, Some(late)), Error::FormatYear),
         (entry(NOVEMBER.at(24, 0, 0, 0), None), Error::Hour),
     ] {
         let said = serde_json::to_string(&entry).unwrap_err().to_string();

@@ -305,7 +305,7 @@ fn an_offset_of_less_than_an_hour_keeps_its_sign() {
 #[test]
 fn refuses_a_second_of_the_offset_by_rfc_3339() {
     let moment = chrono_of((-1, 0, -1)).to_moment();
-    let error = Err(Error::NoPlaceForOffsetSecond);
+    let error = Err(Error::FormatOffsetSecond);
     assert_eq!(Rfc3339.text(&moment), error);
     assert_eq!(
         Rfc3339.text(&time_of((-1, 0, -1)).unwrap().to_moment()),

@@ -1,7 +1,7 @@
 //! ISO 8601 by a configuration.
 use crate::batch::Batch;
 use crate::format::Format;
-use crate::raw::IsoConfig;
+use crate::raw::Iso8601Config;
 use crate::{LocalMoment, Moment, UtcMoment};
 
 /// The parts of a text.
@@ -85,7 +85,7 @@ pub enum DecimalSign {
 #[derive(Clone, Copy, Debug, PartialEq, Eq, Hash)]
 #[must_use]
 pub struct Iso8601By {
-    config: IsoConfig,
+    config: Iso8601Config,
     /// The width, which is computed when the configuration is made, so that a text does not cost it.
     width: u16,
 }
@@ -99,8 +99,8 @@ impl Default for Iso8601By {
 impl Iso8601By {
     /// Returns the configuration of [`Iso8601`](crate::Iso8601).
     pub const fn new() -> Self {
-        Iso8601By::by(IsoConfig {
-            components: Parts::DateTimeOffset as u8,
+        Iso8601By::by(Iso8601Config {
+            parts: Parts::DateTimeOffset as u8,
             date_kind: DateKind::Calendar as u8,
             time_precision: TimePrecision::Second as u8,
             decimals: 9,
@@ -111,7 +111,7 @@ impl Iso8601By {
         })
     }
 
-    const fn by(config: IsoConfig) -> Self {
+    const fn by(config: Iso8601Config) -> Self {
         Iso8601By {
             config,
             width: width(&config) as u16,
@@ -120,15 +120,15 @@ impl Iso8601By {
 
     /// Sets the parts that are written.
     pub const fn parts(self, parts: Parts) -> Self {
-        Iso8601By::by(IsoConfig {
-            components: parts as u8,
+        Iso8601By::by(Iso8601Config {
+            parts: parts as u8,
             ..self.config
         })
     }
 
     /// Sets the kind of date.
     pub const fn date_kind(self, kind: DateKind) -> Self {
-        Iso8601By::by(IsoConfig {
+        Iso8601By::by(Iso8601Config {
             date_kind: kind as u8,
             ..self.config
         })
@@ -136,7 +136,7 @@ impl Iso8601By {
 
     /// Sets the smallest unit of the time, and the number of its decimals. 0 writes none.
     pub const fn time_precision(self, precision: TimePrecision, decimals: u8) -> Self {
-        Iso8601By::by(IsoConfig {
+        Iso8601By::by(Iso8601Config {
             time_precision: precision as u8,
             decimals,
             ..self.config
@@ -145,7 +145,7 @@ impl Iso8601By {
 
     /// Sets the smallest unit of the offset.
     pub const fn offset_precision(self, precision: OffsetPrecision) -> Self {
-        Iso8601By::by(IsoConfig {
+        Iso8601By::by(Iso8601Config {
             offset_precision: precision as u8,
             ..self.config
         })
@@ -153,7 +153,7 @@ impl Iso8601By {
 
     /// Sets whether separators are written.
     pub const fn separators(self, use_separators: bool) -> Self {
-        Iso8601By::by(IsoConfig {
+        Iso8601By::by(Iso8601Config {
             use_separators: use_separators as u8,
             ..self.config
         })
@@ -161,7 +161,7 @@ impl Iso8601By {
 
     /// Sets whether the year has a sign and six digits, or four digits.
     pub const fn six_digit_year(self, is_six_digits: bool) -> Self {
-        Iso8601By::by(IsoConfig {
+        Iso8601By::by(Iso8601Config {
             year_is_six_digits: is_six_digits as u8,
             ..self.config
         })
@@ -169,7 +169,7 @@ impl Iso8601By {
 
     /// Sets the sign before the decimals.
     pub const fn decimal_sign(self, sign: DecimalSign) -> Self {
-        Iso8601By::by(IsoConfig {
+        Iso8601By::by(Iso8601Config {
             comma: sign as u8,
             ..self.config
         })
@@ -186,16 +186,16 @@ impl Iso8601By {
     }
 
     #[inline]
-    pub(crate) fn config(&self) -> &IsoConfig {
+    pub(crate) fn config(&self) -> &Iso8601Config {
         &self.config
     }
 }
 
 /// The most bytes that a text has.
-const fn width(config: &IsoConfig) -> usize {
-    let has_date = matches!(config.components, 1 | 4 | 5);
-    let has_time = matches!(config.components, 2 | 4 | 5 | 6);
-    let has_offset = matches!(config.components, 3 | 5 | 6);
+const fn width(config: &Iso8601Config) -> usize {
+    let has_date = matches!(config.parts, 1 | 4 | 5);
+    let has_time = matches!(config.parts, 2 | 4 | 5 | 6);
+    let has_offset = matches!(config.parts, 3 | 5 | 6);
     // Without a date before it or separators in it, a time begins with a letter.
     let has_letter = has_time && (has_date || config.use_separators == 0);
     let date = has_date as usize * date_width(config);
@@ -204,7 +204,7 @@ const fn width(config: &IsoConfig) -> usize {
 }
 
 /// The year, and after it four digits, a week with its letter and a weekday, or three digits.
-const fn date_width(config: &IsoConfig) -> usize {
+const fn date_width(config: &Iso8601Config) -> usize {
     let year = if config.year_is_six_digits == 1 { 7 } else { 4 };
     let (rest, separators) = if config.date_kind == DateKind::Ordinal as u8 {
         (3, 1)
@@ -215,7 +215,7 @@ const fn date_width(config: &IsoConfig) -> usize {
 }
 
 /// Two digits for each unit, and the decimals after their sign.
-const fn time_width(config: &IsoConfig) -> usize {
+const fn time_width(config: &Iso8601Config) -> usize {
     let separators = config.time_precision as usize;
     let decimals = config.decimals as usize;
     let sign = (decimals > 0) as usize;
@@ -223,7 +223,7 @@ const fn time_width(config: &IsoConfig) -> usize {
 }
 
 /// The sign and two digits, and the minutes.
-const fn offset_width(config: &IsoConfig) -> usize {
+const fn offset_width(config: &Iso8601Config) -> usize {
     let minutes = config.offset_precision as usize;
     3 + minutes * (2 + config.use_separators as usize)
 }

@@ -232,14 +232,14 @@ impl Description {
     ///
     /// # Errors
     ///
-    /// Those of [`Format::write`], but for [`Error::NoRoom`](crate::Error::NoRoom).
+    /// Those of [`Format::write`], but for [`Error::BufferTooSmall`](crate::Error::BufferTooSmall).
     ///
     /// ```
     /// use movaliren::{Date, Description, Error, Format, Kind};
     ///
     /// let (name, may) = (Description::new().component(Kind::MonthLong), Date { year: 2026, month: 5, day: 1 });
     /// assert_eq!((name.width(), name.length(&may)?), (9, 3));
-    /// assert_eq!(name.write(&mut [0; 2], &may), Err(Error::NoRoom));
+    /// assert_eq!(name.write(&mut [0; 2], &may), Err(Error::BufferTooSmall));
     /// # Ok::<(), Error>(())
     /// ```
     #[inline]

@@ -30,13 +30,13 @@ pub enum Error {
     /// The seconds are outside the years -999999 to 999999.
     MomentSeconds,
     /// The format cannot represent the year, or the local date is outside the years -999999 to 999999.
-    NoPlaceForYear,
+    FormatYear,
     /// The format cannot represent the hours of the offset.
-    NoPlaceForOffsetHour,
+    FormatOffsetHour,
     /// The format cannot represent the minutes of the offset.
-    NoPlaceForOffsetMinute,
+    FormatOffsetMinute,
     /// The format cannot represent the seconds of the offset.
-    NoPlaceForOffsetSecond,
+    FormatOffsetSecond,
     /// The value lacks a component of the format: a date has no hour.
     Insufficient,
     /// A component is outside the range of its item.
@@ -46,11 +46,9 @@ pub enum Error {
     /// An item is invalid. The descriptions of this crate have valid items.
     BadItem,
     /// The text does not fit the buffer.
-    NoRoom,
+    BufferTooSmall,
     /// An allocation of this crate failed. The library allocates nothing.
     OutOfMemory,
-    /// The format cannot represent a component. The library never returns this reason.
-    Other,
     /// The text is not one of the format. [`Rfc3339::read`](crate::Rfc3339::read) returns
     /// [`NotRead`](crate::NotRead) in its place.
     NotRead,
@@ -80,3 +78,22 @@ fn unknown(number: isize, f: &mut fmt::Formatter<'_>) -> fmt::Result {
 
 #[cfg(feature = "std")]
 impl std::error::Error for Error {}
+
+/// Why a batch did not write all values.
+#[derive(Clone, Copy, Debug, PartialEq, Eq, Hash)]
+#[non_exhaustive]
+pub struct RowError {
+    /// The index of the value that was not written.
+    pub row: usize,
+    /// Why it was not.
+    pub error: Error,
+}
+
+impl fmt::Display for RowError {
+    fn fmt(&self, f: &mut fmt::Formatter<'_>) -> fmt::Result {
+        write!(f, "row {}: {}", self.row, self.error)
+    }
+}
+
+#[cfg(feature = "std")]
+impl std::error::Error for RowError {}

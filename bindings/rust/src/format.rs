@@ -40,7 +40,7 @@ pub trait Format<V>: raw::Call<V> {
     ///
     /// # Errors
     ///
-    /// The value has no text, or the buffer is shorter than it: [`Error::NoRoom`].
+    /// The value has no text, or the buffer is shorter than it: [`Error::BufferTooSmall`].
     fn write(&self, buffer: &mut [u8], value: &V) -> Result<usize, Error> {
         raw::write(self, value, buffer)
     }
@@ -58,7 +58,7 @@ pub trait Format<V>: raw::Call<V> {
     /// let text = Rfc3339.format_to(&mut buffer, &Moment::new(2026, 11, 22))?;
     /// assert_eq!(text, b"2026-11-22T00:00:00Z");
     /// let short = &mut buffer[..19];
-    /// assert_eq!(Rfc3339.format_to(short, &Moment::new(2026, 11, 22)), Err(Error::NoRoom));
+    /// assert_eq!(Rfc3339.format_to(short, &Moment::new(2026, 11, 22)), Err(Error::BufferTooSmall));
     /// # Ok::<(), Error>(())
     /// ```
     fn format_to<'a>(&self, buffer: &'a mut [u8], value: &V) -> Result<&'a [u8], Error> {
@@ -88,7 +88,7 @@ pub trait Format<V>: raw::Call<V> {
     ///
     /// # Errors
     ///
-    /// The value has no text, or it has more than [`Text::CAPACITY`] bytes: [`Error::NoRoom`].
+    /// The value has no text, or it has more than [`Text::CAPACITY`] bytes: [`Error::BufferTooSmall`].
     ///
     /// ```
     /// use movaliren::{Format, Iso8601, Moment};

@@ -27,7 +27,7 @@ impl<V, F: Format<V>> fmt::Display for Formatted<V, F> {
     fn fmt(&self, f: &mut fmt::Formatter<'_>) -> fmt::Result {
         match self.format.text(&self.value) {
             // Longer than a text in place.
-            Err(Error::NoRoom) => show(self.format.format(&self.value).as_deref(), f),
+            Err(Error::BufferTooSmall) => show(self.format.format(&self.value).as_deref(), f),
             text => show(text.as_deref(), f),
         }
     }

@@ -50,7 +50,7 @@ pub struct Rfc2822Local(pub i64);
 /// # Errors
 ///
 /// - [`Error::MomentSeconds`] or [`Error::Nanosecond`]: a number of the moment is out of its range.
-/// - [`Error::NoPlaceForYear`]: the year is outside 0 to 9999.
+/// - [`Error::FormatYear`]: the year is outside 0 to 9999.
 ///
 /// ```
 /// use movaliren::{stamp, UtcMoment};

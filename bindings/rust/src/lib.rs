@@ -63,7 +63,7 @@ pub use batch::{Batch, Progress};
 pub use component::{Component, CountFrom, Item, LetterCase, Sign};
 pub use config::{DateKind, DecimalSign, Iso8601By, OffsetPrecision, Parts, TimePrecision};
 pub use description::{Date, Description, Kind, Padding, SubsecondDigits};
-pub use error::Error;
+pub use error::{Error, RowError};
 pub use format::Format;
 pub use formatted::Formatted;
 pub use known::{stamp, Iso8601, Rfc2822, Rfc2822Local, Rfc3339, Rfc3339Local, Stamp};
@@ -83,6 +83,21 @@ pub use text::Text;
 #[must_use]
 pub fn library_version() -> u32 {
     raw::version()
+}
+
+/// The traits of the formats.
+///
+/// ```
+/// use movaliren::prelude::*;
+/// use movaliren::{Rfc3339, UtcMoment};
+///
+/// let mut lines = Vec::new();
+/// Rfc3339.batch_into(&mut lines, &[UtcMoment::new(0, 0)], b'\n').whole()?;
+/// assert_eq!(lines, b"1970-01-01T00:00:00Z\n");
+/// # Ok::<(), movaliren::RowError>(())
+/// ```
+pub mod prelude {
+    pub use crate::{Batch, Format, Read};
 }
 
 #[cfg(doctest)]

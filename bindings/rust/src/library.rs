@@ -6,13 +6,13 @@ use crate::{Error, FaultReason, Kind, Moment, UtcMoment};
 pub(crate) struct Progress {
     pub(crate) moments: usize,
     pub(crate) bytes: usize,
-    pub(crate) reason: isize,
+    pub(crate) error: isize,
 }
 
 #[repr(C)]
 #[derive(Clone, Copy, Debug, PartialEq, Eq, Hash)]
-pub(crate) struct IsoConfig {
-    pub(crate) components: u8,
+pub(crate) struct Iso8601Config {
+    pub(crate) parts: u8,
     pub(crate) date_kind: u8,
     pub(crate) time_precision: u8,
     pub(crate) decimals: u8,
@@ -36,7 +36,7 @@ pub(crate) struct Item {
 
 #[repr(C)]
 #[derive(Clone, Copy, Debug, PartialEq, Eq, Hash)]
-pub(crate) struct Log {
+pub(crate) struct LogCache {
     pub(crate) second: i64,
     pub(crate) offset: i64,
     pub(crate) head: [u8; 20],
@@ -46,7 +46,7 @@ pub(crate) struct Log {
 
 #[repr(C)]
 #[derive(Clone, Copy, Debug, PartialEq, Eq, Hash)]
-pub(crate) struct Place {
+pub(crate) struct ReadError {
     pub(crate) at: usize,
     pub(crate) expected: u8,
     pub(crate) first: u8,
@@ -57,10 +57,10 @@ pub(crate) struct Place {
 
 #[repr(C)]
 #[derive(Clone, Copy, Debug, PartialEq, Eq, Hash)]
-pub(crate) struct Fault {
+pub(crate) struct ParseError {
     pub(crate) at: usize,
     pub(crate) items: usize,
-    pub(crate) reason: u8,
+    pub(crate) kind: u8,
     pub(crate) byte: u8,
 }
 
@@ -68,52 +68,52 @@ pub(crate) struct Fault {
 #[allow(dead_code)]
 extern "C" {
     pub(crate) fn movaliren_version() -> u32;
-    pub(crate) fn movaliren_error_words(reason: isize, room: *mut u8, room_len: usize) -> isize;
-    pub(crate) fn movaliren_rfc3339(moment: *const Moment, room: *mut u8, room_len: usize) -> isize;
-    pub(crate) fn movaliren_rfc2822(moment: *const Moment, room: *mut u8, room_len: usize) -> isize;
-    pub(crate) fn movaliren_iso8601(moment: *const Moment, room: *mut u8, room_len: usize) -> isize;
-    pub(crate) fn movaliren_stamp(seconds: i64, nanosecond: u32, room: *mut u8, room_len: usize) -> isize;
-    pub(crate) fn movaliren_iso8601_by(config: *const IsoConfig, moment: *const Moment, room: *mut u8, room_len: usize) -> isize;
-    pub(crate) fn movaliren_rfc3339_utc(seconds: i64, nanosecond: u32, room: *mut u8, room_len: usize) -> isize;
-    pub(crate) fn movaliren_rfc2822_utc(seconds: i64, nanosecond: u32, room: *mut u8, room_len: usize) -> isize;
-    pub(crate) fn movaliren_iso8601_utc(seconds: i64, nanosecond: u32, room: *mut u8, room_len: usize) -> isize;
-    pub(crate) fn movaliren_iso8601_by_utc(config: *const IsoConfig, seconds: i64, nanosecond: u32, room: *mut u8, room_len: usize) -> isize;
-    pub(crate) fn movaliren_rfc3339_local(seconds: i64, nanosecond: u32, offset: i64, room: *mut u8, room_len: usize) -> isize;
-    pub(crate) fn movaliren_rfc2822_local(seconds: i64, nanosecond: u32, offset: i64, room: *mut u8, room_len: usize) -> isize;
-    pub(crate) fn movaliren_iso8601_local(seconds: i64, nanosecond: u32, offset: i64, room: *mut u8, room_len: usize) -> isize;
-    pub(crate) fn movaliren_iso8601_by_local(config: *const IsoConfig, seconds: i64, nanosecond: u32, offset: i64, room: *mut u8, room_len: usize) -> isize;
-    pub(crate) fn movaliren_log_time(kept: *mut Log, decimals: u8, seconds: i64, nanosecond: u32, offset: i64, room: *mut u8, room_len: usize) -> isize;
-    pub(crate) fn movaliren_read_rfc3339(text: *const u8, text_len: usize, moment: *mut Moment, place: *mut Place) -> isize;
-    pub(crate) fn movaliren_read_rfc3339_utc(text: *const u8, text_len: usize, moment: *mut UtcMoment, place: *mut Place) -> isize;
-    pub(crate) fn movaliren_read_rfc3339_lenient(text: *const u8, text_len: usize, moment: *mut Moment, place: *mut Place) -> isize;
-    pub(crate) fn movaliren_read_rfc3339_lenient_utc(text: *const u8, text_len: usize, moment: *mut UtcMoment, place: *mut Place) -> isize;
-    pub(crate) fn movaliren_rfc3339_batch(moments: *const Moment, moments_len: usize, end: u8, room: *mut u8, room_len: usize) -> Progress;
-    pub(crate) fn movaliren_rfc2822_batch(moments: *const Moment, moments_len: usize, end: u8, room: *mut u8, room_len: usize) -> Progress;
-    pub(crate) fn movaliren_iso8601_batch(moments: *const Moment, moments_len: usize, end: u8, room: *mut u8, room_len: usize) -> Progress;
-    pub(crate) fn movaliren_iso8601_by_batch(config: *const IsoConfig, moments: *const Moment, moments_len: usize, end: u8, room: *mut u8, room_len: usize) -> Progress;
-    pub(crate) fn movaliren_stamp_batch(moments: *const UtcMoment, moments_len: usize, end: u8, room: *mut u8, room_len: usize) -> Progress;
-    pub(crate) fn movaliren_rfc3339_utc_batch(moments: *const UtcMoment, moments_len: usize, end: u8, room: *mut u8, room_len: usize) -> Progress;
-    pub(crate) fn movaliren_rfc2822_utc_batch(moments: *const UtcMoment, moments_len: usize, end: u8, room: *mut u8, room_len: usize) -> Progress;
-    pub(crate) fn movaliren_iso8601_utc_batch(moments: *const UtcMoment, moments_len: usize, end: u8, room: *mut u8, room_len: usize) -> Progress;
-    pub(crate) fn movaliren_iso8601_by_utc_batch(config: *const IsoConfig, moments: *const UtcMoment, moments_len: usize, end: u8, room: *mut u8, room_len: usize) -> Progress;
-    pub(crate) fn movaliren_rfc3339_local_batch(moments: *const UtcMoment, moments_len: usize, offset: i64, end: u8, room: *mut u8, room_len: usize) -> Progress;
-    pub(crate) fn movaliren_rfc2822_local_batch(moments: *const UtcMoment, moments_len: usize, offset: i64, end: u8, room: *mut u8, room_len: usize) -> Progress;
-    pub(crate) fn movaliren_format(items: *const Item, items_len: usize, texts: *const u8, texts_len: usize, moment: *const Moment, room: *mut u8, room_len: usize) -> isize;
-    pub(crate) fn movaliren_format_utc(items: *const Item, items_len: usize, texts: *const u8, texts_len: usize, seconds: i64, nanosecond: u32, room: *mut u8, room_len: usize) -> isize;
-    pub(crate) fn movaliren_format_local(items: *const Item, items_len: usize, texts: *const u8, texts_len: usize, seconds: i64, nanosecond: u32, offset: i64, room: *mut u8, room_len: usize) -> isize;
-    pub(crate) fn movaliren_format_date(items: *const Item, items_len: usize, texts: *const u8, texts_len: usize, year: i32, month: u8, day: u8, room: *mut u8, room_len: usize) -> isize;
-    pub(crate) fn movaliren_width(items: *const Item, items_len: usize, texts: *const u8, texts_len: usize) -> isize;
-    pub(crate) fn movaliren_format_length(items: *const Item, items_len: usize, texts: *const u8, texts_len: usize, moment: *const Moment) -> isize;
-    pub(crate) fn movaliren_format_utc_length(items: *const Item, items_len: usize, texts: *const u8, texts_len: usize, seconds: i64, nanosecond: u32) -> isize;
-    pub(crate) fn movaliren_format_local_length(items: *const Item, items_len: usize, texts: *const u8, texts_len: usize, seconds: i64, nanosecond: u32, offset: i64) -> isize;
-    pub(crate) fn movaliren_format_date_length(items: *const Item, items_len: usize, texts: *const u8, texts_len: usize, year: i32, month: u8, day: u8) -> isize;
-    pub(crate) fn movaliren_describe(text: *const u8, text_len: usize, items: *mut Item, items_len: usize, fault: *mut Fault) -> isize;
-    pub(crate) fn movaliren_describe_strftime(text: *const u8, text_len: usize, items: *mut Item, items_len: usize, fault: *mut Fault) -> isize;
-    pub(crate) fn movaliren_brackets_utc(text: *const u8, text_len: usize, seconds: i64, nanosecond: u32, room: *mut u8, room_len: usize) -> isize;
-    pub(crate) fn movaliren_brackets_local(text: *const u8, text_len: usize, seconds: i64, nanosecond: u32, offset: i64, room: *mut u8, room_len: usize) -> isize;
-    pub(crate) fn movaliren_strftime_utc(text: *const u8, text_len: usize, seconds: i64, nanosecond: u32, room: *mut u8, room_len: usize) -> isize;
-    pub(crate) fn movaliren_strftime_local(text: *const u8, text_len: usize, seconds: i64, nanosecond: u32, offset: i64, room: *mut u8, room_len: usize) -> isize;
-    pub(crate) fn movaliren_fault_words(reason: u8, room: *mut u8, room_len: usize) -> isize;
+    pub(crate) fn movaliren_strerror_r(error: isize, buffer: *mut u8, buffer_size: usize) -> isize;
+    pub(crate) fn movaliren_rfc3339(moment: *const Moment, buffer: *mut u8, buffer_size: usize) -> isize;
+    pub(crate) fn movaliren_rfc2822(moment: *const Moment, buffer: *mut u8, buffer_size: usize) -> isize;
+    pub(crate) fn movaliren_iso8601(moment: *const Moment, buffer: *mut u8, buffer_size: usize) -> isize;
+    pub(crate) fn movaliren_stamp_utc(seconds: i64, nanosecond: u32, buffer: *mut u8, buffer_size: usize) -> isize;
+    pub(crate) fn movaliren_iso8601_with(config: *const Iso8601Config, moment: *const Moment, buffer: *mut u8, buffer_size: usize) -> isize;
+    pub(crate) fn movaliren_rfc3339_utc(seconds: i64, nanosecond: u32, buffer: *mut u8, buffer_size: usize) -> isize;
+    pub(crate) fn movaliren_rfc2822_utc(seconds: i64, nanosecond: u32, buffer: *mut u8, buffer_size: usize) -> isize;
+    pub(crate) fn movaliren_iso8601_utc(seconds: i64, nanosecond: u32, buffer: *mut u8, buffer_size: usize) -> isize;
+    pub(crate) fn movaliren_iso8601_with_utc(config: *const Iso8601Config, seconds: i64, nanosecond: u32, buffer: *mut u8, buffer_size: usize) -> isize;
+    pub(crate) fn movaliren_rfc3339_local(seconds: i64, nanosecond: u32, offset: i64, buffer: *mut u8, buffer_size: usize) -> isize;
+    pub(crate) fn movaliren_rfc2822_local(seconds: i64, nanosecond: u32, offset: i64, buffer: *mut u8, buffer_size: usize) -> isize;
+    pub(crate) fn movaliren_iso8601_local(seconds: i64, nanosecond: u32, offset: i64, buffer: *mut u8, buffer_size: usize) -> isize;
+    pub(crate) fn movaliren_iso8601_with_local(config: *const Iso8601Config, seconds: i64, nanosecond: u32, offset: i64, buffer: *mut u8, buffer_size: usize) -> isize;
+    pub(crate) fn movaliren_log_time(cache: *mut LogCache, decimals: u8, seconds: i64, nanosecond: u32, offset: i64, buffer: *mut u8, buffer_size: usize) -> isize;
+    pub(crate) fn movaliren_read_rfc3339(text: *const u8, text_len: usize, moment: *mut Moment, error: *mut ReadError) -> isize;
+    pub(crate) fn movaliren_read_rfc3339_utc(text: *const u8, text_len: usize, moment: *mut UtcMoment, error: *mut ReadError) -> isize;
+    pub(crate) fn movaliren_read_rfc3339_lenient(text: *const u8, text_len: usize, moment: *mut Moment, error: *mut ReadError) -> isize;
+    pub(crate) fn movaliren_read_rfc3339_lenient_utc(text: *const u8, text_len: usize, moment: *mut UtcMoment, error: *mut ReadError) -> isize;
+    pub(crate) fn movaliren_rfc3339_batch(moments: *const Moment, moments_len: usize, end: u8, buffer: *mut u8, buffer_size: usize) -> Progress;
+    pub(crate) fn movaliren_rfc2822_batch(moments: *const Moment, moments_len: usize, end: u8, buffer: *mut u8, buffer_size: usize) -> Progress;
+    pub(crate) fn movaliren_iso8601_batch(moments: *const Moment, moments_len: usize, end: u8, buffer: *mut u8, buffer_size: usize) -> Progress;
+    pub(crate) fn movaliren_iso8601_with_batch(config: *const Iso8601Config, moments: *const Moment, moments_len: usize, end: u8, buffer: *mut u8, buffer_size: usize) -> Progress;
+    pub(crate) fn movaliren_stamp_utc_batch(moments: *const UtcMoment, moments_len: usize, end: u8, buffer: *mut u8, buffer_size: usize) -> Progress;
+    pub(crate) fn movaliren_rfc3339_utc_batch(moments: *const UtcMoment, moments_len: usize, end: u8, buffer: *mut u8, buffer_size: usize) -> Progress;
+    pub(crate) fn movaliren_rfc2822_utc_batch(moments: *const UtcMoment, moments_len: usize, end: u8, buffer: *mut u8, buffer_size: usize) -> Progress;
+    pub(crate) fn movaliren_iso8601_utc_batch(moments: *const UtcMoment, moments_len: usize, end: u8, buffer: *mut u8, buffer_size: usize) -> Progress;
+    pub(crate) fn movaliren_iso8601_with_utc_batch(config: *const Iso8601Config, moments: *const UtcMoment, moments_len: usize, end: u8, buffer: *mut u8, buffer_size: usize) -> Progress;
+    pub(crate) fn movaliren_rfc3339_local_batch(moments: *const UtcMoment, moments_len: usize, offset: i64, end: u8, buffer: *mut u8, buffer_size: usize) -> Progress;
+    pub(crate) fn movaliren_rfc2822_local_batch(moments: *const UtcMoment, moments_len: usize, offset: i64, end: u8, buffer: *mut u8, buffer_size: usize) -> Progress;
+    pub(crate) fn movaliren_items_format(items: *const Item, items_len: usize, texts: *const u8, texts_len: usize, moment: *const Moment, buffer: *mut u8, buffer_size: usize) -> isize;
+    pub(crate) fn movaliren_items_format_utc(items: *const Item, items_len: usize, texts: *const u8, texts_len: usize, seconds: i64, nanosecond: u32, buffer: *mut u8, buffer_size: usize) -> isize;
+    pub(crate) fn movaliren_items_format_local(items: *const Item, items_len: usize, texts: *const u8, texts_len: usize, seconds: i64, nanosecond: u32, offset: i64, buffer: *mut u8, buffer_size: usize) -> isize;
+    pub(crate) fn movaliren_items_format_date(items: *const Item, items_len: usize, texts: *const u8, texts_len: usize, year: i32, month: u8, day: u8, buffer: *mut u8, buffer_size: usize) -> isize;
+    pub(crate) fn movaliren_items_max_length(items: *const Item, items_len: usize, texts: *const u8, texts_len: usize) -> isize;
+    pub(crate) fn movaliren_items_format_length(items: *const Item, items_len: usize, texts: *const u8, texts_len: usize, moment: *const Moment) -> isize;
+    pub(crate) fn movaliren_items_format_utc_length(items: *const Item, items_len: usize, texts: *const u8, texts_len: usize, seconds: i64, nanosecond: u32) -> isize;
+    pub(crate) fn movaliren_items_format_local_length(items: *const Item, items_len: usize, texts: *const u8, texts_len: usize, seconds: i64, nanosecond: u32, offset: i64) -> isize;
+    pub(crate) fn movaliren_items_format_date_length(items: *const Item, items_len: usize, texts: *const u8, texts_len: usize, year: i32, month: u8, day: u8) -> isize;
+    pub(crate) fn movaliren_items_parse(text: *const u8, text_len: usize, items: *mut Item, items_capacity: usize, error: *mut ParseError) -> isize;
+    pub(crate) fn movaliren_items_parse_strftime(text: *const u8, text_len: usize, items: *mut Item, items_capacity: usize, error: *mut ParseError) -> isize;
+    pub(crate) fn movaliren_parse_strerror_r(kind: u8, buffer: *mut u8, buffer_size: usize) -> isize;
+    pub(crate) fn movaliren_format_brackets_utc(text: *const u8, text_len: usize, seconds: i64, nanosecond: u32, buffer: *mut u8, buffer_size: usize) -> isize;
+    pub(crate) fn movaliren_format_brackets_local(text: *const u8, text_len: usize, seconds: i64, nanosecond: u32, offset: i64, buffer: *mut u8, buffer_size: usize) -> isize;
+    pub(crate) fn movaliren_format_strftime_utc(text: *const u8, text_len: usize, seconds: i64, nanosecond: u32, buffer: *mut u8, buffer_size: usize) -> isize;
+    pub(crate) fn movaliren_format_strftime_local(text: *const u8, text_len: usize, seconds: i64, nanosecond: u32, offset: i64, buffer: *mut u8, buffer_size: usize) -> isize;
 }
 
 pub(crate) fn error_of(number: isize) -> Error {
@@ -129,17 +129,15 @@ pub(crate) fn error_of(number: isize) -> Error {
         -9 => Error::OffsetMinutes,
         -10 => Error::OffsetSeconds,
         -11 => Error::MomentSeconds,
-        -12 => Error::NoPlaceForYear,
-        -13 => Error::NoPlaceForOffsetHour,
-        -14 => Error::NoPlaceForOffsetMinute,
-        -15 => Error::NoPlaceForOffsetSecond,
+        -12 => Error::FormatYear,
+        -13 => Error::FormatOffsetHour,
+        -14 => Error::FormatOffsetMinute,
+        -15 => Error::FormatOffsetSecond,
         -16 => Error::Insufficient,
         -17 => Error::OutOfRange,
         -18 => Error::BadConfig,
         -19 => Error::BadItem,
-        -20 => Error::NoRoom,
-        -21 => Error::OutOfMemory,
-        -22 => Error::Other,
+        -20 => Error::BufferTooSmall,
         -23 => Error::NotRead,
         -24 => Error::BadDescription,
         -25 => Error::ManyItems,
@@ -161,20 +159,19 @@ pub(crate) fn words_of(error: Error) -> Result<&'static str, isize> {
         Error::OffsetMinutes => "the minutes of the offset are outside -59 to 59, or of another sign than its hours",
         Error::OffsetSeconds => "the seconds of the offset are outside -59 to 59, or of another sign than its hours or minutes",
         Error::MomentSeconds => "the seconds are outside the years -999999 to 999999",
-        Error::NoPlaceForYear => "the format cannot represent the year",
-        Error::NoPlaceForOffsetHour => "the format cannot represent the hours of the offset",
-        Error::NoPlaceForOffsetMinute => "the format cannot represent the minutes of the offset",
-        Error::NoPlaceForOffsetSecond => "the format cannot represent the seconds of the offset",
+        Error::FormatYear => "the format cannot represent the year",
+        Error::FormatOffsetHour => "the format cannot represent the hours of the offset",
+        Error::FormatOffsetMinute => "the format cannot represent the minutes of the offset",
+        Error::FormatOffsetSecond => "the format cannot represent the seconds of the offset",
         Error::Insufficient => "the value lacks a component of the format",
         Error::OutOfRange => "a component is outside the range of its item",
         Error::BadConfig => "invalid configuration value",
         Error::BadItem => "invalid item",
-        Error::NoRoom => "the text does not fit the buffer",
-        Error::OutOfMemory => "out of memory",
-        Error::Other => "the format cannot represent a component",
+        Error::BufferTooSmall => "the text does not fit the buffer",
         Error::NotRead => "the text is not one of the format",
         Error::BadDescription => "the text is not a description",
         Error::ManyItems => "the description has more items than there is room for",
+        Error::OutOfMemory => "out of memory",
         Error::Unknown(number) => return Err(number),
     })
 }

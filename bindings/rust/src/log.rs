@@ -1,5 +1,5 @@
 //! Times of log lines.
-use crate::library::Log;
+use crate::library::LogCache;
 use crate::{Format, LocalMoment, UtcMoment};
 use core::cell::Cell;
 
@@ -28,14 +28,14 @@ use core::cell::Cell;
 #[derive(Clone, Debug)]
 #[must_use]
 pub struct LogTime {
-    kept: Cell<Log>,
+    kept: Cell<LogCache>,
     decimals: u8,
 }
 
 impl LogTime {
     const fn new(decimals: u8) -> Self {
         LogTime {
-            kept: Cell::new(Log::NONE),
+            kept: Cell::new(LogCache::NONE),
             decimals,
         }
     }
@@ -56,7 +56,7 @@ impl LogTime {
     }
 
     #[inline]
-    pub(crate) fn parts(&self) -> (&Cell<Log>, u8) {
+    pub(crate) fn parts(&self) -> (&Cell<LogCache>, u8) {
         (&self.kept, self.decimals)
     }
 }

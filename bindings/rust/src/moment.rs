@@ -12,12 +12,12 @@ use core::cmp::Ordering;
 #[must_use]
 pub struct Moment {
     year: i32,
-    nanosecond: u32,
     month: u8,
     day: u8,
     hour: u8,
     minute: u8,
     second: u8,
+    nanosecond: u32,
     offset_hours: i8,
     offset_minutes: i8,
     offset_seconds: i8,
@@ -187,7 +187,7 @@ impl UtcMoment {
 /// A format writes the local date and time, and the offset, as far as it has them. [`Stamp`](crate::Stamp)
 /// is no format of it. The numbers are tested when the moment is formatted: an offset of more than 25:59:59
 /// either way is [`Error::OffsetHours`]. A local date outside of the years -999,999 to 999,999 is
-/// [`Error::NoPlaceForYear`].
+/// [`Error::FormatYear`].
 ///
 /// ```
 /// use movaliren::{Format, Iso8601By, TimePrecision, UtcMoment};
@@ -211,7 +211,7 @@ pub struct LocalMoment {
 /// The date and time in UTC, of a moment of the years 0 to 9999.
 ///
 /// They are read from the moment's [`stamp`], so no other code knows the calendar. Another year is
-/// [`Error::NoPlaceForYear`], or outside of -999,999 to 999,999 [`Error::MomentSeconds`].
+/// [`Error::FormatYear`], or outside of -999,999 to 999,999 [`Error::MomentSeconds`].
 ///
 /// ```
 /// use movaliren::{Moment, UtcMoment};

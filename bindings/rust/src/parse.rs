@@ -1,6 +1,6 @@
 //! Descriptions from a text.
 use crate::description::Description;
-use crate::library::{fault_reason_of, Fault, Item};
+use crate::library::{fault_reason_of, Item, ParseError};
 use crate::raw::{self, Syntax};
 use alloc::vec;
 use core::fmt;
@@ -71,12 +71,12 @@ pub struct InvalidDescription {
 }
 
 impl InvalidDescription {
-    fn of_fault(fault: &Fault) -> Self {
+    fn of_fault(fault: &ParseError) -> Self {
         InvalidDescription {
             at: fault.at,
-            reason: fault_reason_of(fault.reason),
+            reason: fault_reason_of(fault.kind),
             byte: Some(fault.byte).filter(|byte| *byte != 0),
-            number: fault.reason,
+            number: fault.kind,
         }
     }
 }

@@ -5,8 +5,8 @@
 //! `#[repr(C)]`, with the fields of the header in its order. The library keeps no pointer. It writes
 //! bytes of a buffer or leaves them as they were, so none becomes uninitialized.
 use crate::known::{Iso8601, Rfc2822, Rfc2822Local, Rfc3339, Rfc3339Local, Stamp};
-use crate::library::{self, error_of, Fault, Log};
-pub(crate) use crate::library::{IsoConfig, Item};
+use crate::library::{self, error_of, LogCache, ParseError};
+pub(crate) use crate::library::{Iso8601Config, Item};
 use crate::read::{Expected, NotRead};
 use crate::{
     Date, Description, Error, Iso8601By, LocalMoment, LogTime, Moment, Progress, UtcMoment,
@@ -32,14 +32,14 @@ impl Item {
     };
 }
 
-const _: () = assert!(core::mem::size_of::<Moment>() == 16);
+const _: () = assert!(core::mem::size_of::<Moment>() == 20);
 const _: () = assert!(core::mem::size_of::<UtcMoment>() == 16);
-const _: () = assert!(core::mem::size_of::<IsoConfig>() == 8);
+const _: () = assert!(core::mem::size_of::<Iso8601Config>() == 8);
 const _: () = assert!(core::mem::size_of::<Item>() == 24);
 const _: () = assert!(core::mem::size_of::<library::Progress>() == 24);
-const _: () = assert!(core::mem::size_of::<library::Place>() == 16);
-const _: () = assert!(core::mem::size_of::<Log>() == 48);
-const _: () = assert!(core::mem::size_of::<Fault>() == 24);
+const _: () = assert!(core::mem::size_of::<library::ReadError>() == 16);
+const _: () = assert!(core::mem::size_of::<LogCache>() == 48);
+const _: () = assert!(core::mem::size_of::<ParseError>() == 24);
 
 /// Memory that a call writes to. No result depends on what it held.
 type Buffer = [MaybeUninit<u8>];
@@ -110,7 +110,7 @@ fn progress_of(progress: library::Progress) -> Progress {
     Progress {
         moments: progress.moments,
         bytes: progress.bytes,
-        stopped: match progress.reason {
+        stopped: match progress.error {
             0 => None,
             reason => Some(error_of(reason)),
         },
@@ -162,7 +162,7 @@ unsafe impl Call<Moment> for Iso8601By {
     fn call(&self, value: &Moment, buffer: &mut Buffer, _: Inside) -> Result<usize, Error> {
         // SAFETY: both structs have the header's layout; pointer and length are the buffer's.
         count_of(unsafe {
-            library::movaliren_iso8601_by(self.config(), value, pointer(buffer), buffer.len())
+            library::movaliren_iso8601_with(self.config(), value, pointer(buffer), buffer.len())
         })
     }
 }
@@ -174,7 +174,7 @@ unsafe impl CallAll<Moment> for Iso8601By {
         // SAFETY: both structs have the header's layout, and both pointers come with the lengths
         // of their slices.
         progress_of(unsafe {
-            library::movaliren_iso8601_by_batch(
+            library::movaliren_iso8601_with_batch(
                 self.config(),
                 values.as_ptr(),
                 values.len(),
@@ -220,7 +220,7 @@ utc_calls! {
     Rfc3339: movaliren_rfc3339_utc, movaliren_rfc3339_utc_batch;
     Rfc2822: movaliren_rfc2822_utc, movaliren_rfc2822_utc_batch;
     Iso8601: movaliren_iso8601_utc, movaliren_iso8601_utc_batch;
-    Stamp: movaliren_stamp, movaliren_stamp_batch;
+    Stamp: movaliren_stamp_utc, movaliren_stamp_utc_batch;
 }
 
 // SAFETY: the function returns how many bytes it has written to the start of the buffer, which are
@@ -228,9 +228,9 @@ utc_calls! {
 unsafe impl Call<UtcMoment> for Iso8601By {
     #[inline]
     fn call(&self, value: &UtcMoment, buffer: &mut Buffer, _: Inside) -> Result<usize, Error> {
-        // SAFETY: `IsoConfig` has the header's layout; pointer and length are the buffer's.
+        // SAFETY: `Iso8601Config` has the header's layout; pointer and length are the buffer's.
         count_of(unsafe {
-            library::movaliren_iso8601_by_utc(
+            library::movaliren_iso8601_with_utc(
                 self.config(),
                 value.seconds,
                 value.nanosecond,
@@ -248,7 +248,7 @@ unsafe impl CallAll<UtcMoment> for Iso8601By {
         // SAFETY: both structs have the header's layout, and both pointers come with the lengths
         // of their slices.
         progress_of(unsafe {
-            library::movaliren_iso8601_by_utc_batch(
+            library::movaliren_iso8601_with_utc_batch(
                 self.config(),
                 values.as_ptr(),
                 values.len(),
@@ -283,8 +283,8 @@ macro_rules! local_calls {
                 // lengths of their slices.
                 progress_of(unsafe {
                     let (moments, moments_len) = (values.as_ptr(), values.len());
-                    let (room, room_len) = (pointer(buffer), buffer.len());
-                    library::$batch(moments, moments_len, self.0, end, room, room_len)
+                    let (buffer, buffer_size) = (pointer(buffer), buffer.len());
+                    library::$batch(moments, moments_len, self.0, end, buffer, buffer_size)
                 })
             }
         }
@@ -324,9 +324,9 @@ calls_at_an_offset! {
 unsafe impl Call<LocalMoment> for Iso8601By {
     #[inline]
     fn call(&self, value: &LocalMoment, buffer: &mut Buffer, _: Inside) -> Result<usize, Error> {
-        // SAFETY: `IsoConfig` has the header's layout; pointer and length are the buffer's.
+        // SAFETY: `Iso8601Config` has the header's layout; pointer and length are the buffer's.
         count_of(unsafe {
-            library::movaliren_iso8601_by_local(
+            library::movaliren_iso8601_with_local(
                 self.config(),
                 value.seconds,
                 value.nanosecond,
@@ -338,9 +338,9 @@ unsafe impl Call<LocalMoment> for Iso8601By {
     }
 }
 
-impl Log {
+impl LogCache {
     /// Nothing.
-    pub(crate) const NONE: Log = Log {
+    pub(crate) const NONE: LogCache = LogCache {
         second: 0,
         offset: 0,
         head: [0; 20],
@@ -356,12 +356,20 @@ unsafe impl Call<LocalMoment> for LogTime {
     fn call(&self, value: &LocalMoment, buffer: &mut Buffer, _: Inside) -> Result<usize, Error> {
         let (kept, decimals) = self.parts();
         let (seconds, nanosecond, offset) = (value.seconds, value.nanosecond, value.offset);
-        let (room, room_len) = (pointer(buffer), buffer.len());
-        // SAFETY: `Log` has the header's layout, and nothing borrows what is in a `Cell`; pointer and length
+        let (buffer, buffer_size) = (pointer(buffer), buffer.len());
+        // SAFETY: `LogCache` has the header's layout, and nothing borrows what is in a `Cell`; pointer and length
         // are the buffer's.
         count_of(unsafe {
             let kept = kept.as_ptr();
-            library::movaliren_log_time(kept, decimals, seconds, nanosecond, offset, room, room_len)
+            library::movaliren_log_time(
+                kept,
+                decimals,
+                seconds,
+                nanosecond,
+                offset,
+                buffer,
+                buffer_size,
+            )
         })
     }
 }
@@ -419,11 +427,11 @@ pub(crate) struct Words;
 unsafe impl Call<isize> for Words {
     fn call(&self, value: &isize, buffer: &mut Buffer, _: Inside) -> Result<usize, Error> {
         // SAFETY: pointer and length are the buffer's.
-        count_of(unsafe { library::movaliren_error_words(*value, pointer(buffer), buffer.len()) })
+        count_of(unsafe { library::movaliren_strerror_r(*value, pointer(buffer), buffer.len()) })
     }
 }
 
-const NO_PLACE: library::Place = library::Place {
+const NO_PLACE: library::ReadError = library::ReadError {
     at: 0,
     expected: 0,
     first: 0,
@@ -432,7 +440,7 @@ const NO_PLACE: library::Place = library::Place {
     is_second_60: 0,
 };
 
-fn not_read(place: &library::Place) -> NotRead {
+fn not_read(place: &library::ReadError) -> NotRead {
     let is_lenient = place.is_lenient == 1;
     NotRead {
         at: place.at,
@@ -458,7 +466,7 @@ unsafe impl Call<Moment> for Description {
         // SAFETY: both structs have the header's layout, and each pointer comes with the length
         // of its slice.
         count_of(unsafe {
-            library::movaliren_format(
+            library::movaliren_items_format(
                 items.as_ptr(),
                 items.len(),
                 texts.as_ptr(),
@@ -480,7 +488,7 @@ unsafe impl Call<UtcMoment> for Description {
         // SAFETY: `Item` has the header's layout, and each pointer comes with the length of its
         // slice.
         count_of(unsafe {
-            library::movaliren_format_utc(
+            library::movaliren_items_format_utc(
                 items.as_ptr(),
                 items.len(),
                 texts.as_ptr(),
@@ -503,7 +511,7 @@ unsafe impl Call<LocalMoment> for Description {
         // SAFETY: `Item` has the header's layout, and each pointer comes with the length of its
         // slice.
         count_of(unsafe {
-            library::movaliren_format_local(
+            library::movaliren_items_format_local(
                 items.as_ptr(),
                 items.len(),
                 texts.as_ptr(),
@@ -527,7 +535,7 @@ unsafe impl Call<Date> for Description {
         // SAFETY: `Item` has the header's layout, and each pointer comes with the length of its
         // slice.
         count_of(unsafe {
-            library::movaliren_format_date(
+            library::movaliren_items_format_date(
                 items.as_ptr(),
                 items.len(),
                 texts.as_ptr(),
@@ -567,10 +575,10 @@ macro_rules! measured {
 }
 
 measured! {
-    Moment: movaliren_format_length(value => value);
-    UtcMoment: movaliren_format_utc_length(value => value.seconds, value.nanosecond);
-    LocalMoment: movaliren_format_local_length(value => value.seconds, value.nanosecond, value.offset);
-    Date: movaliren_format_date_length(value => value.year, value.month, value.day);
+    Moment: movaliren_items_format_length(value => value);
+    UtcMoment: movaliren_items_format_utc_length(value => value.seconds, value.nanosecond);
+    LocalMoment: movaliren_items_format_local_length(value => value.seconds, value.nanosecond, value.offset);
+    Date: movaliren_items_format_date_length(value => value.year, value.month, value.day);
 }
 
 /// The number of a fault's reason, for its words.
@@ -581,7 +589,9 @@ pub(crate) struct FaultWords;
 unsafe impl Call<u8> for FaultWords {
     fn call(&self, value: &u8, buffer: &mut Buffer, _: Inside) -> Result<usize, Error> {
         // SAFETY: pointer and length are the buffer's.
-        count_of(unsafe { library::movaliren_fault_words(*value, pointer(buffer), buffer.len()) })
+        count_of(unsafe {
+            library::movaliren_parse_strerror_r(*value, pointer(buffer), buffer.len())
+        })
     }
 }
 
@@ -597,10 +607,10 @@ pub(crate) fn describe<'a>(
     text: &str,
     syntax: Syntax,
     items: &'a mut [Item],
-) -> Result<&'a [Item], Fault> {
+) -> Result<&'a [Item], ParseError> {
     let function = match syntax {
-        Syntax::Brackets => library::movaliren_describe,
-        Syntax::Strftime => library::movaliren_describe_strftime,
+        Syntax::Brackets => library::movaliren_items_parse,
+        Syntax::Strftime => library::movaliren_items_parse_strftime,
     };
     let mut fault = NO_FAULT;
     // SAFETY: each pointer comes with the length of its slice, and both structs have the header's layout.
@@ -619,10 +629,10 @@ pub(crate) fn describe<'a>(
     }
 }
 
-const NO_FAULT: Fault = Fault {
+const NO_FAULT: ParseError = ParseError {
     at: 0,
     items: 0,
-    reason: 0,
+    kind: 0,
     byte: 0,
 };
 
@@ -630,7 +640,12 @@ const NO_FAULT: Fault = Fault {
 pub(crate) fn width(items: &[Item], texts: &[u8]) -> Result<usize, Error> {
     // SAFETY: `Item` has the header's layout, and each pointer comes with the length of its slice.
     count_of(unsafe {
-        library::movaliren_width(items.as_ptr(), items.len(), texts.as_ptr(), texts.len())
+        library::movaliren_items_max_length(
+            items.as_ptr(),
+            items.len(),
+            texts.as_ptr(),
+            texts.len(),
+        )
     })
 }
 

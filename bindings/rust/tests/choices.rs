@@ -87,7 +87,7 @@ fn a_batch_behind_a_pointer_writes_its_texts() {
         let mut room = vec![0; text.len() + 1];
         let progress = format.batch_to(&mut room, &[EXAMPLE; 2], b'\n');
         let stopped = (progress.moments, progress.stopped);
-        assert_eq!(stopped, (1, Some(Error::NoRoom)));
+        assert_eq!(stopped, (1, Some(Error::BufferTooSmall)));
         assert_eq!(room, format!("{text}\n").as_bytes());
     }
 }

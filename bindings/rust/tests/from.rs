@@ -1,4 +1,4 @@
-//! The lines of `docs/FROM.md` in Rust, each with the text that stands beside it.
+//! The lines of `docs/RUST.md` in Rust, each with the text that stands beside it.
 use movaliren::{
     description, stamp, Batch, Date, DateKind, Description, Format, Iso8601, Iso8601By, Kind,
     Moment, Padding, Parts, Rfc2822, Rfc3339, SubsecondDigits, TimePrecision, UtcMoment,

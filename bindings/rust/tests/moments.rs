@@ -40,8 +40,8 @@ fn a_moment_has_the_parts_of_its_seconds() {
 #[test]
 fn no_moment_of_another_year_has_parts() {
     for (moment, error) in [
-        (UtcMoment::new(FIRST_SECOND - 1, 0), Error::NoPlaceForYear),
-        (UtcMoment::new(253_402_300_800, 0), Error::NoPlaceForYear),
+        (UtcMoment::new(FIRST_SECOND - 1, 0), Error::FormatYear),
+        (UtcMoment::new(253_402_300_800, 0), Error::FormatYear),
         (UtcMoment::new(i64::MIN, 0), Error::MomentSeconds),
         (UtcMoment::new(0, 1_000_000_000), Error::Nanosecond),
     ] {

@@ -26,7 +26,10 @@ fn assert_text<V>(format: &impl Format<V>, value: &V, text: &str) {
     assert_eq!(format.format_str(&mut room, value), Ok(text));
     if let Some(short) = text.len().checked_sub(1) {
         let mut room = vec![b'#'; short];
-        assert_eq!(format.format_to(&mut room, value), Err(Error::NoRoom));
+        assert_eq!(
+            format.format_to(&mut room, value),
+            Err(Error::BufferTooSmall)
+        );
         assert!(room.iter().all(|byte| *byte == b'#'));
     }
 }
@@ -35,7 +38,7 @@ fn assert_in_place<V>(format: &impl Format<V>, value: &V, text: &str) {
     if text.len() <= Text::CAPACITY {
         assert_eq!(format.text(value).as_deref(), Ok(text));
     } else {
-        assert_eq!(format.text(value), Err(Error::NoRoom));
+        assert_eq!(format.text(value), Err(Error::BufferTooSmall));
     }
 }
 
@@ -119,7 +122,7 @@ fn a_moment_with_its_offset_has_a_text_by_each_format() {
     assert_error(
         &Iso8601,
         &UtcMoment::new(0, 0).local(1),
-        Error::NoPlaceForOffsetSecond,
+        Error::FormatOffsetSecond,
     );
 }
 
@@ -197,27 +200,27 @@ fn refuses_an_offset_that_has_no_text() {
     for (offset, error) in [
         (93_600, Error::OffsetHours),
         (i64::MIN, Error::OffsetHours),
-        (86_400, Error::NoPlaceForOffsetHour),
-        (-1, Error::NoPlaceForOffsetSecond),
+        (86_400, Error::FormatOffsetHour),
+        (-1, Error::FormatOffsetSecond),
     ] {
         assert_error(&Rfc3339Local(offset), &moment, error);
     }
-    let second = Error::NoPlaceForOffsetSecond;
+    let second = Error::FormatOffsetSecond;
     assert_error(&Rfc2822Local(1), &moment, second);
     let late = UtcMoment::new(i64::MAX, 0);
     assert_error(&Rfc3339Local(i64::MAX), &late, Error::MomentSeconds);
     let last = UtcMoment::new(31_494_784_780_799, 0);
-    assert_error(&Rfc3339Local(60), &last, Error::NoPlaceForYear);
+    assert_error(&Rfc3339Local(60), &last, Error::FormatYear);
 }
 
 #[test]
 fn refuses_seconds_that_have_no_text() {
     let late = UtcMoment::new(253_402_300_800, 0);
-    assert_error(&Rfc3339, &late, Error::NoPlaceForYear);
+    assert_error(&Rfc3339, &late, Error::FormatYear);
     assert_error(
         &Rfc2822,
         &UtcMoment::new(-2_208_988_801, 0),
-        Error::NoPlaceForYear,
+        Error::FormatYear,
     );
     assert_error(&Iso8601, &UtcMoment::new(i64::MIN, 0), Error::MomentSeconds);
     assert_error(
@@ -256,11 +259,7 @@ fn a_configuration_changes_the_text() {
     assert_text(&offset, &EXAMPLE.offset(0, 0, 0), "+00:00");
     let hour = offset.offset_precision(OffsetPrecision::Hour);
     assert_text(&hour, &EXAMPLE, "-06");
-    assert_error(
-        &hour,
-        &EXAMPLE.offset(5, 30, 0),
-        Error::NoPlaceForOffsetMinute,
-    );
+    assert_error(&hour, &EXAMPLE.offset(5, 30, 0), Error::FormatOffsetMinute);
     let long = time.time_precision(TimePrecision::Second, 255);
     let text = format!("00:00:00.000000001{}", "0".repeat(246));
     assert_text(&long, &EXAMPLE.at(0, 0, 0, 1), &text);
@@ -289,10 +288,10 @@ fn the_first_part_that_is_out_of_range_is_the_error() {
         (new_year.offset(0, 30, -1), Error::OffsetSeconds),
         (
             Moment::new(10_000, 1, 1).offset(24, 0, 1),
-            Error::NoPlaceForYear,
+            Error::FormatYear,
         ),
-        (new_year.offset(24, 0, 1), Error::NoPlaceForOffsetHour),
-        (new_year.offset(23, 59, 1), Error::NoPlaceForOffsetSecond),
+        (new_year.offset(24, 0, 1), Error::FormatOffsetHour),
+        (new_year.offset(23, 59, 1), Error::FormatOffsetSecond),
     ] {
         assert_error(&Rfc3339, &moment, error);
     }
@@ -442,7 +441,7 @@ fn a_text_in_place_has_at_most_64_bytes() {
         Ok(Text::CAPACITY)
     );
     line = line.literal(".");
-    assert_eq!(line.text(&EXAMPLE), Err(Error::NoRoom));
+    assert_eq!(line.text(&EXAMPLE), Err(Error::BufferTooSmall));
 }
 
 #[test]

@@ -252,6 +252,6 @@ no_value description r facts = grind arith
 -- too many bytes
 pub no_room : {V : Type 0} (description : Result (List Tree) Reason) (v : V) (facts : V → Facts) (count : ℕ)
     (room before after : List ℕ) → IsShown description (facts v) (Ok count) before after → length room < count
-    → IsText (described description (Ok v) facts) (Err reason.NoRoom) room room
-    × IfOk description (λ ts. IsWithinWidth (trees_width (trees ts)) (length room) (Err reason.NoRoom))
+    → IsText (described description (Ok v) facts) (Err reason.BufferTooSmall) room room
+    × IfOk description (λ ts. IsWithinWidth (trees_width (trees ts)) (length room) (Err reason.BufferTooSmall))
 no_room description v facts count room before after h k = grind (arith, common_steps)

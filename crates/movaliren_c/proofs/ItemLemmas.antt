@@ -9,7 +9,7 @@ use Rattle.movaliren_c.specs.Flat.{closed_at, flat, flat_items, hidden_at, or_at
 use Rattle.movaliren_c.specs.Items.{component_of, date_component, described, item_tree, trees_of}
 use Rattle.movaliren_c.specs.declared.item.Item.{Item}
 use Rattle.movaliren_c.specs.declared.reason.Reason.{Reason}
-use Rattle.movaliren_c.specs.declared.syntax.Fault.{Fault}
+use Rattle.movaliren_c.specs.declared.syntax.ParseError.{ParseError}
 use Rattle.movaliren_c.specs.declared.reason.Reason.TheVariants as reason
 use Rattle.time_below.specs.Conversion.{current_component, is_current}
 use Rattle.time_below.specs.Facts.{Facts}
@@ -182,7 +182,7 @@ counted_leaves text array count hidden all leaves holds = grind (arith, leaves_f
 
 -- ---- what a call leaves
 
-pub left_complete : (text : List ℕ) (d : Result (List Tree) Fault) (array : List Item) (count : ℕ) (old : Fault) → IsHeld text d array count
+pub left_complete : (text : List ℕ) (d : Result (List Tree) ParseError) (array : List Item) (count : ℕ) (old : ParseError) → IsHeld text d array count
     → count ≤ length array → length array < 0xffff_ffff_ffff_ffff → Leaves text d (Ok count) array old old
 left_complete text d array count old held le bound = grind (arith, common_steps, describes, leb-false)
 
@@ -195,7 +195,7 @@ same_by description all (Ok v) facts same = ap Ok (sym (same (facts v)))
 same_by description all (Err r) facts same = refl
 
 -- so a text of the items is one of the text
-pub text_shown : {A : Type 0} (text : List ℕ) (d : Result (List Tree) Fault) (count most : ℕ) (items : List Item) (old new : Fault)
+pub text_shown : {A : Type 0} (text : List ℕ) (d : Result (List Tree) ParseError) (count most : ℕ) (items : List Item) (old new : ParseError)
     (value : Result A Reason) (facts : A → Facts) (answer : Result ℕ Reason) (before after : List ℕ) → length items ≤ most
     → Leaves text d (Ok count) items old new
     → IsText (described (trees_of text (take count items)) value facts) answer before after
@@ -204,11 +204,11 @@ text_shown text d count most items old new value facts answer before after small
     grind (arith, common_steps, leb-true, le-leb, same_by)
 
 -- or there is the same reason for none
-pub text_refused : (text : List ℕ) (d : Result (List Tree) Fault) (r : Reason) (items : List Item) (old new : Fault) → Leaves text d (Err r) items old new
+pub text_refused : (text : List ℕ) (d : Result (List Tree) ParseError) (r : Reason) (items : List Item) (old new : ParseError) → Leaves text d (Err r) items old new
     → few_in (length items) d ≡ Err r
 text_refused text d r items old new h = grind (arith, common_steps)
 
 -- a fault is the same, however many items there may be
-pub text_faulty : (text : List ℕ) (d : Result (List Tree) Fault) (r : Reason) (most : ℕ) (items : List Item) (old new : Fault)
+pub text_faulty : (text : List ℕ) (d : Result (List Tree) ParseError) (r : Reason) (most : ℕ) (items : List Item) (old new : ParseError)
     → r ≢ reason.ManyItems → Leaves text d (Err r) items old new → few_in most d ≡ Err r
 text_faulty text d r most items old new h k = grind (arith, common_steps)

@@ -23,15 +23,15 @@ reason_number reason.OffsetHours = neg_ℤ (pos 8)
 reason_number reason.OffsetMinutes = neg_ℤ (pos 9)
 reason_number reason.OffsetSeconds = neg_ℤ (pos 10)
 reason_number reason.MomentSeconds = neg_ℤ (pos 11)
-reason_number reason.NoPlaceForYear = neg_ℤ (pos 12)
-reason_number reason.NoPlaceForOffsetHour = neg_ℤ (pos 13)
-reason_number reason.NoPlaceForOffsetMinute = neg_ℤ (pos 14)
-reason_number reason.NoPlaceForOffsetSecond = neg_ℤ (pos 15)
+reason_number reason.FormatYear = neg_ℤ (pos 12)
+reason_number reason.FormatOffsetHour = neg_ℤ (pos 13)
+reason_number reason.FormatOffsetMinute = neg_ℤ (pos 14)
+reason_number reason.FormatOffsetSecond = neg_ℤ (pos 15)
 reason_number reason.Insufficient = neg_ℤ (pos 16)
 reason_number reason.OutOfRange = neg_ℤ (pos 17)
 reason_number reason.BadConfig = neg_ℤ (pos 18)
 reason_number reason.BadItem = neg_ℤ (pos 19)
-reason_number reason.NoRoom = neg_ℤ (pos 20)
+reason_number reason.BufferTooSmall = neg_ℤ (pos 20)
 reason_number reason.OutOfMemory = neg_ℤ (pos 21)
 reason_number reason.Other = neg_ℤ (pos 22)
 reason_number reason.NotRead = neg_ℤ (pos 23)
@@ -55,10 +55,10 @@ NumbersAreToldApart = (a b : Result ℕ Reason) → answer_number a ≡ answer_n
 
 -- the reason for a refusal of a definition, by the name of the component that is refused
 abbrev pub Refuses : Reason → Refusal → Type 0
-Refuses reason.NoPlaceForYear (invalid_component name) = name ≡ codes "year"
-Refuses reason.NoPlaceForOffsetHour (invalid_component name) = name ≡ codes "offset_hour"
-Refuses reason.NoPlaceForOffsetMinute (invalid_component name) = name ≡ codes "offset_minute"
-Refuses reason.NoPlaceForOffsetSecond (invalid_component name) = name ≡ codes "offset_second"
+Refuses reason.FormatYear (invalid_component name) = name ≡ codes "year"
+Refuses reason.FormatOffsetHour (invalid_component name) = name ≡ codes "offset_hour"
+Refuses reason.FormatOffsetMinute (invalid_component name) = name ≡ codes "offset_minute"
+Refuses reason.FormatOffsetSecond (invalid_component name) = name ≡ codes "offset_second"
 Refuses reason.Other (invalid_component name) =
     (name ≢ codes "year") × (name ≢ codes "offset_hour") × (name ≢ codes "offset_minute") × (name ≢
     codes "offset_second")
@@ -79,7 +79,7 @@ IsReasonFor r (error.InvalidComponent name) = Refuses r (invalid_component name.
 
 -- the reason for no text of an outcome: the text is complete and longer than the buffer, or the definition refuses it
 abbrev pub Explains : Reason → Outcome → ℕ → Type 0
-Explains r o room = ((r ≡ reason.NoRoom) × (o.refusal ≡ None) × (room < length o.bytes)) ⊎
+Explains r o room = ((r ≡ reason.BufferTooSmall) × (o.refusal ≡ None) × (room < length o.bytes)) ⊎
     IsRefusedFor r o
 
 -- ---- texts

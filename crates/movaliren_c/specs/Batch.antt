@@ -46,6 +46,6 @@ StopsAt r n items line room = IfSome (slice_get items n) (λ item. Stops r (line
 pub record IsBatch {A : Type 0} (items : List A) (end_byte : ℕ) (asked : A → Result Outcome Reason) (p : Progress)
     (before after : List ℕ) : Type 0 where
   pub stand : Stand p.moments items (λ item. ended end_byte (asked item)) p.bytes before after
-  pub stopped : ((p.reason ≡ pos 0) × (p.moments ≡ length items))
-      ⊎ ((r : Reason) × (p.reason ≡ reason_number r) × (p.moments < length items)
+  pub stopped : ((p.error ≡ pos 0) × (p.moments ≡ length items))
+      ⊎ ((r : Reason) × (p.error ≡ reason_number r) × (p.moments < length items)
       × StopsAt r p.moments items (λ item. ended end_byte (asked item)) (length (drop p.bytes before)))

@@ -2,7 +2,7 @@
 use Rattle.std.specs.Prelude.{ℕ, true, ◌==◌, [], ◌∷◌, Option, Some, None, Result, Ok, if◌then◌else◌}
 use Rattle.movaliren_c.specs.Answer.{gives}
 use Rattle.movaliren_c.specs.Value.{flag_at, numbered, with_value}
-use Rattle.movaliren_c.specs.declared.iso8601.config.IsoConfig.{IsoConfig}
+use Rattle.movaliren_c.specs.declared.iso8601.config.Iso8601Config.{Iso8601Config}
 use Rattle.movaliren_c.specs.declared.reason.Reason.{Reason}
 use Rattle.movaliren_c.specs.declared.reason.Reason.TheVariants as reason
 use Rattle.time_below.specs.Moment.{OffsetDateAndTime}
@@ -44,9 +44,9 @@ offset_precision_at n = numbered 0 (offset_precision.Hour ∷ offset_precision.M
 abbrev pub sign_at : ℕ → Result DecimalSign Reason
 sign_at n = numbered 0 (sign.Point ∷ sign.Comma ∷ []) reason.BadConfig n
 
-abbrev pub choices_at : IsoConfig → Result Choices Reason
+abbrev pub choices_at : Iso8601Config → Result Choices Reason
 choices_at n =
-    with_value (components_at n.components) (λ components.
+    with_value (components_at n.parts) (λ components.
     with_value (date_kind_at n.date_kind) (λ date_kind.
     with_value (precision_at n.time_precision (decimals_at n.decimals)) (λ precision.
     with_value (offset_precision_at n.offset_precision) (λ offset_precision.
@@ -68,5 +68,5 @@ abbrev pub separated : Usual → Choices
 separated usual = usual_choices true usual.decimal_digits usual.decimal_sign
 
 -- the outcome of a value by a configuration, whose numbers are tested first
-unfoldable pub iso8601_by : IsoConfig → Result OffsetDateAndTime Reason → Result Outcome Reason
+unfoldable pub iso8601_by : Iso8601Config → Result OffsetDateAndTime Reason → Result Outcome Reason
 iso8601_by numbers value = with_value (choices_at numbers) (λ c. gives value (iso8601_of c))

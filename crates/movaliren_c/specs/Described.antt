@@ -5,7 +5,7 @@ use Rattle.movaliren_c.specs.Items.{component_of, item_tree, trees_of}
 use Rattle.movaliren_c.specs.declared.item.Item.{Item}
 use Rattle.movaliren_c.specs.declared.reason.Reason.{Reason}
 use Rattle.movaliren_c.specs.declared.reason.Reason.TheVariants as reason
-use Rattle.movaliren_c.specs.declared.syntax.Fault.{Fault}
+use Rattle.movaliren_c.specs.declared.syntax.ParseError.{ParseError}
 use Rattle.time_below.specs.Conversion.{is_current}
 use Rattle.time_below.specs.Facts.{Facts}
 use Rattle.time_below.specs.Tree.{Tree, trees}
@@ -72,7 +72,7 @@ pub record HoldsListsIn (text : List ℕ) (fs : List Frame) (items : List Tree) 
   pub held : HoldsItems text array count (shown_in fs (flat_items items ++ first_shown lists []))
 
 -- an array has the items of a text, as far as they fit
-pub record IsHeld (text : List ℕ) (described : Result (List Tree) Fault) (array : List Item) (count : ℕ) : Type 0 where
+pub record IsHeld (text : List ℕ) (described : Result (List Tree) ParseError) (array : List Item) (count : ℕ) : Type 0 where
   pub all : List Tree
   pub is : described ≡ Ok all
   pub held : HoldsItems text array count all
@@ -106,25 +106,25 @@ bracket_number bracket_reason.TooDeep = (10, 0)
 bracket_number bracket_reason.TooManyItems = (11, 0)
 
 -- a fault at a byte
-abbrev pub fault_at : ℕ → ℕ × ℕ → Fault
-fault_at at reason = record { at = at; items = 0; reason = reason.0; byte = reason.1 }
+abbrev pub fault_at : ℕ → ℕ × ℕ → ParseError
+fault_at at reason = record { at = at; items = 0; kind = reason.0; byte = reason.1 }
 
 -- the lack of room for so many items
-abbrev pub many : ℕ → Fault
-many items = record { at = 0; items = items; reason = 0; byte = 0 }
+abbrev pub many : ℕ → ParseError
+many items = record { at = 0; items = items; kind = 0; byte = 0 }
 
 -- what comes of a result, by its items and by its fault
-abbrev pub of_result : {F : Type 0} → (List Tree → List Tree) → (F → Fault) → Result (List Tree) F → Result (List Tree) Fault
+abbrev pub of_result : {F : Type 0} → (List Tree → List Tree) → (F → ParseError) → Result (List Tree) F → Result (List Tree) ParseError
 of_result items fault (Ok all) = Ok (items all)
 of_result items fault (Err f) = Err (fault f)
 
 -- what a text in the syntax of strftime describes: the trees of its items, or its first fault
-unfoldable pub strftime_items : List ℕ → Result (List Tree) Fault
+unfoldable pub strftime_items : List ℕ → Result (List Tree) ParseError
 strftime_items text =
     of_result (λ all. all) (λ f. fault_at (length text - f.left) (strftime_number f.reason)) (strftime.described text)
 
 -- what a text in brackets describes, with the items of lists in their places
-unfoldable pub bracket_items : List ℕ → Result (List Tree) Fault
+unfoldable pub bracket_items : List ℕ → Result (List Tree) ParseError
 bracket_items text =
     of_result flat_items (λ f. fault_at (length text - f.left) (bracket_number f.reason)) (reading.described text)
 
@@ -145,7 +145,7 @@ abbrev pub DescribeNothing : List Item → Type 0
 DescribeNothing [] = Unit {0}
 DescribeNothing (i ∷ is) = (text : List ℕ) → item_tree text i ≡ Err reason.BadItem
 
-abbrev pub LeavesItems : Bool → List ℕ → List Tree → Result ℕ Reason → List Item → Fault → Fault → Type 0
+abbrev pub LeavesItems : Bool → List ℕ → List Tree → Result ℕ Reason → List Item → ParseError → ParseError → Type 0
 LeavesItems true text all answer items old new = (answer ≡ Ok (length all)) × Describes text (take (length all) items) all
     × (new ≡ old)
 LeavesItems false text all answer items old new = (answer ≡ Err reason.ManyItems) × DescribeNothing items
@@ -153,15 +153,15 @@ LeavesItems false text all answer items old new = (answer ≡ Err reason.ManyIte
 
 -- The items of the text are at the start of an array that has room for them, and the fault is unchanged. Or the array
 -- describes nothing, and the fault says why.
-abbrev pub Leaves : List ℕ → Result (List Tree) Fault → Result ℕ Reason → List Item → Fault → Fault → Type 0
+abbrev pub Leaves : List ℕ → Result (List Tree) ParseError → Result ℕ Reason → List Item → ParseError → ParseError → Type 0
 Leaves text (Ok all) answer items old new = LeavesItems (nat_le (length all) (length items)) text all answer items old new
 Leaves text (Err f) answer items old new = (answer ≡ Err reason.BadDescription) × DescribeNothing items × (new ≡ f)
 
 -- the trees of a text, which are at most so many
-abbrev pub few_in : ℕ → Result (List Tree) Fault → Result (List Tree) Reason
+abbrev pub few_in : ℕ → Result (List Tree) ParseError → Result (List Tree) Reason
 few_in room (Ok all) = if nat_le (length all) room then Ok all else Err reason.ManyItems
 few_in room (Err f) = Err reason.BadDescription
 
 -- those of a text that is formatted in one call are at most 64
-abbrev pub few : Result (List Tree) Fault → Result (List Tree) Reason
+abbrev pub few : Result (List Tree) ParseError → Result (List Tree) Reason
 few described = few_in 64 described

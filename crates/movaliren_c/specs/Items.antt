@@ -139,7 +139,7 @@ width_answer description = with_value description (λ ts. Ok (min (trees_width (
 -- A text has no more bytes than the width, and a buffer of so many bytes is large enough.
 pub record IsWithinWidth (width room : ℕ) (answer : Result ℕ Reason) : Type 0 where
   pub within : IfOk answer (λ count. count ≤ width)
-  pub fits : width ≤ room → answer ≢ Err reason.NoRoom
+  pub fits : width ≤ room → answer ≢ Err reason.BufferTooSmall
 
 -- The text of a description is written, or the reason for no text is returned and the buffer is unchanged. Where there
 -- is a value, its text is within the description's width.

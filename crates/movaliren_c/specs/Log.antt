@@ -2,8 +2,8 @@
 use Rattle.std.specs.Prelude.{ℕ, ◌<◌, ◌≡◌, ℤ, true, List, ◌++◌, codes, take, Some, Ok}
 use Rattle.movaliren_c.specs.Answer.{gives}
 use Rattle.movaliren_c.specs.Utc.{local_value}
-use Rattle.movaliren_c.specs.declared.iso8601.config.IsoConfig.{IsoConfig}
-use Rattle.movaliren_c.specs.declared.log.Log.{Log}
+use Rattle.movaliren_c.specs.declared.iso8601.config.Iso8601Config.{Iso8601Config}
+use Rattle.movaliren_c.specs.declared.log.LogCache.{LogCache}
 use Rattle.time_fmt.specs.Decimals.{decimals}
 use Rattle.time_fmt.specs.Outcome.{done}
 use Rattle.time_known.specs.Config.{Choices}
@@ -14,9 +14,9 @@ use Rattle.time_known.specs.Values.{DateFacts, TimeOfDay}
 use Rattle.time_known.specs.declared.iso8601.config.DecimalSign.TheVariants as sign
 
 -- the configuration of ISO 8601 by default, with so many decimals: a date, a time to the second and an offset to the minute
-abbrev pub log_config : ℕ → IsoConfig
+abbrev pub log_config : ℕ → Iso8601Config
 log_config digits = record {
-  components = 5;
+  parts = 5;
   date_kind = 0;
   time_precision = 2;
   decimals = digits;
@@ -41,5 +41,5 @@ Remembers second east before after = (nanosecond digits : ℕ) → nanosecond < 
     ≡ Ok (done (before ++ decimals nanosecond 1_000_000_000 digits ++ after))
 
 -- what is kept, if anything is, is of its second and its offset
-abbrev pub IsKept : Log → Type 0
+abbrev pub IsKept : LogCache → Type 0
 IsKept k = 0 < k.zone_len → Remembers k.second k.offset k.head (take k.zone_len k.zone)

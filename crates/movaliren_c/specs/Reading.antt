@@ -4,7 +4,7 @@ use Rattle.movaliren_c.specs.Answer.{reason_number}
 use Rattle.movaliren_c.specs.Value.{moment_value}
 use Rattle.movaliren_c.specs.declared.moment.Moment.{Moment}
 use Rattle.movaliren_c.specs.declared.moment.UtcMoment.{UtcMoment}
-use Rattle.movaliren_c.specs.declared.read.Place.{Place}
+use Rattle.movaliren_c.specs.declared.read.ReadError.{ReadError}
 use Rattle.movaliren_c.specs.declared.reason.Reason.TheVariants as reason
 use Rattle.time_below.specs.Moment.{OffsetDateAndTime, local_unix_seconds}
 use Rattle.time_known.specs.Rules.{Rule}
@@ -27,7 +27,7 @@ lenient_flag profile.Lenient = 1
 
 -- what could have come after so many bytes: its number, the first and the last of its digits or its byte twice, and
 -- whether small letters could have come too; the number is 0 of what only RFC 2822 has
-abbrev pub place_at : ℕ → Bool → Expected → Place
+abbrev pub place_at : ℕ → Bool → Expected → ReadError
 place_at at is_second_60 (expected.Digit first last) = record { at = at; expected = 1; first = first; last = last; is_lenient = 0; is_second_60 = flag_of is_second_60 }
 place_at at is_second_60 (expected.Byte b) = record { at = at; expected = 2; first = b; last = b; is_lenient = 0; is_second_60 = flag_of is_second_60 }
 place_at at is_second_60 (expected.Letter letter p) = record { at = at; expected = 3; first = letter; last = letter; is_lenient = lenient_flag p; is_second_60 = flag_of is_second_60 }
@@ -40,7 +40,7 @@ place_at at is_second_60 (expected.EachFourth first last) = record { at = at; ex
 place_at at is_second_60 (expected.Name names count first second) = record { at = at; expected = 0; first = 0; last = 0; is_lenient = 0; is_second_60 = flag_of is_second_60 }
 place_at at is_second_60 (expected.Weekday weekday) = record { at = at; expected = 0; first = 0; last = 0; is_lenient = 0; is_second_60 = flag_of is_second_60 }
 
-abbrev pub place_of : NotRead → Place
+abbrev pub place_of : NotRead → ReadError
 place_of e = place_at e.at e.is_second_60 e.expected
 
 -- ---- texts
@@ -64,15 +64,15 @@ pub record IsInUtc (m : UtcMoment) (v : OffsetDateAndTime) : Type 0 where
 
 -- The number is 0, the moment has the value, and the place is unchanged; or the number is that of a text that is not read,
 -- the moment is unchanged, and the place is where the text is none.
-abbrev pub Leaves : {M : Type 0} → (M → OffsetDateAndTime → Type 0) → Result OffsetDateAndTime NotRead → ℤ → M → M → Place
-    → Place → Type 0
+abbrev pub Leaves : {M : Type 0} → (M → OffsetDateAndTime → Type 0) → Result OffsetDateAndTime NotRead → ℤ → M → M → ReadError
+    → ReadError → Type 0
 Leaves Holds (Ok v) number before after old new = (number ≡ pos 0) × Holds after v × (new ≡ old)
 Leaves Holds (Err e) number before after old new = (number ≡ reason_number reason.NotRead) × (after ≡ before)
     × (new ≡ place_of e)
 
 -- the text is read, or refused at its first fault
 pub record IsRead {M : Type 0} (Spells : OffsetDateAndTime → Rule) (Holds : M → OffsetDateAndTime → Type 0)
-    (text : List ℕ) (number : ℤ) (before after : M) (old new : Place) : Type 0 where
+    (text : List ℕ) (number : ℤ) (before after : M) (old new : ReadError) : Type 0 where
   pub reading : Result OffsetDateAndTime NotRead
   pub reads : Reads Spells text reading
   pub leaves : Leaves Holds reading number before after old new

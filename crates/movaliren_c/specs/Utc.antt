@@ -30,7 +30,7 @@ east_value east =
 
 -- the date and time of a moment by clocks at this offset; no format has a place for a year outside -999,999 to 999,999
 abbrev pub local_there : Moment → Offset → Result OffsetDateAndTime Reason
-local_there m o = checked (is_in_years (m.seconds +ℤ offset_seconds o)) reason.NoPlaceForYear (Ok (local_at m o))
+local_there m o = checked (is_in_years (m.seconds +ℤ offset_seconds o)) reason.FormatYear (Ok (local_at m o))
 
 -- the moment is tested first, then the offset, then the local date
 unfoldable pub local_value : ℤ → ℕ → ℤ → Result OffsetDateAndTime Reason

@@ -6,7 +6,7 @@ abbrev pub counted : ℕ → List (List ℕ) → List ℕ → ℕ → List ℕ
 counted first [] other n = other
 counted first (words ∷ rest) other n = if n == first then words else counted (first + 1) rest other n
 
--- those of a reason whose number is below zero, by its size
+-- those of a reason whose number is below zero, by its size: 21 and 22 are none that a call returns
 unfoldable pub words_numbered : ℕ → List ℕ
 words_numbered n = counted 1 (
     codes "the year is outside -999999 to 999999"
@@ -29,8 +29,8 @@ words_numbered n = counted 1 (
     ∷ codes "invalid configuration value"
     ∷ codes "invalid item"
     ∷ codes "the text does not fit the buffer"
-    ∷ codes "out of memory"
-    ∷ codes "the format cannot represent a component"
+    ∷ codes "unknown error"
+    ∷ codes "unknown error"
     ∷ codes "the text is not one of the format"
     ∷ codes "the text is not a description"
     ∷ codes "the description has more items than there is room for"

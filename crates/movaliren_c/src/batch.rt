@@ -14,7 +14,7 @@ pub struct Progress {
     /// How many bytes they have.
     pub bytes: usize,
     /// 0 where these are all, or the number of the reason why the next one does not.
-    pub reason: isize,
+    pub error: isize,
 }
 
 /// The texts of the items, one after another, each ended by this byte.
@@ -24,7 +24,7 @@ pub fn write_lines<W: Writer>(writer: &W, items: &[W::Item], end: u8, room: &mut
     let mut progress = Progress {
         moments: 0,
         bytes: 0,
-        reason: 0,
+        error: 0,
     };
     for item in items {
         match write_line_after(writer, item, end, room, progress.bytes) {
@@ -33,7 +33,7 @@ pub fn write_lines<W: Writer>(writer: &W, items: &[W::Item], end: u8, room: &mut
                 progress.moments += 1;
             }
             Err(reason) => {
-                progress.reason = answer_number(Err(reason));
+                progress.error = answer_number(Err(reason));
                 return progress;
             }
         }
@@ -72,7 +72,7 @@ fn write_line<W: Writer>(
     let most = room.len().saturating_sub(1);
     let count = write_text_within(writer, item, room, most)?;
     if count == room.len() {
-        return Err(Reason::NoRoom);
+        return Err(Reason::BufferTooSmall);
     }
     room[count] = end;
     Ok(count + 1)

@@ -14,7 +14,7 @@ use crate::local_parts::{FirstState, local_parts_at};
 use crate::made_item::NO_ITEM;
 use crate::moment::timestamp_value;
 use crate::reason::{Reason, answer_number};
-use crate::syntax::{Brackets, Fault, Strftime, Syntax};
+use crate::syntax::{Brackets, ParseError, Strftime, Syntax};
 
 /// The most items of a text that is formatted in one call.
 const FEW: usize = 64;
@@ -24,90 +24,98 @@ const USUAL: usize = 24;
 
 /// Reads the items of a text in brackets into an array.
 #[unsafe(no_mangle)]
-pub extern "C" fn movaliren_describe(text: &[u8], items: &mut [Item], fault: &mut Fault) -> isize
+pub extern "C" fn movaliren_items_parse(
+    text: &[u8],
+    items: &mut [Item],
+    error: &mut ParseError,
+) -> isize
     ensures { Answers result (λ answer. Leaves text.now (bracket_items text.now)
-        answer items.new fault.old fault.new) }
+        answer items.new error.old error.new) }
 {
-    answer_number(describe::<Brackets>(text, items, fault))
+    answer_number(describe::<Brackets>(text, items, error))
 }
 
 /// The text of a moment in UTC by a description in brackets.
 #[unsafe(no_mangle)]
-pub extern "C" fn movaliren_brackets_utc(
+pub extern "C" fn movaliren_format_brackets_utc(
     text: &[u8],
     seconds: i64,
     nanosecond: u32,
-    room: &mut [u8],
+    buffer: &mut [u8],
 ) -> isize
     ensures { Answers result (λ answer. IsText (described (few (bracket_items text.now))
-        (timestamp_value seconds nanosecond) facts_of_timestamp) answer room.old room.new) }
+        (timestamp_value seconds nanosecond) facts_of_timestamp) answer buffer.old buffer.new) }
 {
-    answer_number(write_text::<Brackets, _>(text, timestamp_value(seconds, nanosecond), room))
+    answer_number(write_text::<Brackets, _>(text, timestamp_value(seconds, nanosecond), buffer))
 }
 
 /// The text of a moment by a description in brackets, at an offset of this many seconds east of UTC.
 #[unsafe(no_mangle)]
-pub extern "C" fn movaliren_brackets_local(
+pub extern "C" fn movaliren_format_brackets_local(
     text: &[u8],
     seconds: i64,
     nanosecond: u32,
     offset: i64,
-    room: &mut [u8],
+    buffer: &mut [u8],
 ) -> isize
     ensures { Answers result (λ answer. IsText (described (few (bracket_items text.now))
-        (local_value seconds nanosecond offset) facts_of_offset_date_time) answer room.old room.new) }
+        (local_value seconds nanosecond offset) facts_of_offset_date_time) answer buffer.old buffer.new) }
 {
     let value = local_parts_at(seconds, nanosecond, offset);
-    answer_number(write_text::<Brackets, _>(text, value, room))
+    answer_number(write_text::<Brackets, _>(text, value, buffer))
 }
 
 /// Reads the items of a text in the syntax of strftime into an array.
 #[unsafe(no_mangle)]
-pub extern "C" fn movaliren_describe_strftime(
+pub extern "C" fn movaliren_items_parse_strftime(
     text: &[u8],
     items: &mut [Item],
-    fault: &mut Fault,
+    error: &mut ParseError,
 ) -> isize
     ensures { Answers result (λ answer. Leaves text.now (strftime_items text.now)
-        answer items.new fault.old fault.new) }
+        answer items.new error.old error.new) }
 {
-    answer_number(describe::<Strftime>(text, items, fault))
+    answer_number(describe::<Strftime>(text, items, error))
 }
 
 /// The text of a moment in UTC by a description in the syntax of strftime.
 #[unsafe(no_mangle)]
-pub extern "C" fn movaliren_strftime_utc(
+pub extern "C" fn movaliren_format_strftime_utc(
     text: &[u8],
     seconds: i64,
     nanosecond: u32,
-    room: &mut [u8],
+    buffer: &mut [u8],
 ) -> isize
     ensures { Answers result (λ answer. IsText (described (few (strftime_items text.now))
-        (timestamp_value seconds nanosecond) facts_of_timestamp) answer room.old room.new) }
+        (timestamp_value seconds nanosecond) facts_of_timestamp) answer buffer.old buffer.new) }
 {
-    answer_number(write_text::<Strftime, _>(text, timestamp_value(seconds, nanosecond), room))
+    answer_number(write_text::<Strftime, _>(text, timestamp_value(seconds, nanosecond), buffer))
 }
 
 /// The text of a moment by a description in the syntax of strftime, at an offset of this many seconds
 /// east of UTC.
 #[unsafe(no_mangle)]
-pub extern "C" fn movaliren_strftime_local(
+pub extern "C" fn movaliren_format_strftime_local(
     text: &[u8],
     seconds: i64,
     nanosecond: u32,
     offset: i64,
-    room: &mut [u8],
+    buffer: &mut [u8],
 ) -> isize
     ensures { Answers result (λ answer. IsText (described (few (strftime_items text.now))
-        (local_value seconds nanosecond offset) facts_of_offset_date_time) answer room.old room.new) }
+        (local_value seconds nanosecond offset) facts_of_offset_date_time) answer buffer.old buffer.new) }
 {
     let value = local_parts_at(seconds, nanosecond, offset);
-    answer_number(write_text::<Strftime, _>(text, value, room))
+    answer_number(write_text::<Strftime, _>(text, value, buffer))
 }
 
 /// Reads the items of a text into an array. If there are none, or they do not fit, the first item of the
 /// array is none.
-fn describe<S: Syntax>(text: &[u8], items: &mut [Item], fault: &mut Fault) -> Result<usize, Reason>
+fn describe<S: Syntax>(
+    text: &[u8],
+    items: &mut [Item],
+    fault: &mut ParseError,
+) -> Result<usize, Reason>
     ensures leaves { Leaves text.now (S.described text.now) result items.new fault.old fault.new }
     ensures fits { IfOk result (λ count. count ≤ length items.new) }
     ensures len { length items.new ≡ length items.old }
@@ -116,7 +124,7 @@ fn describe<S: Syntax>(text: &[u8], items: &mut [Item], fault: &mut Fault) -> Re
     match S::put_items(&mut room, text) {
         Ok(()) if room.is_complete() => Ok(room.count()),
         Ok(()) => {
-            *fault = Fault::many(room.count());
+            *fault = ParseError::many(room.count());
             room.clear();
             Err(Reason::ManyItems)
         }
@@ -139,7 +147,7 @@ fn write_text<S: Syntax, V: FirstState>(
     ensures fits { IfOk result (λ count. count ≤ length room.old) }
 {
     let mut items = [NO_ITEM; USUAL];
-    let mut fault = Fault::many(0);
+    let mut fault = ParseError::many(0);
     match describe::<S>(text, &mut items, &mut fault) {
         Ok(count) => write_described(&items[..count], text, value, room),
         Err(Reason::BadDescription) => Err(Reason::BadDescription),
@@ -160,7 +168,7 @@ fn write_many<S: Syntax, V: FirstState>(
     ensures fits { IfOk result (λ count. count ≤ length room.old) }
 {
     let mut all = [NO_ITEM; FEW];
-    let mut fault = Fault::many(0);
+    let mut fault = ParseError::many(0);
     let count = describe::<S>(text, &mut all, &mut fault)?;
     write_described(&all[..count], text, value, room)
 }

@@ -51,70 +51,70 @@ macro_rules! by_call {
 
 /// The text of a local date and time with its offset.
 #[unsafe(no_mangle)]
-pub extern "C" fn movaliren_format(
+pub extern "C" fn movaliren_items_format(
     items: &[Item],
     texts: &[u8],
     moment: &Moment,
-    room: &mut [u8],
+    buffer: &mut [u8],
 ) -> isize
     ensures { Answers result (λ answer. IsDescribed texts.now items.now
-        (moment_value moment.now) facts_of_offset_date_time answer room.old room.new) }
+        (moment_value moment.now) facts_of_offset_date_time answer buffer.old buffer.new) }
 {
-    answer_number(write_described(items, texts, local_parts_of(moment), room))
+    answer_number(write_described(items, texts, local_parts_of(moment), buffer))
 }
 
 /// The text of a moment in UTC.
 #[unsafe(no_mangle)]
-pub extern "C" fn movaliren_format_utc(
+pub extern "C" fn movaliren_items_format_utc(
     items: &[Item],
     texts: &[u8],
     seconds: i64,
     nanosecond: u32,
-    room: &mut [u8],
+    buffer: &mut [u8],
 ) -> isize
     ensures { Answers result (λ answer. IsDescribed texts.now items.now
-        (timestamp_value seconds nanosecond) facts_of_timestamp answer room.old room.new) }
+        (timestamp_value seconds nanosecond) facts_of_timestamp answer buffer.old buffer.new) }
 {
     let value = timestamp_value(seconds, nanosecond);
-    answer_number(write_described(items, texts, value, room))
+    answer_number(write_described(items, texts, value, buffer))
 }
 
 /// The text of a moment by a description, at an offset of this many seconds east of UTC.
 #[unsafe(no_mangle)]
-pub extern "C" fn movaliren_format_local(
+pub extern "C" fn movaliren_items_format_local(
     items: &[Item],
     texts: &[u8],
     seconds: i64,
     nanosecond: u32,
     offset: i64,
-    room: &mut [u8],
+    buffer: &mut [u8],
 ) -> isize
     ensures { Answers result (λ answer. IsDescribed texts.now items.now
-        (local_value seconds nanosecond offset) facts_of_offset_date_time answer room.old room.new) }
+        (local_value seconds nanosecond offset) facts_of_offset_date_time answer buffer.old buffer.new) }
 {
     let value = local_parts_at(seconds, nanosecond, offset);
-    answer_number(write_described(items, texts, value, room))
+    answer_number(write_described(items, texts, value, buffer))
 }
 
 /// The text of a date.
 #[unsafe(no_mangle)]
-pub extern "C" fn movaliren_format_date(
+pub extern "C" fn movaliren_items_format_date(
     items: &[Item],
     texts: &[u8],
     year: i32,
     month: u8,
     day: u8,
-    room: &mut [u8],
+    buffer: &mut [u8],
 ) -> isize
     ensures { Answers result (λ answer. IsDescribed texts.now items.now
-        (date_value year month day) facts_of_date answer room.old room.new) }
+        (date_value year month day) facts_of_date answer buffer.old buffer.new) }
 {
-    answer_number(write_described(items, texts, date_value(year, month, day), room))
+    answer_number(write_described(items, texts, date_value(year, month, day), buffer))
 }
 
 /// A number of bytes that no text of the description exceeds, up to the greatest `isize`.
 #[unsafe(no_mangle)]
-pub extern "C" fn movaliren_width(items: &[Item], texts: &[u8]) -> isize
+pub extern "C" fn movaliren_items_max_length(items: &[Item], texts: &[u8]) -> isize
     ensures { Answers result (λ answer. answer ≡ width_answer (trees_of texts.now items.now)) }
 {
     answer_number(width(items, texts))
@@ -150,7 +150,7 @@ pub fn write_described<V: FirstState>(
     match write_chosen::<Brand, V>(items, texts, &value, &mut line) {
         Ok(count) if count <= SHORT => copy_text(&line[..count], room),
         Ok(count) if count <= room.len() => write_long::<Brand, V>(items, texts, &value, room),
-        Ok(_) => Err(Reason::NoRoom),
+        Ok(_) => Err(Reason::BufferTooSmall),
         Err(reason) => Err(reason),
     }
 }

@@ -20,7 +20,7 @@ use crate::room::copy_text;
 use crate::source::{AtOffset, ByParts, InUtc, Source};
 use crate::writer::Writer;
 use config::separated_config_at;
-pub use config::{IsoConfig, config_at};
+pub use config::{Iso8601Config, config_at};
 use std::default::Default;
 use std::marker::Brand;
 use time_below::OffsetDateTime;
@@ -76,20 +76,20 @@ fn separated_text(usual: &Usual, value: &OffsetDateTime) -> Result<SeparatedText
 
 /// The text of ISO 8601 by the default configuration.
 #[unsafe(no_mangle)]
-pub extern "C" fn movaliren_iso8601(moment: &Moment, room: &mut [u8]) -> isize
+pub extern "C" fn movaliren_iso8601(moment: &Moment, buffer: &mut [u8]) -> isize
     ensures { IsAnswer (gives (moment_value moment.now) (iso8601_of default_choices))
-        result room.old room.new }
+        result buffer.old buffer.new }
 {
-    answer_number(texts_of(Iso8601, ByParts).write(moment, room))
+    answer_number(texts_of(Iso8601, ByParts).write(moment, buffer))
 }
 
 /// The text of ISO 8601 of a moment in UTC, by the default configuration.
 #[unsafe(no_mangle)]
-pub extern "C" fn movaliren_iso8601_utc(seconds: i64, nanosecond: u32, room: &mut [u8]) -> isize
+pub extern "C" fn movaliren_iso8601_utc(seconds: i64, nanosecond: u32, buffer: &mut [u8]) -> isize
     ensures { IsAnswer (gives (utc_value seconds nanosecond) (iso8601_of default_choices))
-        result room.old room.new }
+        result buffer.old buffer.new }
 {
-    answer_at(&texts_of(Iso8601, InUtc), seconds, nanosecond, room)
+    answer_at(&texts_of(Iso8601, InUtc), seconds, nanosecond, buffer)
 }
 
 /// The text of ISO 8601 of a moment by the default configuration, at an offset of this many seconds east
@@ -99,23 +99,27 @@ pub extern "C" fn movaliren_iso8601_local(
     seconds: i64,
     nanosecond: u32,
     offset: i64,
-    room: &mut [u8],
+    buffer: &mut [u8],
 ) -> isize
     ensures { IsAnswer (gives (local_value seconds nanosecond offset) (iso8601_of default_choices))
-        result room.old room.new }
+        result buffer.old buffer.new }
 {
     let texts = texts_of(Iso8601, AtOffset(offset));
-    answer_at(&texts, seconds, nanosecond, room)
+    answer_at(&texts, seconds, nanosecond, buffer)
 }
 
 /// The texts of ISO 8601 of the moments by the default configuration, one after another, each ended
 /// by this byte.
 #[unsafe(no_mangle)]
-pub extern "C" fn movaliren_iso8601_batch(moments: &[Moment], end: u8, room: &mut [u8]) -> Progress
+pub extern "C" fn movaliren_iso8601_batch(
+    moments: &[Moment],
+    end: u8,
+    buffer: &mut [u8],
+) -> Progress
     ensures { IsBatch moments.now end (λ m. gives (moment_value m) (iso8601_of default_choices))
-        result room.old room.new }
+        result buffer.old buffer.new }
 {
-    write_lines(&texts_of(Iso8601, ByParts), moments, end, room)
+    write_lines(&texts_of(Iso8601, ByParts), moments, end, buffer)
 }
 
 /// The texts of ISO 8601 of the moments in UTC by the default configuration, one after another, each
@@ -124,19 +128,19 @@ pub extern "C" fn movaliren_iso8601_batch(moments: &[Moment], end: u8, room: &mu
 pub extern "C" fn movaliren_iso8601_utc_batch(
     moments: &[UtcMoment],
     end: u8,
-    room: &mut [u8],
+    buffer: &mut [u8],
 ) -> Progress
     ensures { IsBatch moments.now end
         (λ m. gives (utc_value m.seconds m.nanosecond) (iso8601_of default_choices))
-        result room.old room.new }
+        result buffer.old buffer.new }
 {
-    write_lines(&texts_of(Iso8601, InUtc), moments, end, room)
+    write_lines(&texts_of(Iso8601, InUtc), moments, end, buffer)
 }
 
 /// The format of ISO 8601 by a configuration, over the moments of a source.
 #[derive(Clone, Copy)]
 struct Iso8601By<S> {
-    config: IsoConfig,
+    config: Iso8601Config,
     source: S,
 }
 
@@ -158,7 +162,7 @@ impl<S: Source> Writer for Iso8601By<S> {
 }
 
 /// The texts of ISO 8601 by this configuration, of the moments of this source.
-fn iso8601_by<S: Source>(config: &IsoConfig, source: S) -> Iso8601By<S>
+fn iso8601_by<S: Source>(config: &Iso8601Config, source: S) -> Iso8601By<S>
     ensures { result ≡ record { config = config.now; source = source } }
 {
     Iso8601By {
@@ -169,77 +173,77 @@ fn iso8601_by<S: Source>(config: &IsoConfig, source: S) -> Iso8601By<S>
 
 /// The text of ISO 8601 by a configuration, whose numbers are tested before the moment.
 #[unsafe(no_mangle)]
-pub extern "C" fn movaliren_iso8601_by(
-    config: &IsoConfig,
+pub extern "C" fn movaliren_iso8601_with(
+    config: &Iso8601Config,
     moment: &Moment,
-    room: &mut [u8],
+    buffer: &mut [u8],
 ) -> isize
-    ensures { IsAnswer (iso8601_by config.now (moment_value moment.now)) result room.old room.new }
+    ensures { IsAnswer (iso8601_by config.now (moment_value moment.now)) result buffer.old buffer.new }
 {
-    answer_number(iso8601_by(config, ByParts).write(moment, room))
+    answer_number(iso8601_by(config, ByParts).write(moment, buffer))
 }
 
 /// The text of ISO 8601 of a moment in UTC by a configuration, whose numbers are tested before the
 /// moment.
 #[unsafe(no_mangle)]
-pub extern "C" fn movaliren_iso8601_by_utc(
-    config: &IsoConfig,
+pub extern "C" fn movaliren_iso8601_with_utc(
+    config: &Iso8601Config,
     seconds: i64,
     nanosecond: u32,
-    room: &mut [u8],
+    buffer: &mut [u8],
 ) -> isize
     ensures { IsAnswer (iso8601_by config.now (utc_value seconds nanosecond))
-        result room.old room.new }
+        result buffer.old buffer.new }
 {
-    answer_at(&iso8601_by(config, InUtc), seconds, nanosecond, room)
+    answer_at(&iso8601_by(config, InUtc), seconds, nanosecond, buffer)
 }
 
 /// The text of ISO 8601 of a moment by a configuration, whose numbers are tested before the moment, at an
 /// offset of this many seconds east of UTC.
 #[unsafe(no_mangle)]
-pub extern "C" fn movaliren_iso8601_by_local(
-    config: &IsoConfig,
+pub extern "C" fn movaliren_iso8601_with_local(
+    config: &Iso8601Config,
     seconds: i64,
     nanosecond: u32,
     offset: i64,
-    room: &mut [u8],
+    buffer: &mut [u8],
 ) -> isize
     ensures { IsAnswer (iso8601_by config.now (local_value seconds nanosecond offset))
-        result room.old room.new }
+        result buffer.old buffer.new }
 {
     let texts = iso8601_by(config, AtOffset(offset));
-    answer_at(&texts, seconds, nanosecond, room)
+    answer_at(&texts, seconds, nanosecond, buffer)
 }
 
 /// The texts of ISO 8601 of the moments by a configuration, one after another, each ended by this
 /// byte.
 #[unsafe(no_mangle)]
-pub extern "C" fn movaliren_iso8601_by_batch(
-    config: &IsoConfig,
+pub extern "C" fn movaliren_iso8601_with_batch(
+    config: &Iso8601Config,
     moments: &[Moment],
     end: u8,
-    room: &mut [u8],
+    buffer: &mut [u8],
 ) -> Progress
     ensures { IsBatch moments.now end (λ m. iso8601_by config.now (moment_value m))
-        result room.old room.new }
+        result buffer.old buffer.new }
 {
-    write_lines(&iso8601_by(config, ByParts), moments, end, room)
+    write_lines(&iso8601_by(config, ByParts), moments, end, buffer)
 }
 
 /// The texts of ISO 8601 of the moments in UTC by a configuration, one after another, each ended by
 /// this byte.
 #[unsafe(no_mangle)]
-pub extern "C" fn movaliren_iso8601_by_utc_batch(
-    config: &IsoConfig,
+pub extern "C" fn movaliren_iso8601_with_utc_batch(
+    config: &Iso8601Config,
     moments: &[UtcMoment],
     end: u8,
-    room: &mut [u8],
+    buffer: &mut [u8],
 ) -> Progress
     ensures { IsBatch moments.now end
         (λ m. iso8601_by config.now (utc_value m.seconds m.nanosecond))
-        result room.old room.new }
+        result buffer.old buffer.new }
 {
-    write_lines(&iso8601_by(config, InUtc), moments, end, room)
+    write_lines(&iso8601_by(config, InUtc), moments, end, buffer)
 }
 
 impl<S: Source> Iso8601By<S> {

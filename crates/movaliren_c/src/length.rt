@@ -16,7 +16,11 @@ use std::marker::Brand;
 
 /// The number of bytes of the text of a local date and time with its offset.
 #[unsafe(no_mangle)]
-pub extern "C" fn movaliren_format_length(items: &[Item], texts: &[u8], moment: &Moment) -> isize
+pub extern "C" fn movaliren_items_format_length(
+    items: &[Item],
+    texts: &[u8],
+    moment: &Moment,
+) -> isize
     ensures { Answers result (λ answer. IsLength (described (trees_of texts.now items.now)
         (moment_value moment.now) facts_of_offset_date_time) answer) }
 {
@@ -25,7 +29,7 @@ pub extern "C" fn movaliren_format_length(items: &[Item], texts: &[u8], moment: 
 
 /// The number of bytes of the text of a moment in UTC.
 #[unsafe(no_mangle)]
-pub extern "C" fn movaliren_format_utc_length(
+pub extern "C" fn movaliren_items_format_utc_length(
     items: &[Item],
     texts: &[u8],
     seconds: i64,
@@ -39,7 +43,7 @@ pub extern "C" fn movaliren_format_utc_length(
 
 /// The number of bytes of the text of a moment at an offset of this many seconds east of UTC.
 #[unsafe(no_mangle)]
-pub extern "C" fn movaliren_format_local_length(
+pub extern "C" fn movaliren_items_format_local_length(
     items: &[Item],
     texts: &[u8],
     seconds: i64,
@@ -54,7 +58,7 @@ pub extern "C" fn movaliren_format_local_length(
 
 /// The number of bytes of the text of a date.
 #[unsafe(no_mangle)]
-pub extern "C" fn movaliren_format_date_length(
+pub extern "C" fn movaliren_items_format_date_length(
     items: &[Item],
     texts: &[u8],
     year: i32,

@@ -17,10 +17,10 @@ pub extern "C" fn movaliren_version() -> u32
 
 /// The words of a reason that a call returned.
 #[unsafe(no_mangle)]
-pub extern "C" fn movaliren_error_words(reason: isize, room: &mut [u8]) -> isize
-    ensures { IsAnswer (Ok (done (error_words reason))) result room.old room.new }
+pub extern "C" fn movaliren_strerror_r(error: isize, buffer: &mut [u8]) -> isize
+    ensures { IsAnswer (Ok (done (error_words error))) result buffer.old buffer.new }
 {
-    answer_number(copy_text(error_words(reason), room))
+    answer_number(copy_text(error_words(error), buffer))
 }
 
 fn error_words(number: isize) -> &'static [u8]
@@ -60,8 +60,7 @@ fn words_numbered(number: usize) -> &'static [u8]
         18 => b"invalid configuration value".as_slice(),
         19 => b"invalid item".as_slice(),
         20 => b"the text does not fit the buffer".as_slice(),
-        21 => b"out of memory".as_slice(),
-        22 => b"the format cannot represent a component".as_slice(),
+        21 | 22 => b"unknown error".as_slice(),
         23 => b"the text is not one of the format".as_slice(),
         24 => b"the text is not a description".as_slice(),
         25 => b"the description has more items than there is room for".as_slice(),
@@ -71,10 +70,10 @@ fn words_numbered(number: usize) -> &'static [u8]
 
 /// The words of a reason why a text is no description, without the byte that it names.
 #[unsafe(no_mangle)]
-pub extern "C" fn movaliren_fault_words(reason: u8, room: &mut [u8]) -> isize
-    ensures { IsAnswer (Ok (done (fault_words reason))) result room.old room.new }
+pub extern "C" fn movaliren_parse_strerror_r(kind: u8, buffer: &mut [u8]) -> isize
+    ensures { IsAnswer (Ok (done (fault_words kind))) result buffer.old buffer.new }
 {
-    answer_number(copy_text(fault_words(reason), room))
+    answer_number(copy_text(fault_words(kind), buffer))
 }
 
 #[tactic(auto, unfolding(crate::specs::Words::fault_words))]

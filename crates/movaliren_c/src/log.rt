@@ -9,7 +9,7 @@ ghost use Rattle.time_fmt.specs.Outcome.{done};
 ghost use Rattle.time_known.specs.Fields.{shown};
 ghost use Rattle.time_known.specs.WellKnown.{offset_text};
 
-use crate::iso8601::{IsoConfig, movaliren_iso8601_by_local};
+use crate::iso8601::{Iso8601Config, movaliren_iso8601_with_local};
 use crate::moment_text::put_at_start;
 use crate::reason::{Reason, answer_number};
 use crate::source::local_value;
@@ -28,7 +28,7 @@ use time_provide::ranges::Nanoseconds;
 /// What the times of one second have in common.
 #[repr(C)]
 #[derive(Clone, Copy)]
-pub struct Log {
+pub struct LogCache {
     /// The second.
     pub second: i64,
     /// The seconds east of UTC.
@@ -45,22 +45,22 @@ pub struct Log {
 /// this many seconds east of UTC. What is kept serves the moments of its second.
 #[unsafe(no_mangle)]
 pub extern "C" fn movaliren_log_time(
-    kept: &mut Log,
+    cache: &mut LogCache,
     decimals: u8,
     seconds: i64,
     nanosecond: u32,
     offset: i64,
-    room: &mut [u8],
+    buffer: &mut [u8],
 ) -> isize
-    ensures text { IsKept kept.old
+    ensures text { IsKept cache.old
         → IsAnswer (iso8601_by (log_config decimals) (local_value seconds nanosecond offset))
-        result room.old room.new }
-    ensures kept { IsKept kept.old → IsKept kept.new }
+        result buffer.old buffer.new }
+    ensures kept { IsKept cache.old → IsKept cache.new }
 {
-    if is_kept(kept, seconds, offset) && is_usual(nanosecond, decimals) {
-        return answer_number(write_kept(kept, ru32::within(nanosecond), decimals, room));
+    if is_kept(cache, seconds, offset) && is_usual(nanosecond, decimals) {
+        return answer_number(write_kept(cache, ru32::within(nanosecond), decimals, buffer));
     }
-    log_anew(kept, decimals, seconds, nanosecond, offset, room)
+    log_anew(cache, decimals, seconds, nanosecond, offset, buffer)
 }
 
 /// The same by the configuration. First the second is kept, if it has texts. It is a call, so that a text by what is kept
@@ -68,7 +68,7 @@ pub extern "C" fn movaliren_log_time(
 #[cold]
 #[inline(never)]
 fn log_anew(
-    kept: &mut Log,
+    kept: &mut LogCache,
     decimals: u8,
     seconds: i64,
     nanosecond: u32,
@@ -81,12 +81,12 @@ fn log_anew(
 {
     keep_second(kept, seconds, offset);
     let config = log_config(decimals);
-    movaliren_iso8601_by_local(&config, seconds, nanosecond, offset, room)
+    movaliren_iso8601_with_local(&config, seconds, nanosecond, offset, room)
 }
 
 /// Whether this second at this offset is kept.
 #[inline(always)]
-fn is_kept(kept: &Log, seconds: i64, offset: i64) -> bool
+fn is_kept(kept: &LogCache, seconds: i64, offset: i64) -> bool
     ensures second { IsTrue result → kept.now.second ≡ seconds }
     ensures offset { IsTrue result → kept.now.offset ≡ offset }
     ensures some { IsTrue result → 0 < kept.now.zone_len }
@@ -105,11 +105,11 @@ fn is_usual(nanosecond: u32, decimals: u8) -> bool
 }
 
 /// The configuration with this many decimals.
-fn log_config(decimals: u8) -> IsoConfig
+fn log_config(decimals: u8) -> Iso8601Config
     ensures { result ≡ log_config decimals }
 {
-    IsoConfig {
-        components: 5,
+    Iso8601Config {
+        parts: 5,
         date_kind: 0,
         time_precision: 2,
         decimals,
@@ -123,7 +123,7 @@ fn log_config(decimals: u8) -> IsoConfig
 /// Writes what is kept, with so many decimals of the nanosecond within it, if they fit.
 #[inline(always)]
 fn write_kept(
-    kept: &Log,
+    kept: &LogCache,
     nanosecond: Nanoseconds,
     decimals: u8,
     room: &mut [u8],
@@ -138,7 +138,7 @@ fn write_kept(
     let (a, b) = (kept.head.len(), decimals as usize);
     let count = a + b + zone.len();
     if count > room.len() {
-        return Err(Reason::NoRoom);
+        return Err(Reason::BufferTooSmall);
     }
     write_over(room, 0, &kept.head);
     write_decimals(room, a, nanosecond, decimals);
@@ -194,7 +194,7 @@ fn write_zone(room: &mut [u8], at: usize, zone: &[u8])
 }
 
 /// Keeps what the texts of the second have in common, if it has texts and is not kept.
-fn keep_second(kept: &mut Log, seconds: i64, offset: i64)
+fn keep_second(kept: &mut LogCache, seconds: i64, offset: i64)
     ensures { IsKept kept.old → IsKept kept.new }
 {
     if is_kept(kept, seconds, offset) {
@@ -210,7 +210,7 @@ fn keep_second(kept: &mut Log, seconds: i64, offset: i64)
 }
 
 /// Keeps what the texts of these fields have in common.
-fn keep(kept: &mut Log, second: i64, offset: i64, fields: &Fields)
+fn keep(kept: &mut LogCache, second: i64, offset: i64, fields: &Fields)
     requires { Remembers second offset (head_of (shown fields.now).date fields.now.time) (offset_text (codes ":") fields.now.offset) }
     ensures { IsKept kept.new }
 {

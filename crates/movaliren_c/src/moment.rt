@@ -14,12 +14,12 @@ use time_below::{Date, Month, OffsetDateTime, Time, Timestamp, UtcDateTime, UtcO
 #[derive(Clone, Copy)]
 pub struct Moment {
     pub year: i32,
-    pub nanosecond: u32,
     pub month: u8,
     pub day: u8,
     pub hour: u8,
     pub minute: u8,
     pub second: u8,
+    pub nanosecond: u32,
     pub offset_hours: i8,
     pub offset_minutes: i8,
     pub offset_seconds: i8,

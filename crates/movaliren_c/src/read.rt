@@ -13,7 +13,7 @@ use time_read::{Expected, NotRead, Profile, rfc3339};
 /// Where a text is none of its format, and what could have come there.
 #[repr(C)]
 #[derive(Clone, Copy)]
-pub struct Place {
+pub struct ReadError {
     /// How many bytes are right.
     pub at: usize,
     /// What could have come after them.
@@ -73,7 +73,7 @@ fn lenient_flag(profile: Profile) -> u8
 }
 
 /// The place of an error, as C sees it.
-fn place_of(error: NotRead) -> Place
+fn place_of(error: NotRead) -> ReadError
     ensures { result ≡ place_of error }
 {
     let (expected, first, last, is_lenient) = match error.expected {
@@ -90,7 +90,7 @@ fn place_of(error: NotRead) -> Place
         Expected::Name(_, _, _, _) => (0, 0, 0, 0),
         Expected::Weekday(_) => (0, 0, 0, 0),
     };
-    Place {
+    ReadError {
         at: error.at,
         expected,
         first,
@@ -104,7 +104,7 @@ fn place_of(error: NotRead) -> Place
 fn keep<M: OfValue>(
     reading: Result<OffsetDateTime, NotRead>,
     moment: &mut M,
-    place: &mut Place,
+    place: &mut ReadError,
 ) -> isize
     ensures { Leaves M.Holds reading result moment.old moment.new place.old place.new }
 {
@@ -139,12 +139,12 @@ fn leniently(text: &[u8]) -> Result<OffsetDateTime, NotRead>
 pub extern "C" fn movaliren_read_rfc3339(
     text: &[u8],
     moment: &mut Moment,
-    place: &mut Place,
+    error: &mut ReadError,
 ) -> isize
     ensures { IsRead Rfc3339Spells IsByParts text.now result
-        moment.old moment.new place.old place.new }
+        moment.old moment.new error.old error.new }
 {
-    keep(strictly(text), moment, place)
+    keep(strictly(text), moment, error)
 }
 
 /// Reads a text of RFC 3339, also one of another program, as a moment by its parts.
@@ -152,12 +152,12 @@ pub extern "C" fn movaliren_read_rfc3339(
 pub extern "C" fn movaliren_read_rfc3339_lenient(
     text: &[u8],
     moment: &mut Moment,
-    place: &mut Place,
+    error: &mut ReadError,
 ) -> isize
     ensures { IsRead Rfc3339Means IsByParts text.now result
-        moment.old moment.new place.old place.new }
+        moment.old moment.new error.old error.new }
 {
-    keep(leniently(text), moment, place)
+    keep(leniently(text), moment, error)
 }
 
 /// Reads a text of RFC 3339 as a moment in UTC.
@@ -165,12 +165,12 @@ pub extern "C" fn movaliren_read_rfc3339_lenient(
 pub extern "C" fn movaliren_read_rfc3339_utc(
     text: &[u8],
     moment: &mut UtcMoment,
-    place: &mut Place,
+    error: &mut ReadError,
 ) -> isize
     ensures { IsRead Rfc3339Spells IsInUtc text.now result
-        moment.old moment.new place.old place.new }
+        moment.old moment.new error.old error.new }
 {
-    keep(strictly(text), moment, place)
+    keep(strictly(text), moment, error)
 }
 
 /// Reads a text of RFC 3339, also one of another program, as a moment in UTC.
@@ -178,10 +178,10 @@ pub extern "C" fn movaliren_read_rfc3339_utc(
 pub extern "C" fn movaliren_read_rfc3339_lenient_utc(
     text: &[u8],
     moment: &mut UtcMoment,
-    place: &mut Place,
+    error: &mut ReadError,
 ) -> isize
     ensures { IsRead Rfc3339Means IsInUtc text.now result
-        moment.old moment.new place.old place.new }
+        moment.old moment.new error.old error.new }
 {
-    keep(leniently(text), moment, place)
+    keep(leniently(text), moment, error)
 }

@@ -34,13 +34,13 @@ pub enum Reason {
     /// The seconds of the moment are outside those of the years -999,999 to 999,999.
     MomentSeconds = 11,
     /// The format has no place for the year, or the local date is outside -999,999 to 999,999.
-    NoPlaceForYear = 12,
+    FormatYear = 12,
     /// The format has no place for the hours of the offset.
-    NoPlaceForOffsetHour = 13,
+    FormatOffsetHour = 13,
     /// The format has no place for the minutes of the offset.
-    NoPlaceForOffsetMinute = 14,
+    FormatOffsetMinute = 14,
     /// The format has no place for the seconds of the offset.
-    NoPlaceForOffsetSecond = 15,
+    FormatOffsetSecond = 15,
     /// The value lacks a component.
     Insufficient = 16,
     /// A component is outside the range that the description has for it.
@@ -50,10 +50,10 @@ pub enum Reason {
     /// Invalid item.
     BadItem = 19,
     /// The text does not fit the buffer.
-    NoRoom = 20,
-    /// Memory was refused, or the width has reached the greatest `usize`.
+    BufferTooSmall = 20,
+    /// Memory was refused, or the width has reached the greatest `usize`. No call of C returns it.
     OutOfMemory = 21,
-    /// The format has no place for a component of another name.
+    /// The format has no place for a component of another name. No call of C returns it.
     Other = 22,
     /// The text is none of its format.
     NotRead = 23,
@@ -101,10 +101,10 @@ pub fn reason_of(error: Format) -> Reason
         Format::ComponentRange(_) => Reason::OutOfRange,
         Format::OutOfMemory => Reason::OutOfMemory,
         Format::InvalidComponent(name) => match name {
-            "year" => Reason::NoPlaceForYear,
-            "offset_hour" => Reason::NoPlaceForOffsetHour,
-            "offset_minute" => Reason::NoPlaceForOffsetMinute,
-            "offset_second" => Reason::NoPlaceForOffsetSecond,
+            "year" => Reason::FormatYear,
+            "offset_hour" => Reason::FormatOffsetHour,
+            "offset_minute" => Reason::FormatOffsetMinute,
+            "offset_second" => Reason::FormatOffsetSecond,
             _ => Reason::Other,
         },
     }
@@ -116,10 +116,10 @@ impl From<OutOfRange> for Reason {
 
     fn from(component: OutOfRange) -> Reason {
         match component {
-            OutOfRange::Year => Reason::NoPlaceForYear,
-            OutOfRange::OffsetHour => Reason::NoPlaceForOffsetHour,
-            OutOfRange::OffsetMinute => Reason::NoPlaceForOffsetMinute,
-            OutOfRange::OffsetSecond => Reason::NoPlaceForOffsetSecond,
+            OutOfRange::Year => Reason::FormatYear,
+            OutOfRange::OffsetHour => Reason::FormatOffsetHour,
+            OutOfRange::OffsetMinute => Reason::FormatOffsetMinute,
+            OutOfRange::OffsetSecond => Reason::FormatOffsetSecond,
         }
     }
 }

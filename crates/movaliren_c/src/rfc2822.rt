@@ -45,18 +45,18 @@ impl Format for Rfc2822 {
 
 /// The text of RFC 2822.
 #[unsafe(no_mangle)]
-pub extern "C" fn movaliren_rfc2822(moment: &Moment, room: &mut [u8]) -> isize
-    ensures { IsAnswer (gives (moment_value moment.now) rfc2822_of) result room.old room.new }
+pub extern "C" fn movaliren_rfc2822(moment: &Moment, buffer: &mut [u8]) -> isize
+    ensures { IsAnswer (gives (moment_value moment.now) rfc2822_of) result buffer.old buffer.new }
 {
-    answer_number(texts_of(Rfc2822, ByParts).write(moment, room))
+    answer_number(texts_of(Rfc2822, ByParts).write(moment, buffer))
 }
 
 /// The text of RFC 2822 of a moment in UTC.
 #[unsafe(no_mangle)]
-pub extern "C" fn movaliren_rfc2822_utc(seconds: i64, nanosecond: u32, room: &mut [u8]) -> isize
-    ensures { IsAnswer (gives (utc_value seconds nanosecond) rfc2822_of) result room.old room.new }
+pub extern "C" fn movaliren_rfc2822_utc(seconds: i64, nanosecond: u32, buffer: &mut [u8]) -> isize
+    ensures { IsAnswer (gives (utc_value seconds nanosecond) rfc2822_of) result buffer.old buffer.new }
 {
-    answer_at(&texts_of(Rfc2822, InUtc), seconds, nanosecond, room)
+    answer_at(&texts_of(Rfc2822, InUtc), seconds, nanosecond, buffer)
 }
 
 /// The text of RFC 2822 of a moment, at an offset of this many seconds east of UTC.
@@ -65,22 +65,26 @@ pub extern "C" fn movaliren_rfc2822_local(
     seconds: i64,
     nanosecond: u32,
     offset: i64,
-    room: &mut [u8],
+    buffer: &mut [u8],
 ) -> isize
     ensures { IsAnswer (gives (local_value seconds nanosecond offset) rfc2822_of)
-        result room.old room.new }
+        result buffer.old buffer.new }
 {
     let texts = texts_of(Rfc2822, AtOffset(offset));
-    answer_at(&texts, seconds, nanosecond, room)
+    answer_at(&texts, seconds, nanosecond, buffer)
 }
 
 /// The texts of RFC 2822 of the moments, one after another, each ended by this byte.
 #[unsafe(no_mangle)]
-pub extern "C" fn movaliren_rfc2822_batch(moments: &[Moment], end: u8, room: &mut [u8]) -> Progress
+pub extern "C" fn movaliren_rfc2822_batch(
+    moments: &[Moment],
+    end: u8,
+    buffer: &mut [u8],
+) -> Progress
     ensures { IsBatch moments.now end (λ m. gives (moment_value m) rfc2822_of)
-        result room.old room.new }
+        result buffer.old buffer.new }
 {
-    write_lines(&texts_of(Rfc2822, ByParts), moments, end, room)
+    write_lines(&texts_of(Rfc2822, ByParts), moments, end, buffer)
 }
 
 /// The texts of RFC 2822 of the moments in UTC, one after another, each ended by this byte.
@@ -88,12 +92,12 @@ pub extern "C" fn movaliren_rfc2822_batch(moments: &[Moment], end: u8, room: &mu
 pub extern "C" fn movaliren_rfc2822_utc_batch(
     moments: &[UtcMoment],
     end: u8,
-    room: &mut [u8],
+    buffer: &mut [u8],
 ) -> Progress
     ensures { IsBatch moments.now end (λ m. gives (utc_value m.seconds m.nanosecond) rfc2822_of)
-        result room.old room.new }
+        result buffer.old buffer.new }
 {
-    write_lines(&texts_of(Rfc2822, InUtc), moments, end, room)
+    write_lines(&texts_of(Rfc2822, InUtc), moments, end, buffer)
 }
 
 /// The texts of RFC 2822 of the moments, at an offset of this many seconds east of UTC, one after
@@ -103,11 +107,11 @@ pub extern "C" fn movaliren_rfc2822_local_batch(
     moments: &[UtcMoment],
     offset: i64,
     end: u8,
-    room: &mut [u8],
+    buffer: &mut [u8],
 ) -> Progress
     ensures { IsBatch moments.now end
         (λ m. gives (local_value m.seconds m.nanosecond offset) rfc2822_of)
-        result room.old room.new }
+        result buffer.old buffer.new }
 {
-    write_lines(&texts_of(Rfc2822, AtOffset(offset)), moments, end, room)
+    write_lines(&texts_of(Rfc2822, AtOffset(offset)), moments, end, buffer)
 }

@@ -39,18 +39,18 @@ impl Format for Rfc3339 {
 
 /// The text of RFC 3339.
 #[unsafe(no_mangle)]
-pub extern "C" fn movaliren_rfc3339(moment: &Moment, room: &mut [u8]) -> isize
-    ensures { IsAnswer (gives (moment_value moment.now) rfc3339_of) result room.old room.new }
+pub extern "C" fn movaliren_rfc3339(moment: &Moment, buffer: &mut [u8]) -> isize
+    ensures { IsAnswer (gives (moment_value moment.now) rfc3339_of) result buffer.old buffer.new }
 {
-    answer_number(texts_of(Rfc3339, ByParts).write(moment, room))
+    answer_number(texts_of(Rfc3339, ByParts).write(moment, buffer))
 }
 
 /// The text of RFC 3339 of a moment in UTC.
 #[unsafe(no_mangle)]
-pub extern "C" fn movaliren_rfc3339_utc(seconds: i64, nanosecond: u32, room: &mut [u8]) -> isize
-    ensures { IsAnswer (gives (utc_value seconds nanosecond) rfc3339_of) result room.old room.new }
+pub extern "C" fn movaliren_rfc3339_utc(seconds: i64, nanosecond: u32, buffer: &mut [u8]) -> isize
+    ensures { IsAnswer (gives (utc_value seconds nanosecond) rfc3339_of) result buffer.old buffer.new }
 {
-    answer_at(&texts_of(Rfc3339, InUtc), seconds, nanosecond, room)
+    answer_at(&texts_of(Rfc3339, InUtc), seconds, nanosecond, buffer)
 }
 
 /// The text of RFC 3339 of a moment, at an offset of this many seconds east of UTC.
@@ -59,22 +59,26 @@ pub extern "C" fn movaliren_rfc3339_local(
     seconds: i64,
     nanosecond: u32,
     offset: i64,
-    room: &mut [u8],
+    buffer: &mut [u8],
 ) -> isize
     ensures { IsAnswer (gives (local_value seconds nanosecond offset) rfc3339_of)
-        result room.old room.new }
+        result buffer.old buffer.new }
 {
     let texts = texts_of(Rfc3339, AtOffset(offset));
-    answer_at(&texts, seconds, nanosecond, room)
+    answer_at(&texts, seconds, nanosecond, buffer)
 }
 
 /// The texts of RFC 3339 of the moments, one after another, each ended by this byte.
 #[unsafe(no_mangle)]
-pub extern "C" fn movaliren_rfc3339_batch(moments: &[Moment], end: u8, room: &mut [u8]) -> Progress
+pub extern "C" fn movaliren_rfc3339_batch(
+    moments: &[Moment],
+    end: u8,
+    buffer: &mut [u8],
+) -> Progress
     ensures { IsBatch moments.now end (λ m. gives (moment_value m) rfc3339_of)
-        result room.old room.new }
+        result buffer.old buffer.new }
 {
-    write_lines(&texts_of(Rfc3339, ByParts), moments, end, room)
+    write_lines(&texts_of(Rfc3339, ByParts), moments, end, buffer)
 }
 
 /// The texts of RFC 3339 of the moments in UTC, one after another, each ended by this byte.
@@ -82,12 +86,12 @@ pub extern "C" fn movaliren_rfc3339_batch(moments: &[Moment], end: u8, room: &mu
 pub extern "C" fn movaliren_rfc3339_utc_batch(
     moments: &[UtcMoment],
     end: u8,
-    room: &mut [u8],
+    buffer: &mut [u8],
 ) -> Progress
     ensures { IsBatch moments.now end (λ m. gives (utc_value m.seconds m.nanosecond) rfc3339_of)
-        result room.old room.new }
+        result buffer.old buffer.new }
 {
-    write_lines(&texts_of(Rfc3339, InUtc), moments, end, room)
+    write_lines(&texts_of(Rfc3339, InUtc), moments, end, buffer)
 }
 
 /// The texts of RFC 3339 of the moments, at an offset of this many seconds east of UTC, one after
@@ -97,11 +101,11 @@ pub extern "C" fn movaliren_rfc3339_local_batch(
     moments: &[UtcMoment],
     offset: i64,
     end: u8,
-    room: &mut [u8],
+    buffer: &mut [u8],
 ) -> Progress
     ensures { IsBatch moments.now end
         (λ m. gives (local_value m.seconds m.nanosecond offset) rfc3339_of)
-        result room.old room.new }
+        result buffer.old buffer.new }
 {
-    write_lines(&texts_of(Rfc3339, AtOffset(offset)), moments, end, room)
+    write_lines(&texts_of(Rfc3339, AtOffset(offset)), moments, end, buffer)
 }

@@ -14,7 +14,7 @@ pub fn copy_text(text: &[u8], room: &mut [u8]) -> Result<usize, Reason>
 {
     let count = text.len();
     if count > room.len() {
-        return Err(Reason::NoRoom);
+        return Err(Reason::BufferTooSmall);
     }
     copy_over(text, room);
     Ok(count)

@@ -98,7 +98,5 @@ fn offset_east(east: i64) -> Result<UtcOffset, Reason>
 fn local_there(moment: Timestamp, offset: UtcOffset) -> Result<OffsetDateTime, Reason>
     ensures { result ≡ local_there moment offset }
 {
-    moment
-        .checked_to_offset(offset)
-        .ok_or(Reason::NoPlaceForYear)
+    moment.checked_to_offset(offset).ok_or(Reason::FormatYear)
 }

@@ -50,17 +50,21 @@ impl Writer for Stamp {
 
 /// The stamp of a moment.
 #[unsafe(no_mangle)]
-pub extern "C" fn movaliren_stamp(seconds: i64, nanosecond: u32, room: &mut [u8]) -> isize
-    ensures { IsAnswer (gives (utc_value seconds nanosecond) utc_stamp_of) result room.old room.new }
+pub extern "C" fn movaliren_stamp_utc(seconds: i64, nanosecond: u32, buffer: &mut [u8]) -> isize
+    ensures { IsAnswer (gives (utc_value seconds nanosecond) utc_stamp_of) result buffer.old buffer.new }
 {
-    answer_at(&Stamp, seconds, nanosecond, room)
+    answer_at(&Stamp, seconds, nanosecond, buffer)
 }
 
 /// The stamps of the moments, one after another, each ended by this byte.
 #[unsafe(no_mangle)]
-pub extern "C" fn movaliren_stamp_batch(moments: &[UtcMoment], end: u8, room: &mut [u8]) -> Progress
+pub extern "C" fn movaliren_stamp_utc_batch(
+    moments: &[UtcMoment],
+    end: u8,
+    buffer: &mut [u8],
+) -> Progress
     ensures { IsBatch moments.now end (λ m. gives (utc_value m.seconds m.nanosecond) utc_stamp_of)
-        result room.old room.new }
+        result buffer.old buffer.new }
 {
-    write_lines(&Stamp, moments, end, room)
+    write_lines(&Stamp, moments, end, buffer)
 }

@@ -1,7 +1,7 @@
 //! The syntaxes of descriptions, and what is wrong in a text.
 ghost use Rattle.std.specs.Prelude.{◌≡◌, ℕ, List, None, Err, OnOk, IfErr, Result};
 ghost use Rattle.movaliren_c.specs.Described.{IsHeld, bracket_items, bracket_number, fault_at, many, strftime_items, strftime_number};
-ghost use Rattle.movaliren_c.specs.declared.syntax.Fault.{Fault};
+ghost use Rattle.movaliren_c.specs.declared.syntax.ParseError.{ParseError};
 ghost use Rattle.time_below.specs.Tree.{Tree};
 
 use crate::item_room::ItemRoom;
@@ -12,38 +12,38 @@ use time_describe::{
 /// Why a text gave no items.
 #[repr(C)]
 #[derive(Clone, Copy)]
-pub struct Fault {
+pub struct ParseError {
     /// The index of the byte.
     pub at: usize,
     /// How many items there are, if these are too many for an array, or else 0.
     pub items: usize,
-    /// The number of the reason.
-    pub reason: u8,
+    /// The number of what is wrong.
+    pub kind: u8,
     /// The byte that the reason names, or 0.
     pub byte: u8,
 }
 
-impl Fault {
+impl ParseError {
     /// A fault at the byte of this index, by the number of its reason and the byte that it names.
-    fn at(index: usize, number: (u8, u8)) -> Fault
+    fn at(index: usize, number: (u8, u8)) -> ParseError
         ensures { result ≡ fault_at index number }
     {
-        Fault {
+        ParseError {
             at: index,
-            reason: number.0,
+            kind: number.0,
             byte: number.1,
-            ..Fault::many(0)
+            ..ParseError::many(0)
         }
     }
 
     /// The lack of room for so many items.
-    pub fn many(items: usize) -> Fault
+    pub fn many(items: usize) -> ParseError
         ensures { result ≡ many items }
     {
-        Fault {
+        ParseError {
             at: 0,
             items,
-            reason: 0,
+            kind: 0,
             byte: 0,
         }
     }
@@ -52,10 +52,10 @@ impl Fault {
 /// A syntax of descriptions.
 pub trait Syntax {
     /// The trees of the items of a text, or its first fault.
-    ghost described: { List ℕ → Result (List Tree) Fault };
+    ghost described: { List ℕ → Result (List Tree) ParseError };
 
     /// Adds the items of a text to an array that has none.
-    fn put_items(items: &mut ItemRoom<'_>, text: &[u8]) -> Result<(), Fault>
+    fn put_items(items: &mut ItemRoom<'_>, text: &[u8]) -> Result<(), ParseError>
         requires none { items.old.count ≡ 0 }
         requires shown { items.old.hidden_at ≡ None }
         ensures found { OnOk result (IsHeld text.now (described text.now) items.new.array.now items.new.count) }
@@ -70,12 +70,12 @@ impl Syntax for Brackets {
     ghost described = { bracket_items };
 
     #[tactic(auto, using(crate::proofs::ItemLemmas::none_held, crate::proofs::ItemLemmas::brackets_held, crate::proofs::ItemLemmas::brackets_faulty), unfolding(crate::specs::Described::bracket_items))]
-    fn put_items(items: &mut ItemRoom<'_>, text: &[u8]) -> Result<(), Fault> {
+    fn put_items(items: &mut ItemRoom<'_>, text: &[u8]) -> Result<(), ParseError> {
         match describe(items, text) {
             Ok(()) => Ok(()),
             Err(InvalidDescription::OutOfMemory) => unreachable!(),
             Err(InvalidDescription::Invalid { reason, index }) => {
-                Err(Fault::at(index, (bracket_number(reason), 0)))
+                Err(ParseError::at(index, (bracket_number(reason), 0)))
             }
         }
     }
@@ -88,12 +88,12 @@ impl Syntax for Strftime {
     ghost described = { strftime_items };
 
     #[tactic(auto, using(crate::proofs::ItemLemmas::none_held, crate::proofs::ItemLemmas::strftime_faulty), unfolding(crate::specs::Described::strftime_items))]
-    fn put_items(items: &mut ItemRoom<'_>, text: &[u8]) -> Result<(), Fault> {
+    fn put_items(items: &mut ItemRoom<'_>, text: &[u8]) -> Result<(), ParseError> {
         match describe_strftime(items, text) {
             Ok(()) => Ok(()),
             Err(InvalidStrftime::OutOfMemory) => unreachable!(),
             Err(InvalidStrftime::Invalid { reason, index }) => {
-                Err(Fault::at(index, strftime_number(reason)))
+                Err(ParseError::at(index, strftime_number(reason)))
             }
         }
     }

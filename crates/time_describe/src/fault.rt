@@ -6,7 +6,7 @@ use crate::literal::MOST_ITEMS;
 use std::alloc::AllocError;
 use thiserror::Error;
 
-/// What is wrong at a place of a text in brackets. Each variant names the byte whose index an
+/// What is wrong at a position of a text in brackets. Each variant names the byte whose index an
 /// error has.
 #[derive(Clone, Copy, Debug, PartialEq, Eq, Error)]
 pub enum Reason {

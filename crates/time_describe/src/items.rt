@@ -40,7 +40,7 @@ pub trait Items {
         ensures refusal { IfErr result (λ _. IsTrue can_refuse) }
         ensures lender { lender self.new ≡ lender self.old };
 
-    /// Adds a literal of so many bytes of the text, from a place on.
+    /// Adds a literal of so many bytes of the text, from a position on.
     fn put_literal(&mut self, text: &[u8], start: usize, len: usize) -> Result<(), AllocError>
         requires within { start + len ≤ length text.now }
         ensures put { OnOk result ((fs : List Frame) → Adds (Holds text.now fs) self.old self.new

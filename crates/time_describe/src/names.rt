@@ -116,7 +116,7 @@ fn padding_modified(key: &[u8], value: &[u8]) -> Result<Padding, Reason>
     }
 }
 
-/// How year is written, with one more modifier.
+/// How the year is written, with one more modifier.
 #[tactic(auto, unfolding(crate::specs::Names::year_modified))]
 fn year_modified(m: modifier::Year, key: &[u8], value: &[u8]) -> Result<modifier::Year, Reason>
     ensures { result ≡ year_modified m key.now value.now }
@@ -157,7 +157,7 @@ fn year_modified(m: modifier::Year, key: &[u8], value: &[u8]) -> Result<modifier
     }
 }
 
-/// How month is written, with one more modifier.
+/// How the month is written, with one more modifier.
 #[tactic(auto, unfolding(crate::specs::Names::month_modified))]
 fn month_modified(m: modifier::Month, key: &[u8], value: &[u8]) -> Result<modifier::Month, Reason>
     ensures { result ≡ month_modified m key.now value.now }
@@ -185,7 +185,7 @@ fn month_modified(m: modifier::Month, key: &[u8], value: &[u8]) -> Result<modifi
     }
 }
 
-/// How weekday is written, with one more modifier.
+/// How the weekday is written, with one more modifier.
 #[tactic(auto, unfolding(crate::specs::Names::weekday_modified))]
 fn weekday_modified(
     m: modifier::Weekday,
@@ -217,7 +217,7 @@ fn weekday_modified(
     }
 }
 
-/// How week is written, with one more modifier.
+/// How the week is written, with one more modifier.
 #[tactic(auto, unfolding(crate::specs::Names::week_number_modified))]
 fn week_number_modified(
     m: modifier::WeekNumber,
@@ -241,7 +241,7 @@ fn week_number_modified(
     }
 }
 
-/// How hour is written, with one more modifier.
+/// How the hour is written, with one more modifier.
 #[tactic(auto, unfolding(crate::specs::Names::hour_modified))]
 fn hour_modified(m: modifier::Hour, key: &[u8], value: &[u8]) -> Result<modifier::Hour, Reason>
     ensures { result ≡ hour_modified m key.now value.now }
@@ -264,7 +264,7 @@ fn hour_modified(m: modifier::Hour, key: &[u8], value: &[u8]) -> Result<modifier
     }
 }
 
-/// How half of the day is written, with one more modifier.
+/// How AM or PM is written, with one more modifier.
 #[tactic(auto, unfolding(crate::specs::Names::period_modified))]
 fn period_modified(
     m: modifier::Period,
@@ -291,7 +291,7 @@ fn period_modified(
     }
 }
 
-/// How decimals of the second is written, with one more modifier.
+/// How the decimals of the second are written, with one more modifier.
 #[tactic(auto, unfolding(crate::specs::Names::subsecond_modified))]
 fn subsecond_modified(
     m: modifier::Subsecond,
@@ -310,7 +310,7 @@ fn subsecond_modified(
     }
 }
 
-/// How hour of the offset is written, with one more modifier.
+/// How the hour of the offset is written, with one more modifier.
 #[tactic(auto, unfolding(crate::specs::Names::offset_hour_modified))]
 fn offset_hour_modified(
     m: modifier::OffsetHour,
@@ -337,7 +337,7 @@ fn offset_hour_modified(
     }
 }
 
-/// How count of seconds is written, with one more modifier.
+/// How the count of seconds is written, with one more modifier.
 #[tactic(auto, unfolding(crate::specs::Names::unix_timestamp_modified))]
 fn unix_timestamp_modified(
     m: modifier::UnixTimestamp,
@@ -364,7 +364,7 @@ fn unix_timestamp_modified(
     }
 }
 
-/// How bytes to pass over is written, with one more modifier.
+/// How the bytes to pass over are written, with one more modifier.
 #[tactic(auto, unfolding(crate::specs::Names::ignore_modified))]
 fn ignore_modified(
     m: modifier::Ignore,
@@ -383,7 +383,7 @@ fn ignore_modified(
     }
 }
 
-/// How end is written, with one more modifier.
+/// How the end is written, with one more modifier.
 #[tactic(auto, unfolding(crate::specs::Names::end_modified))]
 fn end_modified(m: modifier::End, key: &[u8], value: &[u8]) -> Result<modifier::End, Reason>
     ensures { result ≡ end_modified m key.now value.now }

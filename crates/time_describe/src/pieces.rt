@@ -56,28 +56,28 @@ fn ends_literal(in_list: bool, byte: u8) -> bool
     is_special(byte) || (in_list && byte == b']')
 }
 
-/// The place of the first byte that ends a literal.
+/// The position of the first byte that ends a literal.
 fn place_of_special(in_list: bool, bytes: &[u8]) -> Option<usize>
     ensures { result ≡ position (ends_literal in_list) bytes.now }
 {
     bytes.iter().position(|b| ends_literal(in_list, *b))
 }
 
-/// The place of the first byte that ends a word.
+/// The position of the first byte that ends a word.
 fn place_of_end(bytes: &[u8]) -> Option<usize>
     ensures { result ≡ position ends_word bytes.now }
 {
     bytes.iter().position(|b| ends_word(*b))
 }
 
-/// The place of the first colon.
+/// The position of the first colon.
 fn place_of_colon(bytes: &[u8]) -> Option<usize>
     ensures { result ≡ position (λ b. b == 58) bytes.now }
 {
     bytes.iter().position(|b| *b == b':')
 }
 
-/// The place of the first byte that is no whitespace.
+/// The position of the first byte that is no whitespace.
 fn place_of_no_gap(bytes: &[u8]) -> Option<usize>
     ensures { result ≡ position (λ b. not (is_ascii_whitespace b)) bytes.now }
 {

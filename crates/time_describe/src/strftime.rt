@@ -90,7 +90,7 @@ fn put_composed<I: Items>(items: &mut I, text: &[u8]) -> Result<(), AllocError>
     Ok(())
 }
 
-/// Adds the items of a part, to which so many bytes of the text belong, from a place on.
+/// Adds the items of a part, to which so many bytes of the text belong, from a position on.
 #[inline(always)]
 fn put_part<I: Items>(
     items: &mut I,
@@ -160,8 +160,8 @@ fn put_usual<I: Items>(items: &mut I, letter: u8) -> Result<bool, AllocError>
     }
 }
 
-/// Adds the component of the conversion at a place of the text, if it is one that most texts have. Returns whether it
-/// is.
+/// Adds the component of the conversion at a position of the text, if it is one that most texts
+/// have. Returns whether it is.
 #[inline(always)]
 fn put_usual_at<I: Items>(items: &mut I, text: &[u8], at: usize) -> Result<bool, AllocError>
     requires { at < length text.now }
@@ -181,7 +181,7 @@ fn put_usual_at<I: Items>(items: &mut I, text: &[u8], at: usize) -> Result<bool,
     put_usual(items, text[at + 1])
 }
 
-/// Adds the items of the part at a place of the text. Returns how many bytes belong to it.
+/// Adds the items of the part at a position of the text. Returns how many bytes belong to it.
 #[inline(always)]
 fn put_front<I: Items>(items: &mut I, text: &[u8], at: usize) -> Result<usize, Failure>
     requires { at < length text.now }
@@ -199,7 +199,7 @@ fn put_front<I: Items>(items: &mut I, text: &[u8], at: usize) -> Result<usize, F
     Ok(behind + 1)
 }
 
-/// Reads the part at a place of the text, and returns the place behind it.
+/// Reads the part at a position of the text, and returns the position after it.
 #[inline(always)]
 fn step<I: Items>(items: &mut I, text: &[u8], at: usize) -> Result<usize, Failure>
     requires { at < length text.now }

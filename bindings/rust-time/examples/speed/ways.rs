@@ -63,10 +63,10 @@ fn iso8601() -> Ways {
     let nine = || rfc3339_of_chrono(0, SecondsFormat::Nanos);
     let three = || rfc3339_of_chrono(0, SecondsFormat::Millis);
     vec![
-        ("stamp", ours(Stamp)),
-        ("stamp/time", of_time(NINE_OF_TIME)),
-        ("stamp/chrono", nine()),
-        ("stamp_batch", batch(Stamp)),
+        ("stamp_utc", ours(Stamp)),
+        ("stamp_utc/time", of_time(NINE_OF_TIME)),
+        ("stamp_utc/chrono", nine()),
+        ("stamp_utc_batch", batch(Stamp)),
         ("iso8601_utc", ours(Iso8601)),
         ("iso8601_utc/time", of_time(NINE_OF_TIME)),
         ("iso8601_utc/chrono", nine()),
@@ -76,10 +76,10 @@ fn iso8601() -> Ways {
         ("iso8601/chrono", nine()),
         ("iso8601_utc_batch", batch(Iso8601)),
         ("iso8601_batch", batch_of_parts(Iso8601)),
-        ("iso8601_by_utc:three-decimals", ours(THREE)),
-        ("iso8601_by_utc:three-decimals/time", of_time(THREE_OF_TIME)),
-        ("iso8601_by_utc:three-decimals/chrono", three()),
-        ("iso8601_by_local:three-decimals", ours_east(THREE)),
+        ("iso8601_with_utc:three-decimals", ours(THREE)),
+        ("iso8601_with_utc:three-decimals/time", of_time(THREE_OF_TIME)),
+        ("iso8601_with_utc:three-decimals/chrono", three()),
+        ("iso8601_with_local:three-decimals", ours_east(THREE)),
         ("log_time:each-second", ours(LogTime::milliseconds())),
         ("log_time:each-second/time", of_time(THREE_OF_TIME)),
         ("log_time:each-second/chrono", three()),
@@ -91,11 +91,11 @@ fn iso8601() -> Ways {
             "log_time:six-decimals",
             of_one_second(LogTime::microseconds()),
         ),
-        ("iso8601_by:three-decimals", of_parts(THREE)),
-        ("iso8601_by:three-decimals/time", of_time(THREE_OF_TIME)),
-        ("iso8601_by:three-decimals/chrono", three()),
-        ("iso8601_by_utc_batch:three-decimals", batch(THREE)),
-        ("iso8601_by_batch:three-decimals", batch_of_parts(THREE)),
+        ("iso8601_with:three-decimals", of_parts(THREE)),
+        ("iso8601_with:three-decimals/time", of_time(THREE_OF_TIME)),
+        ("iso8601_with:three-decimals/chrono", three()),
+        ("iso8601_with_utc_batch:three-decimals", batch(THREE)),
+        ("iso8601_with_batch:three-decimals", batch_of_parts(THREE)),
     ]
 }
 
@@ -103,12 +103,12 @@ fn iso8601() -> Ways {
 macro_rules! by {
     ($row:literal, $format:expr, $time:tt, $chrono:expr) => {
         [
-            (concat!("iso8601_by_utc:", $row), ours($format)),
+            (concat!("iso8601_with_utc:", $row), ours($format)),
             (
-                concat!("iso8601_by_utc:", $row, "/time"),
+                concat!("iso8601_with_utc:", $row, "/time"),
                 of_time(format_description!($time)),
             ),
-            (concat!("iso8601_by_utc:", $row, "/chrono"), $chrono),
+            (concat!("iso8601_with_utc:", $row, "/chrono"), $chrono),
         ]
     };
 }
@@ -204,14 +204,14 @@ fn parts_alone() -> Ways {
     ];
     let alone: Ways = vec![
         (
-            "iso8601_by_utc:minutes",
+            "iso8601_with_utc:minutes",
             ours(time.time_precision(TimePrecision::Minute, 3)),
         ),
         (
-            "iso8601_by_utc:hours",
+            "iso8601_with_utc:hours",
             ours(time.time_precision(TimePrecision::Hour, 3)),
         ),
-        ("iso8601_by_utc:offset", ours(THREE.parts(Parts::Offset))),
+        ("iso8601_with_utc:offset", ours(THREE.parts(Parts::Offset))),
     ];
     beside.into_iter().flatten().chain(alone).collect()
 }
@@ -226,25 +226,25 @@ fn descriptions() -> Ways {
     let eleven_of_chrono = || items_of_chrono("%Y-%m-%d %H:%M:%S");
     let names_of_chrono = || items_of_chrono("%A, %d %B %Y");
     vec![
-        ("format_utc:11-items", ours(eleven())),
-        ("format_utc:11-items/time", of_time(ELEVEN_OF_TIME)),
-        ("format_utc:11-items/chrono", eleven_of_chrono()),
-        ("format_local:11-items", ours_east(eleven())),
-        ("format:11-items", of_parts(eleven())),
-        ("format:11-items/time", of_time(ELEVEN_OF_TIME)),
-        ("format:11-items/chrono", eleven_of_chrono()),
-        ("format_date:5-items", of_date(five())),
-        ("format_date:5-items/time", of_time(FIVE_OF_TIME)),
-        ("format_date:5-items/chrono", items_of_chrono("%Y-%m-%d")),
-        ("format_utc:names", ours(names())),
-        ("format_utc:names/time", of_time(NAMES_OF_TIME)),
-        ("format_utc:names/chrono", names_of_chrono()),
-        ("format:names", of_parts(names())),
-        ("format:names/time", of_time(NAMES_OF_TIME)),
-        ("format:names/chrono", names_of_chrono()),
-        ("format_date:names", of_date(names())),
-        ("format_date:names/time", of_time(NAMES_OF_TIME)),
-        ("format_date:names/chrono", names_of_chrono()),
+        ("items_format_utc:11-items", ours(eleven())),
+        ("items_format_utc:11-items/time", of_time(ELEVEN_OF_TIME)),
+        ("items_format_utc:11-items/chrono", eleven_of_chrono()),
+        ("items_format_local:11-items", ours_east(eleven())),
+        ("items_format:11-items", of_parts(eleven())),
+        ("items_format:11-items/time", of_time(ELEVEN_OF_TIME)),
+        ("items_format:11-items/chrono", eleven_of_chrono()),
+        ("items_format_date:5-items", of_date(five())),
+        ("items_format_date:5-items/time", of_time(FIVE_OF_TIME)),
+        ("items_format_date:5-items/chrono", items_of_chrono("%Y-%m-%d")),
+        ("items_format_utc:names", ours(names())),
+        ("items_format_utc:names/time", of_time(NAMES_OF_TIME)),
+        ("items_format_utc:names/chrono", names_of_chrono()),
+        ("items_format:names", of_parts(names())),
+        ("items_format:names/time", of_time(NAMES_OF_TIME)),
+        ("items_format:names/chrono", names_of_chrono()),
+        ("items_format_date:names", of_date(names())),
+        ("items_format_date:names/time", of_time(NAMES_OF_TIME)),
+        ("items_format_date:names/chrono", names_of_chrono()),
         ("building:11-items", each(|_, _| drop(eleven()))),
         ("building:8000-items", each(|_, _| drop(long(8_000)))),
         ("building:16000-items", each(|_, _| drop(long(16_000)))),
@@ -314,22 +314,22 @@ fn other_calls() -> Ways {
         ("rfc3339_utc:format_into_string", measured(in_string)),
         ("rfc3339_utc_batch:batch_to", batch_to),
         (
-            "stamp:stamp",
+            "stamp_utc:stamp",
             measured(|moment| stamp(moment).map_or(0, |text| text.len())),
         ),
         (
-            "describe:11-items",
+            "items_parse:11-items",
             measured(|_| Description::parse(BRACKETS).map_or(0, |it| it.width())),
         ),
         (
-            "describe_strftime:11-items",
+            "items_parse_strftime:11-items",
             measured(|_| Description::parse_strftime(CONVERSIONS).map_or(0, |it| it.width())),
         ),
         (
-            "format_utc_length:11-items",
+            "items_format_utc_length:11-items",
             measured(move |moment| counted.length(moment).unwrap_or(0)),
         ),
-        ("width:11-items", measured(move |_| built.width())),
+        ("items_max_length:11-items", measured(move |_| built.width())),
     ]
 }
 

@@ -12,8 +12,8 @@ use time_known::iso8601::{
 /// The seven choices, and the number of decimals.
 #[repr(C)]
 #[derive(Clone, Copy)]
-pub struct IsoConfig {
-    pub components: u8,
+pub struct Iso8601Config {
+    pub parts: u8,
     pub date_kind: u8,
     pub time_precision: u8,
     pub decimals: u8,
@@ -82,12 +82,12 @@ fn sign_at(number: u8) -> Result<DecimalSign, Reason>
 
 /// The configuration that these numbers choose, if each of them is one that there is.
 #[inline(always)]
-pub fn config_at(numbers: &IsoConfig) -> Result<Config, Reason>
+pub fn config_at(numbers: &Iso8601Config) -> Result<Config, Reason>
     ensures { result ≡ choices_at numbers.now }
 {
     Ok(
         Config::default()
-            .set_formatted_components(components_at(numbers.components)?)
+            .set_formatted_components(components_at(numbers.parts)?)
             .set_date_kind(date_kind_at(numbers.date_kind)?)
             .set_time_precision(precision_at(numbers.time_precision, numbers.decimals)?)
             .set_offset_precision(offset_precision_at(numbers.offset_precision)?)
@@ -99,11 +99,11 @@ pub fn config_at(numbers: &IsoConfig) -> Result<Config, Reason>
 
 /// What these numbers choose of a text with separators, if the rest is chosen as by most callers.
 #[inline(always)]
-pub fn separated_config_at(numbers: &IsoConfig) -> Option<Usual>
+pub fn separated_config_at(numbers: &Iso8601Config) -> Option<Usual>
     ensures chosen { IfSome result (λ u. choices_at numbers.now ≡ Ok (separated u)) }
     ensures separators { IfSome result (λ u. IsTrue u.has_separators) }
 {
-    let parts_are_usual = numbers.components == 5
+    let parts_are_usual = numbers.parts == 5
         && numbers.date_kind == 0
         && numbers.time_precision == 2
         && numbers.offset_precision == 1;

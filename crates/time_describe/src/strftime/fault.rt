@@ -6,7 +6,7 @@ use crate::literal::MOST_ITEMS;
 use std::alloc::AllocError;
 use thiserror::Error;
 
-/// What is wrong at a place of a text in the syntax of strftime.
+/// What is wrong at a position of a text in the syntax of strftime.
 #[derive(Clone, Copy, Debug, PartialEq, Eq, Error)]
 pub enum StrftimeReason {
     /// A `%`, or a flag behind one, ends the text.

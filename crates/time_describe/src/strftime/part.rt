@@ -181,7 +181,7 @@ fn conversion<'a>(bytes: &'a [u8]) -> Result<(Part<'a>, usize), Fault>
     }
 }
 
-/// The place of the first `%`.
+/// The position of the first `%`.
 #[inline(always)]
 fn place_of_percent(bytes: &[u8]) -> Option<usize>
     ensures { result ≡ position is_percent bytes.now }

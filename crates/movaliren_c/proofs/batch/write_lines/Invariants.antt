@@ -7,6 +7,6 @@ abbrev pub invariant-loop-item : goal.invariant-loop-item
 invariant-loop-item g l =
     (l.progress.moments ≡ l.item-index)
     × (l.progress.bytes ≤ length l.room)
-    × (l.progress.reason ≡ pos 0)
+    × (l.progress.error ≡ pos 0)
     × Stand l.item-index l.items (λ item. ended l.end (g.W.Writer.asked l.writer item)) l.progress.bytes
     l.initial.room l.room

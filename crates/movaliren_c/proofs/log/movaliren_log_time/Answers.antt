@@ -9,7 +9,7 @@ returns-then-is_usual-clause-text c = λ kept.
     let fits : FitsSigned w64 c.answer_number.result = search rules in
     let seconds : FitsSigned w64 c.args.seconds = search rules in
     let offset : FitsSigned w64 c.args.offset = search rules in
-    kept_text c.args.decimals c.args.nanosecond c.args.kept.now.second c.args.seconds c.args.kept.now.offset c.args.offset
+    kept_text c.args.decimals c.args.nanosecond c.args.cache.now.second c.args.seconds c.args.cache.now.offset c.args.offset
     _ _ _ c.write_kept.result _ _ _ (kept (c.if-is_kept.ensures.some refl))
     (c.if-is_kept.ensures.second refl ∙ to_z-of_z w64 c.args.seconds seconds)
     (c.if-is_kept.ensures.offset refl ∙ to_z-of_z w64 c.args.offset offset) (c.if-is_usual.ensures.nanosecond refl)

@@ -1,0 +1,3 @@
+module movaliren
+
+go 1.19

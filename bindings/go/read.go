@@ -1,0 +1,55 @@
+package movaliren
+
+// #include "calls.h"
+import "C"
+
+import (
+	"time"
+	"unsafe"
+)
+
+// ReadError is where a text could not be read, and what could have stood there.
+type ReadError struct {
+	At      int
+	message string
+}
+
+func (e *ReadError) Error() string { return e.message }
+
+// Unwrap returns ErrNotRead.
+func (e *ReadError) Unwrap() error { return ErrNotRead }
+
+// ReadRFC3339 reads a text of RFC 3339, section 5.6, in capital letters, with at most nine decimals, and without second 60 and
+// the offset -00:00. The time is at the offset of the text. The error is a *ReadError.
+func ReadRFC3339(text string) (time.Time, error) {
+	return read(text, func(bytes unsafe.Pointer, size C.size_t, moment *C.struct_movaliren_moment, wrong *C.struct_movaliren_read_error) C.ptrdiff_t {
+		return C.movaliren_read_rfc3339(bytes, size, moment, wrong)
+	})
+}
+
+// ReadRFC3339Lenient also reads small letters, more decimals, of which the first nine count, and -00:00, as UTC.
+func ReadRFC3339Lenient(text string) (time.Time, error) {
+	return read(text, func(bytes unsafe.Pointer, size C.size_t, moment *C.struct_movaliren_moment, wrong *C.struct_movaliren_read_error) C.ptrdiff_t {
+		return C.movaliren_read_rfc3339_lenient(bytes, size, moment, wrong)
+	})
+}
+
+func read(text string, call func(unsafe.Pointer, C.size_t, *C.struct_movaliren_moment, *C.struct_movaliren_read_error) C.ptrdiff_t) (time.Time, error) {
+	var m C.struct_movaliren_moment
+	var wrong C.struct_movaliren_read_error
+	var first unsafe.Pointer
+	bytes := []byte(text)
+	if len(bytes) > 0 {
+		first = unsafe.Pointer(&bytes[0])
+	}
+	if call(first, C.size_t(len(bytes)), &m, &wrong) < 0 {
+		var said [C.MOVALIREN_READ_MESSAGE_SIZE]C.char
+		C.movaliren_read_error_message(&wrong, &said[0])
+		return time.Time{}, &ReadError{int(wrong.at), C.GoString(&said[0])}
+	}
+	zone := time.UTC
+	if offset := int(m.offset_hours)*3600 + int(m.offset_minutes)*60; offset != 0 {
+		zone = time.FixedZone("", offset)
+	}
+	return time.Date(int(m.year), time.Month(m.month), int(m.day), int(m.hour), int(m.minute), int(m.second), int(m.nanosecond), zone), nil
+}
