@@ -16,7 +16,7 @@ int main(int words, char **)
 #if WAY == 1
     count = static_cast<std::size_t>(movaliren_rfc3339_utc(second, 0, room, sizeof room));
 #elif WAY == 2
-    count = static_cast<std::size_t>(movaliren_strftime_utc("%FT%TZ", 6, second, 0, room, sizeof room));
+    count = static_cast<std::size_t>(movaliren_format_strftime_utc("%FT%TZ", 6, second, 0, room, sizeof room));
 #elif WAY == 3 || WAY == 4
     std::tm parts;
     gmtime_r(&second, &parts);

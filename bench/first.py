@@ -21,7 +21,7 @@ import run
 ROWS = [
     ("`movaliren_rfc3339_utc`, static library", 1, "static"),
     ("the same, shared library", 1, "shared"),
-    ("`movaliren_strftime_utc`, static library", 2, "static"),
+    ("`movaliren_format_strftime_utc`, static library", 2, "static"),
     ("the same, shared library", 2, "shared"),
     ("`gmtime_r` and `strftime`", 3, None),
     ("`gmtime_r` and {fmt}", 4, "fmt"),

@@ -24,9 +24,10 @@ def said(*words, **more):
 
 def rows(prefix):
     at = {**os.environ, "LD_LIBRARY_PATH": f"{prefix}/lib", "PKG_CONFIG_PATH": f"{prefix}/lib/pkgconfig",
-          "PYTHONPATH": str(run.TOP / "bindings/python"), "PYTHONDONTWRITEBYTECODE": "1"}
+          "MOVALIREN_LIB": f"{prefix}/lib", "PYTHONPATH": f"{prefix}/python", "PYTHONDONTWRITEBYTECODE": "1"}
     version = ".".join(map(str, sys.version_info[:2]))
-    yield f"Python {version}, `ctypes`|" + said(sys.executable, HERE / "times.py", env=at).strip()
+    said(sys.executable, "-m", "pip", "install", "--no-deps", "--target", f"{prefix}/python", run.TOP / "bindings/python", env=at)
+    yield f"Python {version}, its package|" + said(sys.executable, HERE / "times.py", env=at).strip()
     if shutil.which("go"):
         version = ".".join(said("go", "version").split()[2].removeprefix("go").split(".")[:2])
         at |= {"GOCACHE": f"{prefix}/cache", "GO111MODULE": "off"}
@@ -37,7 +38,7 @@ def main():
     with tempfile.TemporaryDirectory() as prefix:
         said("make", "-C", run.TOP / "bindings/c", "install", f"PREFIX={prefix}")
         before = os.getloadavg()[0]
-        print("|Language|One call each|Batch|Batch, with its array made from tuples|\n|---|---|---|---|")
+        print("|Language|One call each|Batch|Batch, with its array made from a list|\n|---|---|---|---|")
         for row in rows(prefix):
             print(f"|{row}|", flush=True)
         print(f"\n{run.Bench.commit()}, load {before:.1f}.")

@@ -82,8 +82,8 @@ def main():
         ways = [("`read`", lambda text: ours(own, "s", text)), ("`read_lenient`", lambda text: ours(own, "l", text)),
                 ("kit's `jiff_fmt`", lambda text: ours(own, "j", text))]
         if others:
-            ways += [("`time`", lambda text: theirs(others, "time", text)),
-                     ("`chrono`", lambda text: theirs(others, "chrono", text))]
+            ways += [("`time` 0.3.9 (2022)", lambda text: theirs(others, "time", text)),
+                     ("`chrono` 0.4.23 (2022)", lambda text: theirs(others, "chrono", text))]
         table(ways, TEXTS)
         table([("`rfc2822::read`", lambda text: ours(own, "m", text)),
                ("kit's `jiff_fmt`", lambda text: ours(own, "k", text))], MAIL)

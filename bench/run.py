@@ -328,12 +328,13 @@ class Bench:
 
     def all_texts(self):
         programs = [built(self.folder, "time_bench"), self.lent]
-        head = ["Text", "Known", "Behind", "0.3.55", "`strftime`", "{fmt}", "ns known", "behind", "`strftime`", "{fmt}"]
+        head = ["Text", "At compile time", "By reference", "`time` 0.3.55", "`strftime`", "{fmt}", "ns at compile time", "ns by reference",
+                "ns `strftime`", "ns {fmt}"]
         self.table(head, (self.row(text, programs) for text in TEXTS))
 
-    def behind(self, head, rows):
-        """Texts that are lent alone."""
-        self.table([head, "Behind", "0.3.55", "`strftime`", "{fmt}", "ns", "`strftime`", "{fmt}"],
+    def by_reference(self, head, rows):
+        """Texts by descriptions that are passed by reference alone."""
+        self.table([head, "By reference", "`time` 0.3.55", "`strftime`", "{fmt}", "ns", "ns `strftime`", "ns {fmt}"],
                    (self.row(text, [self.lent]) for text in rows))
 
     def peers(self):
@@ -344,7 +345,7 @@ class Bench:
             ways = [lettered(kit, letter) for letter in letters]
             return [name, *map(shown, [*counts_of(ways), *timed(ways)])]
 
-        self.table(["Text of a moment", "Here", "The kit's crate", "ns", "kit's"], (row(*peer) for peer in PEERS))
+        self.table(["Text of a moment", "Here", "The kit's crate", "ns", "ns of the kit's"], (row(*peer) for peer in PEERS))
 
     def component(self, name, row, alone):
         """What the component costs over the two texts alone."""
@@ -357,8 +358,8 @@ class Bench:
 
     def components(self):
         alone = self.component("the texts alone", ALONE, [0] * 8)
-        head = ["Component", "Borrowed", "Version 3", "0.3.55", "`strftime`", "{fmt}", "ns borrowed", "version 3",
-                "`strftime`", "{fmt}"]
+        head = ["Component", "Borrowed", "Version 3", "`time` 0.3.55", "`strftime`", "{fmt}", "ns borrowed", "ns version 3",
+                "ns `strftime`", "ns {fmt}"]
 
         def all_rows():
             yield ["the texts alone", *map(shown, alone)]
@@ -388,7 +389,7 @@ class Bench:
             shown_in, cat_in = self.least_seconds([[show], ["cat"]])
             return [name, shown(count), shown(self.crate.get(name)), f"{shown_in:.3f}", f"{shown_in / cat_in:.1f}"]
 
-        self.table(["Line", "Instructions", "0.3.55", "s for 1,000,000", "Times `cat`"],
+        self.table(["Line", "Instructions", "`time` 0.3.55", "s for 1,000,000", "Times `cat`"],
                    (row(name, command) for name, command in LINES.items()))
 
     def least_seconds(self, commands):
@@ -403,12 +404,12 @@ class Bench:
 
     def all(self):
         self.all_texts()
-        self.behind("ISO 8601", ISO)
-        self.behind("List of a type", TYPES)
-        self.behind("By a plan", PLANS)
-        self.behind("Time of a log line", LOGS)
-        self.behind("A new `String`", STRINGS)
-        self.behind("A refused value", REFUSED)
+        self.by_reference("ISO 8601", ISO)
+        self.by_reference("List of a type", TYPES)
+        self.by_reference("By a plan", PLANS)
+        self.by_reference("Time of a log line", LOGS)
+        self.by_reference("A new `String`", STRINGS)
+        self.by_reference("A refused value", REFUSED)
         self.peers()
         self.components()
         self.growth()

@@ -36,12 +36,12 @@ func main() {
 	for index := range moments {
 		moments[index].seconds, moments[index].nanosecond = C.int64_t(1_700_000_000+86_399*index), C.uint32_t(5*index+1)
 	}
-	var one [C.MOVALIREN_RFC3339_ROOM]byte
-	var room [texts * (C.MOVALIREN_RFC3339_ROOM + 1)]byte
+	var one [C.MOVALIREN_RFC3339_SIZE]byte
+	var room [texts * C.MOVALIREN_RFC3339_SIZE]byte
 	alone := least(func() {
 		for index := range moments {
 			moment := &moments[index]
-			C.movaliren_rfc3339_utc(moment.seconds, moment.nanosecond, unsafe.Pointer(&one), C.MOVALIREN_RFC3339_ROOM)
+			C.movaliren_rfc3339_utc(moment.seconds, moment.nanosecond, unsafe.Pointer(&one), C.MOVALIREN_RFC3339_SIZE)
 		}
 	})
 	batch := least(func() {
