@@ -1,57 +1,36 @@
 #!/usr/bin/env python3
-"""Compares the figures of README.md's first table, and those of its chart, with docs/PERFORMANCE.md, and what PERFORMANCE.md
-says of its tables with these.
+"""Compares the figures of docs/PERFORMANCE.md with the tables of bench/RESULTS.md: those of its table, those of the chart, and
+what its sentences say. Each row on calls in bench/RESULTS.md is one that a program measures.
 
-With `--write` the table is changed to the figures that PERFORMANCE.md has.
+With `--write` the table is changed to the figures that bench/RESULTS.md has.
 """
 
 import pathlib
 import re
 import sys
 
+sys.dont_write_bytecode = True
 TOP = pathlib.Path(__file__).resolve().parent.parent
-README = TOP / "README.md"
-PERFORMANCE = (TOP / "docs/PERFORMANCE.md").read_text()
-CHART = (TOP / "docs/speed.svg").read_text()
-# Each row of the table: the heads of two tables of PERFORMANCE.md, the row and the column of each figure, ours first.
+sys.path.insert(0, str(TOP / "bench"))
+import chart
+
+PAGE = TOP / "docs/PERFORMANCE.md"
+TEXT, PLAN, CALL, READ = "|Text|At", "|By a plan|", "|Call|", "|Text|`read`|"
+HERE, CRATE, C, OLD, CHRONO = "By reference", "`time` 0.3.55", "`gmtime_r`, `strftime`, `snprintf`", "`time` 0.3.9 (2022)", "`chrono` 0.4.23 (2022)"
+LIST, NINE = "a borrowed list of 11 items", "`2026-11-22T09:55:06.123456789Z`"
+# The rows of the table, each by the table, the row and the column of each figure, in their order.
 FIGURES = {
-    "RFC 3339 of Unix time, from C": (("Call", "rfc3339_utc", "C"), ("Call", "rfc3339_utc", "strftime")),
-    "RFC 3339 of Unix time, from Rust": (("Call", "rfc3339_utc", "Rust"), ("Call", "rfc3339_utc", "time")),
-    "RFC 3339 of a local time, from Rust": (("Call", "rfc3339_local", "Rust"), ("Call", "rfc3339_local", "chrono")),
-    "RFC 2822, in Rattle": (("Text", "RFC 2822", "Behind"), ("Text", "RFC 2822", "0.3.55")),
-    "a list of 11 items, in Rattle":
-        (("Text", "a borrowed list of 11 items", "Behind"), ("Text", "a borrowed list of 11 items", "0.3.55")),
-    "the same list as a plan, made once":
-        (("By a plan", "a borrowed list of 11 items", "Behind"), ("Text", "a borrowed list of 11 items", "{fmt}")),
-    "RFC 3339 read, nine decimals":
-        (("Text", "`2026-11-22T09:55:06.123456789Z`", "`read`"), ("Text", "`2026-11-22T09:55:06.123456789Z`", "kit's `jiff_fmt`")),
+    "RFC 3339 with nine decimals, in Rattle": [(TEXT, "RFC 3339, nine digits", HERE), (TEXT, "RFC 3339, nine digits", CRATE)],
+    "`2026-11-22 09:55:06` by a pattern that was prepared once, in Rattle": [(PLAN, LIST, HERE), (PLAN, LIST, CRATE), (PLAN, LIST, "{fmt}")],
+    "RFC 3339 of Unix time, from C": [(CALL, "rfc3339_utc", "C"), (CALL, "rfc3339_utc", "`gmtime_r`, {fmt}"), (CALL, "rfc3339_utc", C)],
+    "RFC 3339 of Unix time, from Rust": [(CALL, "rfc3339_utc", "Rust"), (CALL, "rfc3339_utc", OLD), (CALL, "rfc3339_utc", CHRONO)],
+    "RFC 3339 with nine decimals, read": [(READ, NINE, "`read`"), (READ, NINE, OLD), (READ, NINE, "kit's `jiff_fmt`")],
 }
-# The columns of the first table of PERFORMANCE.md that the series of the chart have, in their order.
-SERIES = ["Behind", "0.3.55", "`strftime`", "{fmt}"]
-ROW = re.compile(r"^\| (?P<name>.*?) \| (?P<ours>\d+) \| (?P<who>.*): (?P<theirs>\d+) \|$", re.M)
+ROW = re.compile(r"^\| (?P<name>.*?) \| (?P<ours>\d+) \| (?P<theirs>.*: \d+) \|$", re.M)
 
 
-def figure(head, name, column):
-    """The figure in the first table of PERFORMANCE.md with this head that has the row and the column, by the first
-    column of the name from the right where two have it."""
-    for table in re.findall(r"(?:^\|.*\n)+", PERFORMANCE, re.M):
-        first, _, *rows = [line.strip("|").split("|") for line in table.splitlines()]
-        if first[0] == head and column in first:
-            found = [row[first.index(column)] for row in rows if row[0] == name]
-            if found and found[0]:
-                return found[0]
-    return None
-
-
-def table(head):
-    """The rows of the first table of PERFORMANCE.md whose head begins with these columns, each by its columns. The first
-    column of a name counts. What is no number is left out."""
-    for text in re.findall(r"(?:^\|.*\n)+", PERFORMANCE, re.M):
-        first, _, *rows = [line.strip("|").split("|") for line in text.splitlines()]
-        if first[:len(head)] == head:
-            return {row[0]: {name: int(cell.replace(",", "")) for name, cell in reversed(list(zip(first[1:], row[1:])))
-                             if re.fullmatch(r"[\d,]+", cell)} for row in rows}
-    return {}
+def figure(head, row, column):
+    return chart.table(head).get(row, {}).get(column)
 
 
 def ratios(rows, ours, theirs):
@@ -60,73 +39,94 @@ def ratios(rows, ours, theirs):
 
 
 def said_of_tables():
-    """What PERFORMANCE.md says of its tables: the words, and whether they are true."""
-    texts, plans, iso, calls = table(["Text", "Known"]), table(["By a plan"]), table(["ISO 8601", "Behind"]), table(["Call", "C"])
+    """What PERFORMANCE.md says of the tables: the words, and whether they are true."""
+    texts, plans, calls, logs = chart.table(TEXT), chart.table(PLAN), chart.table(CALL), chart.table("|Time of a log line|")
+    lines, million, kept = (chart.table(head) for head in ("|A line of `movaliren`|", "|A million lines|", "|A description's text|"))
     usual = {name: row for name, row in texts.items() if re.match(r"RFC|ISO|11 parts|a log line of|like .* parts", name)}
     lists = {name: row for name, row in texts.items() if name not in usual and name != "a copy of 35 bytes"}
-    counts = [row[way] for row in usual.values() for way in ("Known", "Behind")]
-    dearer = [row["Behind"] - row[way] for rows in (usual, iso) for row in rows.values()
-              for way in ("0.3.55", "`strftime`", "{fmt}") if "Behind" in row and way in row]
-    of_crate, of_fmt = ratios(lists, "Behind", "0.3.55").values(), ratios(lists, "Behind", "{fmt}")
-    of_list = [row["Behind"] / lists[name]["Behind"] for name, row in plans.items() if name in lists]
+    counts = [row[way] for row in usual.values() for way in ("At compile time", HERE)]
+    dearer = [row[HERE] - row[way] for row in usual.values() for way in (CRATE, "`strftime`", "{fmt}") if way in row]
+    of_crate, of_fmt = ratios(lists, HERE, CRATE).values(), ratios(lists, HERE, "{fmt}").values()
+    of_list = [row[HERE] / lists[name][HERE] for name, row in plans.items() if name in lists]
+    made, gain = plans["the plan of 11 items is made"][HERE], lists[LIST][HERE] - plans[LIST][HERE]
     utc = calls["rfc3339_utc"]
-    near = [name for name, it in ratios(iso, "Behind", "0.3.55").items() if it > .8]
-    behind = [name for name, row in calls.items() if any(row.get(way, row["C"]) < row["C"] for way in ("strftime", "fmt") if "C" in row)]
-    numbers = dict(enumerate(["No", "One", "Two", "Three", "Four", "Five", "Six", "Seven", "Eight", "Nine"]))
+    widths = {"three decimals": "RFC 3339, three", "six": "RFC 3339, six", "nine": "RFC 3339, nine digits"}
+    same, other = ([logs[f"{short}, {second} second"][HERE] / usual[name][HERE] for short, name in widths.items()] for second in ("the same", "another"))
+    alone = {"RFC 3339": "RFC 3339, nine digits", "a list of 11": LIST}
+    strings = [row[HERE] - texts[alone.get(text, text)][HERE] for name, row in chart.table("|A new `String`|").items()
+               for text in [name.removesuffix(" as a `String`")]]
+    drawn = chart.figures()
+    fewest = all(drawn["Movaliren", row] < count for (name, row), count in drawn.items() if count and not name.startswith("Movaliren"))
     return [
-        (f"takes {min(counts)} to {max(counts)} instructions in the first table", True),
-        ("No other text of ISO 8601 takes more than `time` 0.3.55 takes", max(dearer) <= 0),
+        (f"takes {min(counts)} to {max(counts)} instructions", max(dearer) < 0),
         ("three tenths to two thirds of what", .29 < min(of_crate) and max(of_crate) < .67),
-        ("less than nine tenths of what {fmt} takes", max(of_fmt.values()) < .9),
-        ("takes about a quarter to a half of what the list takes", .24 < min(of_list) and max(of_list) < .53),
-        ("less than a tenth of what `strftime` takes, and an eighth to a seventh of what `time` 0.3.9 takes",
-         max(utc["C"], utc["Rust"]) < utc["strftime"] / 10 and all(.12 < utc[it] / utc["time"] < .148 for it in ("C", "Rust"))),
-        (f"{numbers.get(len(near))} rows take more than four fifths of what 0.3.55 takes", True),
-        (f"{numbers.get(len(behind))} {'row is' if len(behind) == 1 else 'rows are'} behind {{fmt}} or `strftime`", True),
+        ("less than nine tenths of what {fmt} takes", max(of_fmt) < .9),
+        ("about a quarter to a half of that", .24 < min(of_list) and max(of_list) < .53),
+        ("pays from the third text on", gain < made < 3 * gain),
+        ("less than a tenth of what `gmtime_r`, `strftime` and `snprintf` take together", max(utc["C"], utc["Rust"]) < utc[C] / 10),
+        ("less than a quarter of what `gmtime_r` and {fmt} take", max(utc["C"], utc["Rust"]) < utc["`gmtime_r`, {fmt}"] / 4),
+        (f"it takes {usual['RFC 3339, nine digits'][CRATE]} for a date and time that is there already", True),
+        ("take two fifths to a half of what RFC 3339 takes", .4 < min(same) and max(same) < .5),
+        ("A line of another second takes more than RFC 3339 alone", min(other) > 1),
+        (f"takes {lines['`unix`, RFC 3339']['Instructions']} instructions a line, and a million lines "
+         f"{million['`movaliren` `unix`, RFC 3339']['User and system, ms']} ms", True),
+        (f"takes {million['GNU `date -u -f`']['User and system, ms']} ms for them, and `mawk` {million['mawk']['User and system, ms']} ms", True),
+        (f"takes {calls['format_strftime_utc:11-items']['C']}, of which {calls['items_parse_strftime:11-items']['C']} are the reading", True),
+        (f"takes {calls['rfc3339']['C']} with the `gmtime_r` that makes them, which takes {calls['gmtime_r']['C']} alone", True),
+        ("costs about 110 to 230 instructions more", 105 < min(strings) and max(strings) < 235),
+        (f"1 MB of one literal takes {round(kept['one literal']['1000 kB'] / 1000)} million", True),
+        ("Movaliren has the fewest in each row", fewest),
     ]
 
 
 def wrong_in_chart():
-    """The bars of docs/speed.svg that the first table of PERFORMANCE.md has not so, and the figures of its rows without a bar."""
-    rows = {name.strip("`"): row for name, row in table(["Text", "Known"]).items()}
+    """The bars of docs/speed.svg that bench/RESULTS.md has not so, and the figures of its rows without a bar."""
+    rows = {text: row for row, text in chart.ROWS.items()}
     drawn = {}
-    for series, bars in re.findall(r'<g class="series serie-(\d)(.*?)(?=<g class="series|\Z)', CHART, re.S):
+    for series, bars in re.findall(r'<g class="series serie-(\d)(.*?)(?=<g class="series|\Z)', chart.CHART.read_text(), re.S):
         for value, name in re.findall(r'<desc class="value">(\d+)<.*?<desc class="x_label">(.*?)<', bars):
-            drawn[name, SERIES[int(series)]] = int(value)
-    names = {name for name, _ in drawn}
-    wanted = {(name, column): row[column] for name, row in rows.items() if name in names for column in SERIES if column in row}
-    return [f"docs/speed.svg: {name}, {column}: {drawn.get((name, column))}, and docs/PERFORMANCE.md has {wanted.get((name, column))}"
-            for name, column in sorted({*drawn, *wanted}) if drawn.get((name, column)) != wanted.get((name, column))]
+            drawn[list(chart.SERIES)[int(series)], rows.get(name, name)] = int(value)
+    wanted = {key: value for key, value in chart.figures().items() if value}
+    return [f"docs/speed.svg: {row}, {name}: {drawn.get((name, row))}, and bench/RESULTS.md has {wanted.get((name, row))}"
+            for name, row in sorted({*drawn, *wanted}) if drawn.get((name, row)) != wanted.get((name, row))]
+
+
+def unknown_calls():
+    """The rows on calls of bench/RESULTS.md that no measured program has."""
+    ways = "".join((TOP / path).read_text() for path in ("bindings/c/clock.cpp", "bindings/rust-time/examples/speed/ways.rs"))
+    return [f"bench/RESULTS.md: no program measures {row}" for row in chart.table(CALL) if not re.search(f'"{re.escape(row)}["/]', ways)]
 
 
 def main():
-    page = README.read_text()
-    wrong = [f"docs/PERFORMANCE.md does not say, or its tables do not have: {words}" for words, is_true in said_of_tables()
-             if not is_true or words not in PERFORMANCE]
+    page = PAGE.read_text()
+    wrong = [f"docs/PERFORMANCE.md does not say, or bench/RESULTS.md does not have: {words}" for words, is_true in said_of_tables()
+             if not is_true or words not in page]
 
     def right(row):
-        places = FIGURES.get(row["name"])
-        found = [figure(*place) for place in places] if places else [None, None]
-        if [row["ours"], row["theirs"]] != found:
-            wrong.append(f"{row['name']}: {row['ours']} and {row['theirs']}, and docs/PERFORMANCE.md has {found}")
-        if None in found:
+        found = [figure(*place) for place in FIGURES.get(row["name"], [])]
+        shown = [int(it) for it in [row["ours"], *re.findall(r": (\d+)", row["theirs"])]]
+        if shown != found:
+            wrong.append(f"{row['name']}: {shown}, and bench/RESULTS.md has {found}")
+        if None in found or len(found) != len(shown):
             return row[0]
-        return f"| {row['name']} | {found[0]} | {row['who']}: {found[1]} |"
+        rest = iter(found[1:])
+        theirs = re.sub(r": \d+", lambda _: f": {next(rest)}", row["theirs"])
+        return f"| {row['name']} | {found[0]} | {theirs} |"
 
     names = [row["name"] for row in ROW.finditer(page)]
     made = ROW.sub(right, page)
     if names != list(FIGURES):
-        wrong.append("README.md has other rows than docs/check_figures.py knows")
-    wrong += wrong_in_chart()
+        wrong.append("docs/PERFORMANCE.md has other rows than docs/check_figures.py knows")
+    wrong += wrong_in_chart() + unknown_calls()
     if "--write" in sys.argv:
-        README.write_text(made)
+        PAGE.write_text(made)
         for it in (it for it in wrong if it.startswith("docs/")):
             print(it)
-        print(f"{len(names)} rows of README.md are those of docs/PERFORMANCE.md")
+        print(f"{len(names)} rows of docs/PERFORMANCE.md are those of bench/RESULTS.md")
         return 0
     for it in wrong:
         print(it)
-    print(f"{len(names)} rows of figures in README.md: {'they differ from docs/PERFORMANCE.md' if wrong else 'those of docs/PERFORMANCE.md'}")
+    print(f"{len(names)} rows of figures in docs/PERFORMANCE.md: {'they differ from bench/RESULTS.md' if wrong else 'those of bench/RESULTS.md'}")
     return 1 if wrong else 0
 
 

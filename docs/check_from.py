@@ -1,5 +1,6 @@
 #!/usr/bin/env python3
-"""Compares docs/FROM.md with the tests: each line of ours stands in the file of its language, and each text beside it.
+"""Compares the tables of docs/RATTLE.md, docs/RUST.md and docs/C.md that begin with lines of other libraries with the tests: each line of
+ours stands in the file of its language, and each text beside it.
 
 Space, and the commas that a layout adds, make no difference. Of a line with `else { .. }` what stands before is compared.
 """
@@ -14,6 +15,7 @@ FILES = {
     "Rust": ["bindings/rust/tests/from.rs", "bindings/rust-time/src/rfc3339.rs"],
     "C": ["bindings/c/from.c"],
 }
+PAGES = ["RATTLE", "RUST", "C"]
 ROW = re.compile(r"^\|(.*)\|$", re.M)
 
 
@@ -45,7 +47,7 @@ def tables(page):
 
 
 def main():
-    page = (TOP / "docs/FROM.md").read_text()
+    page = "".join((TOP / f"docs/{name}.md").read_text() for name in PAGES)
     texts = {name: tight("".join(path.read_text() for it in globs for path in sorted(TOP.glob(it)))) for name, globs in FILES.items()}
     count, wrong = 0, []
     for language, head, rows in tables(page):
@@ -54,8 +56,8 @@ def main():
             count += len(lines)
             wrong += [f"{language}: {it}" for it in lines + shown if tight(it) not in texts[language]]
     for it in wrong:
-        print(f"no test has this line or text of docs/FROM.md, in {it}")
-    print(f"{count} lines of docs/FROM.md: {'not all are tried' if wrong or not count else 'each is in a test'}")
+        print(f"no test has this line or text of the pages, in {it}")
+    print(f"{count} lines of {', '.join(PAGES)}: {'not all are tried' if wrong or not count else 'each is in a test'}")
     return 1 if wrong or not count else 0
 
 

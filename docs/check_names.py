@@ -1,11 +1,12 @@
 #!/usr/bin/env python3
 """Compares names of the pages with the sources.
 
-Each name in code that docs/PROVED.md, docs/DEFINITIONS.md, docs/DECISIONS.md and docs/TRUST.md have is one of the sources: a clause, a
-function, a type, a field, a module, a definition of `specs/` or a file. So is each name of what stands before the caller in a page CALLING.md. A name in brackets of docs/PROVED.md is one of the section's crate, or of a crate that it stands on.
-docs/ARCHITECTURE.md names each file of a crate's `src/` by its module, and no module that is not there. Each file, folder, definition and
+Each name in code that docs/PROVED.md, the sections on what is proved of the crates' pages, docs/DEFINITIONS.md, docs/DECISIONS.md and docs/TRUST.md have is one of the sources: a clause, a
+function, a type, a field, a module, a definition of `specs/` or a file. So is each name of what stands before the caller in a page CALLING.md. A name in brackets of such a section is one of its crate, or of a crate that it stands on.
+docs/ARCHITECTURE.md names each file of a crate's `src/` by its module, and no module or file that is not there. Each file, folder, definition and
 lemma that a step or a row of CONTRIBUTING.md names stands in a crate that the step names, or in bindings/, docs/ or tools/. A crate's
-README.md says of what it stands on what crates.txt does, and that of movaliren_c names the structs of the interface. Links between pages
+README.md says of what it stands on what crates.txt does, and that of movaliren_c names the structs of the interface. Names in code
+of the pages for C, Rust, Python and Go are those of the sources in bindings/. Links between pages
 lead to a page, and to a heading of it.
 """
 
@@ -27,7 +28,7 @@ DEFINED = [re.compile(pattern, re.M) for pattern in (
 )]
 OF_RATTLE = {
     "usize", "None", "Ok", "Err", "From", "TryFrom", "Vec", "Debug", "true", "false", "Result", "Option", "must-fail",
-    "jiff", "Zoned", "impl", "self", "now", "gate", "old", "new", "push",
+    "jiff", "match", "serde", "Zoned", "impl", "self", "now", "gate", "old", "new", "push",
 }
 # Names of the standard library, of the kit, of C and of other crates, in docs/DECISIONS.md, docs/TRUST.md and CALLING.md.
 OF_OTHERS = {
@@ -39,6 +40,13 @@ OF_OTHERS = {
 FILE = re.compile(r"(?:[\w-]+/)*[\w-]+\.(?:rt|antt|rs|c|cpp|h|hpp|py|md)|(?:[\w-]+/)+[\w-]*|[A-Z][a-z]+(?:[A-Z]\w+)*")
 # The format that the steps make, which is not there, words of Rust and of the field, and the folder of a crate's mutants in any crate.
 MADE = {"specs/ImfFixdate", "src/imf_fixdate.rt", "must-fail/", "Err", "None"}
+# The pages for users of the library, each with the sources of its language, and the words of these pages that are no names of theirs.
+OF_LANGUAGES = {
+    "docs/C.md": ["bindings/c/*.c", "bindings/c/*.cpp", "bindings/c/*.h", "bindings/c/*.hpp"],
+    "docs/RUST.md": ["bindings/rust*/src/**/*.rs", "bindings/rust*/Cargo.toml", "bindings/rust*/examples/**/*.rs", "bindings/rust/build.rs"],
+    "docs/PYTHON.md": ["bindings/python/**/*.py", "bindings/go/**/*.go"],
+}
+OF_PAGES = {"_local", "_utc", "check", "crates", "libmovaliren_c", "movaliren_c", "examples", "to_rfc3339", "help"}
 # Modules that docs/ARCHITECTURE.md need not name: roots of crates, tests, and laws, which it names once for all.
 UNNAMED = {"lib", "main", "tests", "laws"}
 
@@ -71,13 +79,20 @@ def names_of(crate):
     return names
 
 
+def proved_of_crates(below):
+    """What the pages of the crates say is proved, a section for each crate, as one page."""
+    pages = {name: (TOP / "crates" / name / "README.md").read_text() for name in below}
+    found = {name: re.search(r"^## What is proved\n(.*?)(?=^## |\Z)", page, re.M | re.S) for name, page in pages.items()}
+    return "".join(f"\n## `{name}`\n{it[1]}" for name, it in found.items() if it)
+
+
 def unknown_in_proved(page, below):
     """The names of PROVED.md that no source defines, each with its section."""
     every = {it for crate in below for it in names_of(crate)} | set(below) | OF_RATTLE
     wrong = []
     for part in re.split(r"^## ", page, flags=re.M)[1:]:
         crate = part.splitlines()[0].strip("`")
-        own = {it for name in below_of(crate, below) for it in names_of(name)} | OF_RATTLE if crate in below else every
+        own = {it for name in below_of(crate, below) for it in {name, *names_of(name)}} | OF_RATTLE if crate in below else every
         for bracket in re.findall(r"\(([^()]*)\)", part):
             wrong += [f"{crate}: {it}" for it in words_of(bracket) if it not in own]
         wrong += [f"{crate}: {it}" for it in words_of(part) if it not in every]
@@ -102,7 +117,8 @@ def modules(crate):
 
 def unknown_in_architecture(page):
     """The modules that a crate's list names and the crate has not, or the other way round."""
-    wrong = []
+    wrong = [f"docs/ARCHITECTURE.md names {path}, which is not there" for path in re.findall(r"\b(\w+/src(?:/\w+)*(?:\.rt)?)", page)
+             if not (TOP / "crates" / path.removeprefix("crates/")).exists()]
     for name, part in re.findall(r"^\*\*`(\w+)`\*\*(.*?)(?=^\*\*|^`bindings|\Z)", page, re.M | re.S):
         told = {word for code in CODE.findall(part) for word in NAME.findall(code)}
         first, every = modules(name)
@@ -124,7 +140,7 @@ def is_there(name, tops, defined):
 
 def unknown_in_contributing(page, below):
     """What a step or a row of CONTRIBUTING.md names, and no crate that it names has; and how many names were looked for."""
-    walks = page.split("## What you add, which files")[1].split("## The gate")[0]
+    walks = page.split("## What you add, which files")[1].split("## CI")[0]
     kinds = {it for path in (TOP / "bindings/rust/src").glob("*.rs") for pattern in DEFINED for it in pattern.findall(path.read_text())}
     wrong, count = [], 0
     for step in re.findall(r"^(?:\d+\. |\| (?!You add|---)).*$", walks, re.M):
@@ -146,8 +162,23 @@ def wrong_in_readmes(below):
     wrong = [f"{name}: README.md says that it stands on {it[1]}, and crates.txt has {' '.join(below[name]) or 'nothing'}"
              for name, it in said.items() if it and set(CODE.findall(it[1])) != set(below[name])]
     sources = "".join(path.read_text() for path in (TOP / "crates/movaliren_c/src").rglob("*.rt"))
-    shared = [re.sub(r"(?<=[a-z])(?=[A-Z])", "_", it).lower() for it in re.findall(r"repr\(C\)\][^{;]*?pub struct (\w+)", sources)]
+    shared = [re.sub(r"(?<=[a-z0-9])(?=[A-Z])", "_", it).lower() for it in re.findall(r"repr\(C\)\][^{;]*?pub struct (\w+)", sources)]
     return wrong + [f"movaliren_c: README.md does not name movaliren_{it}" for it in shared if f"`movaliren_{it}`" not in pages["movaliren_c"]]
+
+
+def unknown_of_languages():
+    """The names in code of the pages for C, Rust, Python and Go that no source of that language has. What stands in a table may be of
+    another library. A name before `()` is one that is called."""
+    wrong = []
+    for page, sources in OF_LANGUAGES.items():
+        texts = "".join(path.read_text() for it in sources for path in TOP.glob(it))
+        words = {*re.findall(r"\w+", texts), *OF_PAGES}
+        said = re.sub(r"^```.*?^```$|^\|[^\n]*$", "", (TOP / page).read_text(), flags=re.M | re.S)
+        codes = CODE.findall(said)
+        wrong += [f"{page} names {it}, which no source has" for code in codes for it in re.findall(r"[A-Za-z_]\w{3,}", code) if it not in words]
+        wrong += [f"{page} names {it}(), which no source has" for code in codes for it in re.findall(r"(\w+)\(\)", code)
+                  if not re.search(rf"\b{it}\(", texts)]
+    return wrong
 
 
 def anchors(page):
@@ -157,7 +188,7 @@ def anchors(page):
 
 def broken_links():
     pages = [*TOP.glob("*.md"), *TOP.glob("docs/*.md"), *TOP.glob("crates/*/README.md"), *TOP.glob("crates/*/CALLING.md"),
-             *TOP.glob("bindings/*/README.md")]
+             *TOP.glob("bindings/*/README.md"), *TOP.glob("bench/*.md")]
     wrong, count = [], 0
     for page in pages:
         for path, anchor in LINK.findall(page.read_text()):
@@ -172,9 +203,10 @@ def main():
     proved, architecture, definitions, decisions, trust = (
         (TOP / f"docs/{name}.md").read_text() for name in ("PROVED", "ARCHITECTURE", "DEFINITIONS", "DECISIONS", "TRUST"))
     below = crates()
+    proved += proved_of_crates(below)
     links, count = broken_links()
     unfound, steps = unknown_in_contributing((TOP / "CONTRIBUTING.md").read_text(), below)
-    wrong = [f"docs/PROVED.md names what no source has: {it}" for it in sorted(set(unknown_in_proved(proved, below)))]
+    wrong = [f"docs/PROVED.md or a crate's page names what no source has: {it}" for it in sorted(set(unknown_in_proved(proved, below)))]
     every = {it for crate in below for it in names_of(crate)} | set(below) | OF_RATTLE
     wrong += [f"docs/DEFINITIONS.md names what no source has: {it}" for it in sorted(defined_in(definitions) - every)]
     wrong += [f"docs/{name}.md names what no source has: {it}"
@@ -182,7 +214,7 @@ def main():
     for path in sorted(TOP.glob("crates/*/CALLING.md")):
         said = path.read_text().partition("## A caller")[0]
         wrong += [f"CALLING.md of {path.parent.name} names what no source has: {it}" for it in sorted(defined_in(said) - every - OF_OTHERS)]
-    wrong += unknown_in_architecture(architecture) + unfound + wrong_in_readmes(below) + links
+    wrong += unknown_of_languages() + unknown_in_architecture(architecture) + unfound + wrong_in_readmes(below) + links
     for it in wrong:
         print(it)
     names = len(words_of(proved + definitions)) + len(defined_in(decisions) | defined_in(trust))

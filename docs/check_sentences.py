@@ -1,6 +1,6 @@
 #!/usr/bin/env python3
 """Measures the documents: no sentence outside code and tables has more than 40 words, and none of README.md has more than
-two figures. Versions and the numbers of standards are no figures."""
+two figures. Versions and the numbers of standards are no figures. No page names a commit."""
 
 import pathlib
 import re
@@ -11,6 +11,8 @@ PAGES = ["README.md", "CONTRIBUTING.md", "CHANGELOG.md", "docs/*.md", "crates/*/
 MOST_OF_SENTENCE = 40
 MOST_FIGURES = 2
 FIGURE = re.compile(r"(?<![\w.`-])\d[\d,]*(?![\w.]*\d|[\w`-])")
+# Seven or eight digits of base 16, with a letter and a figure among them.
+COMMIT = re.compile(r"\b(?=[a-f]*[0-9])(?=[0-9]*[a-f])[0-9a-f]{7,8}\b")
 STANDARD = re.compile(r"(?:RFC|ISO|section) \d+(?:-\d+)?|`[^`]*`|C\+\+\d+|x86-64-v2|x86-64")
 
 
@@ -35,8 +37,11 @@ def main():
                and len(FIGURE.findall(STANDARD.sub("", it))) > MOST_FIGURES]
     for it in crowded:
         print(f"README.md: a sentence of more than {MOST_FIGURES} figures: {it[:80]}")
+    commits = [(path, it) for path, text in texts.items() for it in COMMIT.findall(text)]
+    for path, it in commits:
+        print(f"{path.relative_to(TOP)}: names the commit {it}")
     print(f"{len(found)} sentences, {len(long)} too long, {len(crowded)} with too many figures")
-    return 1 if long or crowded else 0
+    return 1 if long or crowded or commits else 0
 
 
 if __name__ == "__main__":

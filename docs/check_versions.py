@@ -1,5 +1,5 @@
 #!/usr/bin/env python3
-"""Compares the version of the library in the header, the Rust crates, CHANGELOG.md and docs/GETTING.md, and the kits that
+"""Compares the version of the library in the header, the Rust crates, the package of Python, CHANGELOG.md and docs/GETTING.md, and the kits that
 the pages name."""
 
 import pathlib
@@ -11,6 +11,8 @@ VERSIONS = {
     "bindings/c/movaliren.h": r'define MOVALIREN_VERSION "(.*)"',
     "bindings/rust/Cargo.toml": r'^version = "(.*)"',
     "bindings/rust-time/Cargo.toml": r'^version = "(.*)"',
+    "bindings/python/pyproject.toml": r'^version = "(.*)"',
+    "bindings/python/movaliren/__init__.py": r'^__version__ = "(.*)"',
     "CHANGELOG.md": r"have the version (\d+\.\d+\.\d+)",
     "docs/GETTING.md": r"(?:movaliren-|_)(\d+\.\d+\.\d+)(?=-x86|_amd64)",
 }

@@ -33,24 +33,33 @@ CHANGES = {
         ("crates/time_below/src/format_description/modifier.rt", r"^/// (.*)\n(?=#\[.*\]\npub struct Day )", r"/// Other. \1\n", "not in modifier.rt: ('Day', "),
     ],
     "docs/check_figures.py": [
-        ("README.md", r"^(\| RFC 2822, in Rattle \| )\d+", r"\g<1>1", "RFC 2822, in Rattle: 1 and "),
-        ("docs/speed.svg", r'<desc class="value">\d+', '<desc class="value">1', "docs/speed.svg: 6169-W33-6, {fmt}: 1, and "),
-        ("docs/PERFORMANCE.md", r"takes (\d+ to )\d+ instructions in the first table", r"takes \g<1>1 instructions in the first table", "docs/PERFORMANCE.md does not say"),
+        ("docs/PERFORMANCE.md", r"^(\| RFC 3339 of Unix time, from Rust \| )\d+", r"\g<1>1", "RFC 3339 of Unix time, from Rust: [1, "),
+        ("docs/PERFORMANCE.md", r"`chrono` 0\.4\.23 \(2022\): \d+", "`chrono` 0.4.23 (2022): 1", "RFC 3339 of Unix time, from Rust: ["),
+        ("docs/speed.svg", r'<desc class="value">\d+', '<desc class="value">1', "docs/speed.svg: `Aug 19, 6169 09:36 PM`, {fmt}: 1, and "),
+        ("docs/PERFORMANCE.md", r"takes (\d+ to )\d+ instructions", r"takes \g<1>1 instructions", "docs/PERFORMANCE.md does not say"),
+        ("bench/RESULTS.md", r"^\|stamp_utc\|", "|stamp|", "bench/RESULTS.md: no program measures stamp"),
+        ("bench/RESULTS.md", r"^\|rfc3339_utc\|178\|", "|rfc3339_utc|300|", "docs/PERFORMANCE.md does not say, or bench/RESULTS.md does not have: less than a tenth"),
     ],
     "docs/check_from.py": [
-        ("docs/FROM.md", r"`moment\.format\(alloc, &Rfc3339\)", "`moment.format(&Rfc3339)", "docs/FROM.md, in Rattle: moment.format(&Rfc3339)"),
-        ("docs/FROM.md", r"`Sun, 22 Nov", "`Mon, 22 Nov", "docs/FROM.md, in Rust: Mon, 22 Nov"),
+        ("docs/RATTLE.md", r"`moment\.format\(alloc, &Rfc3339\)", "`moment.format(&Rfc3339)", "of the pages, in Rattle: moment.format(&Rfc3339)"),
+        ("docs/RUST.md", r"`Sun, 22 Nov", "`Mon, 22 Nov", "of the pages, in Rust: Mon, 22 Nov"),
     ],
     "docs/check_front_page.py": [
         ("README.md", r"^\./gate --tests$", "./gate --test", "the documents and the code differ: ./gate --test"),
-        ("README.md", r"^/// Appends the time of a log line", "/// Adds the time of a log line", "differ: /// Adds the time"),
+        ("docs/RATTLE.md", r"^/// Appends the time of a log line", "/// Adds the time of a log line", "differ: /// Adds the time"),
+        ("bindings/c/first.c", r"char line\[64\]", "char line[65]", "README.md shows not all of bindings/c/first.c"),
+        ("README.md", r"^1700000002,disk", "1700000003,disk", "README.md: the log is no run of movaliren"),
+        ("docs/SHELL.md", r"`1700000000123`", "`1700000000124`", "docs/SHELL.md: 1700000000124, unix"),
         ("README.md", r"^(ok 11 18 .*)$", r"\g<1>0", "the documents and the code differ: printf"),
     ],
     "docs/check_names.py": [
-        ("docs/PROVED.md", r"\(`same_state`\)", "(`same_states`)", "docs/PROVED.md names what no source has: time_fmt: same_states"),
+        ("crates/time_fmt/README.md", r"\(`same_state`\)", "(`same_states`)", "names what no source has: time_fmt: same_states"),
+        ("docs/PROVED.md", r"`too_wide`", "`too_wides`", "names what no source has: The theorem: too_wides"),
         ("docs/DEFINITIONS.md", r"`day_number`", "`day_numbers`", "docs/DEFINITIONS.md names what no source has: day_numbers"),
         ("docs/TRUST.md", r"`HasOffset`", "`HasOffsets`", "docs/TRUST.md names what no source has: HasOffsets"),
         ("docs/ARCHITECTURE.md", r"^- `decimals`|`log_time`: the type", "`log_times`: the type", "time_log has no such module"),
+        ("docs/ARCHITECTURE.md", r"time_fmt/src/sink\.rt", "time_fmt/src/sinks.rt", "docs/ARCHITECTURE.md names time_fmt/src/sinks.rt, which is not there"),
+        ("docs/RUST.md", r"`batch_into`", "`batchez_into`", "docs/RUST.md names batchez_into, which no source has"),
         ("CONTRIBUTING.md", r"`num_fmt\.rt`", "`num_fmts.rt`", "CONTRIBUTING.md names num_fmts.rt"),
         ("crates.txt", r"^time_describe: time_below ", "time_describe: ", "time_describe: README.md says that it stands on"),
         ("README.md", r"\]\(docs/GETTING\.md\)", "](docs/GETTIN.md)", "README.md: the link docs/GETTIN.md leads nowhere"),
@@ -58,7 +67,8 @@ CHANGES = {
     ],
     "docs/check_sentences.py": [
         ("docs/GETTING.md", r"^There are two ways\.", LONG, "docs/GETTING.md: a sentence of 43 words"),
-        ("README.md", r"^Take it in place of", "Of 1 or 2 or 3 texts take it in place of", "README.md: a sentence of more than 2 figures"),
+        ("CONTRIBUTING.md", r"^## CI", "Since 1a37c834\n\n## CI", "CONTRIBUTING.md: names the commit 1a37c834"),
+        ("README.md", r"^Fewer is better", "Of 1 or 2 or 3 texts fewer is better", "README.md: a sentence of more than 2 figures"),
     ],
     "docs/check_versions.py": [
         ("bindings/rust/Cargo.toml", r'^version = ".*"', 'version = "9.9.9"', "bindings/rust/Cargo.toml: 9.9.9"),
@@ -72,7 +82,7 @@ CHANGES = {
     "bindings/interface.py --check": [
         ("bindings/c/movaliren.h", r"movaliren_rfc3339\(const struct movaliren_moment \*moment", "movaliren_rfc3339(const struct movaliren_moment *it", "movaliren.h is not what the code gives"),
         ("bindings/c/movaliren.h", r"movaliren_rfc3339\(", "movaliren_rfc3340(", "in the header or the code alone"),
-        ("bindings/c/movaliren.hpp", r"no_room = MOVALIREN_ERROR_NO_ROOM,", "room = MOVALIREN_ERROR_NO_ROOM,", "movaliren.hpp is not what the code gives"),
+        ("bindings/c/movaliren.hpp", r"buffer_too_small = MOVALIREN_ERROR", "too_small = MOVALIREN_ERROR", "movaliren.hpp is not what the code gives"),
         ("bindings/rust/src/library.rs", r"-1 => ", "-100 => ", "library.rs is not what the code gives"),
     ],
 }
@@ -137,8 +147,13 @@ def faults_of_jobs():
     return [] if is_well else [f"ci_by_jobs.py: {found}, and not {wanted}, or the record of another check"]
 
 
+def unchanged():
+    """The checks of documents for which no change is made."""
+    return [f"no change is made for docs/{it.name}" for it in sorted((TOP / "docs").glob("check_*.py")) if f"docs/{it.name}" not in CHANGES]
+
+
 def main():
-    told = faults() + faults_of_jobs()
+    told = unchanged() + faults() + faults_of_jobs()
     for it in told:
         print(it)
     count = sum(map(len, CHANGES.values()))
