@@ -5,6 +5,8 @@ ghost use Rattle.time_below.specs.Clones.{AreSame};
 
 use crate::command::Name;
 use crate::formats::Formats;
+use crate::output::WriteFailed;
+use crate::reply::Reply;
 use crate::run::ShowError;
 use crate::value::{DateNumbers, DateTimeNumbers, OffsetNumbers, Part, TimeNumbers, UtcNumbers};
 
@@ -19,6 +21,7 @@ pub fn clones_of_names()
     ensures name { AreSame ⟦<Name as Clone>⟧.is_clone }
     ensures error { AreSame ⟦<ShowError as Clone>⟧.is_clone }
     ensures formats { AreSame ⟦<Formats as Clone>⟧.is_clone }
+    ensures write_failed { AreSame ⟦<WriteFailed as Clone>⟧.is_clone }
 {}
 
 /// A clone of the numbers of a value is the same.
@@ -28,6 +31,12 @@ pub fn clones_of_numbers()
     ensures offset { AreSame ⟦<OffsetNumbers as Clone>⟧.is_clone }
     ensures date_time { AreSame ⟦<DateTimeNumbers as Clone>⟧.is_clone }
     ensures utc { AreSame ⟦<UtcNumbers as Clone>⟧.is_clone }
+{}
+
+/// A clone of an answer is the same.
+pub fn clones_of_replies(reply: Reply<'_>, copy: Reply<'_>)
+    ensures { ⟦<Reply<'static> as Clone>⟧.is_clone reply.entry copy.entry
+        → copy.entry ≡ reply.entry }
 {}
 
 /// Two parts are equal exactly if they are the same.

@@ -25,7 +25,7 @@ use time_provide::ComponentProvider;
 #[derive(Clone, Copy)]
 pub enum Reply<'a> {
     /// A value's text, the number of its bytes as the formatter counted them, and the description's
-    /// width.
+    /// maximum length.
     Formatted {
         count: usize,
         width: usize,

@@ -14,6 +14,7 @@ pub mod providers;
 pub mod readers;
 pub mod rows;
 pub mod texts;
+pub mod texts_of_plans;
 pub mod unix_lines;
 pub mod visits;
 pub mod zones;

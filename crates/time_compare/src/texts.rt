@@ -1,4 +1,5 @@
-//! The two calls of a description that format, and what came of them: texts, counts, widths and refusals.
+//! The two calls of a description that format, and what came of them: texts, counts, maximum
+//! lengths and refusals.
 use crate::values::{Value, date_at, moment, offset_at, time_at, timestamp_at};
 use std::alloc::Global;
 use std::default::Default;
@@ -96,13 +97,13 @@ pub fn append<D: Formattable>(
     }
 }
 
-/// The width of a description.
+/// The maximum length of a description.
 pub fn measured<D: ComputeMetadata>(item: &D) -> usize {
     item.compute_metadata().max_bytes_needed
 }
 
-/// Whether the text of a description, appended to an empty vector and made as a text, of the value that has these
-/// numbers, is this one, and so are the count and the width.
+/// Whether the text of a description, appended to an empty vector and made as a text, of the value
+/// that has these numbers, is this one, and so are the count and the maximum length.
 pub fn has_text<D: Formattable>(
     alloc: Global,
     item: &D,

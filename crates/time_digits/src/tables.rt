@@ -2,11 +2,11 @@
 ghost use Rattle.std.specs.Prelude.{◌≡◌, ◌+◌, ◌≤◌, length, take, drop, IsTrue};
 ghost use Rattle.time_digits.specs.Digits.{is_ascii};
 
-/// The digits 0 to 9, in 10 bytes; the digit `n` is at the place `n`.
+/// The digits 0 to 9, in 10 bytes; the digit `n` is at the index `n`.
 pub const SINGLE_DIGITS: &str = "0123456789";
 
 /// The numbers 0 to 99 in two places each, with a zero in front of those below 10, in 200 bytes;
-/// the number `n` is at the place `2 * n`.
+/// the number `n` is at the index `2 * n`.
 pub const ZERO_PADDED_PAIRS: &str = "\
 0001020304050607080910111213141516171819\
 2021222324252627282930313233343536373839\
@@ -15,7 +15,7 @@ pub const ZERO_PADDED_PAIRS: &str = "\
 8081828384858687888990919293949596979899";
 
 /// The numbers 0 to 99 in two places each, with a space in front of those below 10, in 200 bytes;
-/// the number `n` is at the place `2 * n`.
+/// the number `n` is at the index `2 * n`.
 pub const SPACE_PADDED_PAIRS: &str = " 0 1 2 3 4 5 6 7 8 9\
 10111213141516171819\
 2021222324252627282930313233343536373839\
@@ -23,8 +23,8 @@ pub const SPACE_PADDED_PAIRS: &str = " 0 1 2 3 4 5 6 7 8 9\
 6061626364656667686970717273747576777879\
 8081828384858687888990919293949596979899";
 
-/// The magnitudes of the numbers -59 to 59 in two places each, with a zero in front of those below 10, in
-/// 238 bytes; that of the number `n` is at the place `2 * (n + 59)`.
+/// The magnitudes of the numbers -59 to 59 in two places each, with a zero in front of those below
+/// 10, in 238 bytes; that of the number `n` is at the index `2 * (n + 59)`.
 pub const MAGNITUDE_PAIRS: &str = "\
 5958575655545352515049484746454443424140\
 3938373635343332313029282726252423222120\

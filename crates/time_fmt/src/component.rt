@@ -120,8 +120,8 @@ pub fn end_component<S: Sink, V: ComponentProvider>(
     }
 }
 
-/// Appends the text of the component. The output needs spare capacity for its width. Allocates
-/// nothing.
+/// Appends the text of the component. The output needs spare capacity for its maximum length.
+/// Allocates nothing.
 ///
 /// A deprecated component has the text of the current one. Returns the number of bytes appended, or
 /// the refusal of the component, which has no bytes.

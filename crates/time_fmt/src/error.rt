@@ -15,7 +15,7 @@ pub enum Format {
     /// A component is outside the range that the description has for it.
     #[error(transparent)]
     ComponentRange(ComponentRange),
-    /// An allocation failed, or the width has reached the greatest `usize`.
+    /// An allocation failed, or the maximum length has reached the greatest `usize`.
     #[error("Memory could not be reserved.")]
     OutOfMemory,
 }

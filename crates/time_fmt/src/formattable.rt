@@ -36,8 +36,8 @@ pub trait Formattable: ComputeMetadata {
     /// with a grammar; of others nothing is said.
     ghost reads_as: { Self → Facts → List ℕ → Type 0 } = { λ _ _ _. Unit {0} };
 
-    /// Appends the text of the value. The output needs spare capacity for the width, which must be below
-    /// the greatest `usize`. Allocates nothing.
+    /// Appends the text of the value. The output needs spare capacity for the maximum length, which
+    /// must be below the greatest `usize`. Allocates nothing.
     ///
     /// Returns the number of bytes appended, or the refusal that ends the text. The bytes appended
     /// before a refusal stay.
@@ -59,20 +59,20 @@ pub trait Formattable: ComputeMetadata {
             (outcome_of self.now (V.facts value.now)) }
         ensures agrees { V.agrees state.new value.now };
 
-    /// Returns `true` only if this many bytes are enough for each text, where that is told faster than the
-    /// width. `false` says nothing.
+    /// Returns `true` only if this many bytes are enough for each text, where that is told faster
+    /// than the maximum length. `false` says nothing.
     fn fits_plainly(&self, _room: usize) -> bool
         ensures { IsTrue result → Self.width_of self.now ≤ _room }
     {
         false
     }
 
-    /// Appends the text of the value. Reserves once if the spare capacity is below the width: the capacity
-    /// becomes what is needed, or twice what it was if that is more.
+    /// Appends the text of the value. Reserves once if the spare capacity is below the maximum
+    /// length: the capacity becomes what is needed, or twice what it was if that is more.
     ///
     /// Returns the number of bytes appended, or the refusal that ends the text. The bytes appended
-    /// before a refusal stay. If the reservation fails, or the width has reached the greatest
-    /// `usize`, the result is `OutOfMemory`, and output and state are unchanged.
+    /// before a refusal stay. If the reservation fails, or the maximum length has reached the
+    /// greatest `usize`, the result is `OutOfMemory`, and output and state are unchanged.
     fn format_into<V: ComponentProvider>(
         &self,
         output: &mut Vec<u8>,
@@ -90,7 +90,7 @@ pub trait Formattable: ComputeMetadata {
         ensures agrees { V.agrees state.new value.now }
         ensures reserves { Reserves output.old (Self.width_of self.now) (vec_capacity output.new) (is_out_of_memory result) }
 
-        // `OutOfMemory` changes nothing, and is never returned if the width fits.
+        // `OutOfMemory` changes nothing, and is never returned if the maximum length fits.
         ensures unchanged { result ≡ Err Format.OutOfMemory → output.new.items ≡ output.old.items }
         ensures same_state { result ≡ Err Format.OutOfMemory → state.new ≡ state.old }
         ensures too_wide { usize.MAX ≤ Self.width_of self.now → result ≡ Err Format.OutOfMemory }
@@ -110,8 +110,8 @@ pub trait Formattable: ComputeMetadata {
     /// The text of the value, after one reservation, or the refusal that ends it. Bytes that are no UTF-8,
     /// which only byte literals make, are read as a whole with U+FFFD for what is no character.
     ///
-    /// The result is `OutOfMemory` if an allocation fails, for the text or for reading bytes that are no
-    /// UTF-8, or if the width has reached the greatest `usize`.
+    /// The result is `OutOfMemory` if an allocation fails, for the text or for reading bytes that
+    /// are no UTF-8, or if the maximum length has reached the greatest `usize`.
     final fn format<V: ComponentProvider>(
         &self,
         alloc: Global,

@@ -23,8 +23,8 @@ use time_below::format_description::{
 };
 use time_below::{ComponentRange, DifferentVariant};
 
-/// The width of a component is that of the table, and it has the guarantee. Where it is not
-/// deprecated, its text on one of two values is as long as the width.
+/// The maximum length of a component is that of the table, and it has the guarantee. Where it is
+/// not deprecated, its text on one of two values is as long as the maximum length.
 #[tactic(auto, using(crate::proofs::LongestLemmas::reaches_width))]
 pub fn component_has_its_width(component: Component)
     ensures width { ⟦<Component as ComputeMetadata>⟧.width_of component
@@ -33,7 +33,7 @@ pub fn component_has_its_width(component: Component)
     ensures reached { ReachesWidth component }
 {}
 
-/// A borrowed item has the outcome, the width and the guarantee of its tree.
+/// A borrowed item has the outcome, the maximum length and the guarantee of its tree.
 pub fn borrowed_item_means_its_tree(item: &BorrowedFormatItem<'_>)
     ensures { Means
         (⟦<BorrowedFormatItem<'static> as Formattable>⟧.outcome_of item.now)
@@ -42,7 +42,7 @@ pub fn borrowed_item_means_its_tree(item: &BorrowedFormatItem<'_>)
         (borrowed_tree item.now) }
 {}
 
-/// An owned item has the outcome, the width and the guarantee of its tree.
+/// An owned item has the outcome, the maximum length and the guarantee of its tree.
 pub fn owned_item_means_its_tree(item: &OwnedFormatItem)
     ensures { Means
         (⟦<OwnedFormatItem as Formattable>⟧.outcome_of item.now)
@@ -51,7 +51,7 @@ pub fn owned_item_means_its_tree(item: &OwnedFormatItem)
         (owned_tree item.now) }
 {}
 
-/// A version 3 description has the outcome, the width and the guarantee of its tree.
+/// A version 3 description has the outcome, the maximum length and the guarantee of its tree.
 pub fn v3_description_means_its_tree(description: &FormatDescriptionV3<'_>)
     ensures { Means
         (⟦<FormatDescriptionV3<'static> as Formattable>⟧.outcome_of description.now)
@@ -60,7 +60,8 @@ pub fn v3_description_means_its_tree(description: &FormatDescriptionV3<'_>)
         (v3_tree description.now) }
 {}
 
-/// Borrowed items have the outcome, the width and the guarantee of the list of their trees.
+/// Borrowed items have the outcome, the maximum length and the guarantee of the list of their
+/// trees.
 pub fn borrowed_items_mean_their_list(items: BorrowedItems<'_>)
     ensures { Means
         (⟦<BorrowedItems<'static> as Formattable>⟧.outcome_of items.entry)
@@ -69,7 +70,7 @@ pub fn borrowed_items_mean_their_list(items: BorrowedItems<'_>)
         (all_of (trees (map borrowed_tree items.entry.0.now))) }
 {}
 
-/// Owned items have the outcome, the width and the guarantee of the list of their trees.
+/// Owned items have the outcome, the maximum length and the guarantee of the list of their trees.
 pub fn owned_items_mean_their_list(items: OwnedItems<'_>)
     ensures { Means
         (⟦<OwnedItems<'static> as Formattable>⟧.outcome_of items.entry)

@@ -5,16 +5,17 @@ ghost use Rattle.time_fmt.specs.Longest.{ReachesWidth};
 
 use time_below::format_description::{Component, Metadata, component_width};
 
-/// A description whose width is known before its text is written.
+/// A description whose maximum length is known before its text is written.
 pub trait ComputeMetadata {
     /// A number of bytes that no text exceeds, without a bound of its own.
     ghost width_of: { Self → ℕ };
 
-    /// Whether no byte literal is among what the width counts.
+    /// Whether no byte literal is among what the maximum length counts.
     ghost is_guaranteed: { Self → Bool };
 
-    /// That the text of some value has as many bytes as the width, where the width comes from the
-    /// table of widths; of the sums of other widths nothing is said.
+    /// That the text of some value has as many bytes as the maximum length, where the maximum
+    /// length comes from the table of maximum lengths; of the sums of other maximum lengths nothing
+    /// is said.
     ghost reaches_width: { Self → Type 0 } = { λ _. Unit {0} };
 
     /// A number of bytes that no text exceeds, or the greatest `usize` if that is less, and whether the text

@@ -1,4 +1,5 @@
-//! The trait of a component's choices, which say what component it is, its group, its width and its writer.
+//! The trait of a component's choices, which say what component it is, its group, its maximum
+//! length and its writer.
 ghost use Rattle.std.specs.Prelude.{◌≡◌, IsTrue};
 ghost use Rattle.time_below.specs.Conversion.{is_current};
 ghost use Rattle.time_below.specs.declared.format_description.component.Component.{Component};
@@ -30,7 +31,7 @@ pub trait Modifier: Copy {
         ensures current { IsTrue (is_current (component_of self)) };
 
     /// Appends its text, of a value that supplies its group. The output needs spare capacity for
-    /// its width. Allocates nothing.
+    /// its maximum length. Allocates nothing.
     ///
     /// Returns the refusal of the component, which has no bytes, if it is refused.
     fn write_supplied<S: Sink, V: ComponentProvider>(

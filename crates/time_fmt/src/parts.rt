@@ -1,4 +1,4 @@
-//! Descriptions that are known when they are compiled, by their parts in order.
+//! Descriptions that are known at compile time, by their parts in order.
 //!
 //! A description that is in the program's text needs no list of items: `text!` makes one of its parts,
 //! and the compiler one function of that, with the outcome of the list of the same items. One import has
@@ -140,7 +140,7 @@ pub const HOUR: modifier::Hour24 = usual!(Hour24: padding);
 /// The hour of the 12-hour clock, 1 to 12, as `09`.
 pub const HOUR_12: modifier::Hour12 = usual!(Hour12: padding);
 
-/// The half of the day, as `AM`.
+/// AM or PM, as `AM`.
 pub const PERIOD: modifier::Period = usual!(Period: is_uppercase, case_sensitive);
 
 /// The minute, as `55`.

@@ -98,8 +98,8 @@ impl<B: Before> Sink for RoomSink<'_, B> {
     }
 }
 
-// Overwrites the bytes of a buffer from a place on by the first of nine. Those of a name are written with no call, since
-// the compiler knows how many they are.
+// Overwrites the bytes of a buffer from a position on by the first of nine. Those of a name are
+// written with no call, since the compiler knows how many they are.
 #[inline(always)]
 fn write_first_over(room: &mut [u8], at: usize, bytes: &[u8; 9], count: usize)
     requires most { count ≤ 9 }
@@ -120,7 +120,7 @@ fn write_first_over(room: &mut [u8], at: usize, bytes: &[u8; 9], count: usize)
     }
 }
 
-/// Overwrites the bytes of a buffer from a place on.
+/// Overwrites the bytes of a buffer from a position on.
 #[inline(always)]
 #[tactic(auto, using(crate::proofs::RoomLemmas::written_over))]
 pub fn write_over(room: &mut [u8], at: usize, bytes: &[u8])

@@ -1,5 +1,5 @@
-//! Components, descriptions and writers: the texts, counts and widths of worked rows, and what happens
-//! where memory is refused.
+//! Components, descriptions and writers: the texts, counts and maximum lengths of worked rows, and
+//! what happens where memory is refused.
 
 /// Rows of a value, a component by its choices, and the text of that component.
 macro_rules! rows {

@@ -26,7 +26,7 @@ pub(crate) trait Tree<Parts>: Node + Drop {
     /// Whether the item is written is a choice of the third version alone.
     fn optional(is_written: bool, item: Box<Self>) -> Self;
 
-    /// Compares the text and the width, of the Wednesday.
+    /// Compares the text and the maximum length, of the Wednesday.
     fn assert_text(self, rt: &impl Abort, alloc: Global, texts: (&str, usize));
 }
 
@@ -147,7 +147,7 @@ impl<'a> Tree<Held> for Inner<'a> {
     }
 }
 
-/// Compares the text, the width and the stored width of an item.
+/// Compares the text, the maximum length and the stored maximum length of an item.
 fn assert_v3(rt: &impl Abort, alloc: Global, item: Inner<'_>, (text, width): (&str, usize)) {
     let item = FormatDescriptionV3::new(item);
     assert_same(rt, item.max_bytes_needed(), width);

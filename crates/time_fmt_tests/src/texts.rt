@@ -94,8 +94,8 @@ pub(crate) fn made(rt: &impl Abort, alloc: Global, item: &Item<'_>, value: Value
     text
 }
 
-/// Compares the text of a description, appended and made, its count and the width, of the value that has these
-/// numbers.
+/// Compares the text of a description, appended and made, its count and the maximum length, of the
+/// value that has these numbers.
 pub(crate) fn assert_value<D: Formattable>(
     rt: &impl Abort,
     alloc: Global,
@@ -121,7 +121,7 @@ pub(crate) fn assert_item(
     assert_value(rt, alloc, item, value, texts);
 }
 
-/// Compares the texts of descriptions and their widths, of one value.
+/// Compares the texts of descriptions and their maximum lengths, of one value.
 pub(crate) fn assert_items(
     rt: &impl Abort,
     alloc: Global,
@@ -133,7 +133,7 @@ pub(crate) fn assert_items(
     }
 }
 
-/// Compares the texts of components and their widths, of one value.
+/// Compares the texts of components and their maximum lengths, of one value.
 pub(crate) fn assert_components(
     rt: &impl Abort,
     alloc: Global,

@@ -75,7 +75,7 @@ fn offset_of(zone: TimeZone<'_>, asked: i64) -> UtcOffset
     crate::offset(ZoneOffset::from_plain(zone.to_offset(instant(asked, 0))))
 }
 
-/// The clock of a zone, which keeps the offset that it has from one change to the next.
+/// The clock of a zone, which caches the offset that it has from one change to the next.
 #[derive(Drop)]
 pub struct ZoneClock<'a> {
     /// The zone that is asked.
@@ -123,7 +123,8 @@ impl<'a> ZoneClock<'a> {
         *self = ZoneClock::at(self.zone, second);
     }
 
-    /// The offset of the clock at the moment.
+    /// The offset of the clock at the moment: one that the zone has at a second from which
+    /// to the moment it reports no change.
     #[inline(always)]
     pub fn offset_at(&mut self, moment: &Timestamp) -> UtcOffset
         ensures zone { self.new.zone ≡ self.old.zone }

@@ -14,8 +14,9 @@ use time_provide::DateState;
 /// default configuration of ISO 8601. Stamps sort by their bytes as their moments do.
 ///
 /// Returns 30, the number of bytes appended. A year outside 0 to 9,999 is refused as the component
-/// `year`, and nothing is appended. Reserves once if the spare capacity is below the 35 bytes of the format's
-/// width. If that fails, the result is `OutOfMemory`, and the output is unchanged.
+/// `year`, and nothing is appended. Reserves once if the spare capacity is below the 35 bytes of
+/// the format's maximum length. If that fails, the result is `OutOfMemory`, and the output is
+/// unchanged.
 pub fn stamp_into(output: &mut Vec<u8>, value: &UtcDateTime) -> Result<usize, Format>
     ensures appended { IfOk result
         (λ _. output.new.items ≡ output.old.items ++ stamp_text value.now) }
@@ -30,7 +31,7 @@ pub fn stamp_into(output: &mut Vec<u8>, value: &UtcDateTime) -> Result<usize, Fo
         → Names e (invalid_component (codes "year"))) }
     ensures unchanged { OnErr result (output.new.items ≡ output.old.items) }
 
-    // `OutOfMemory` is never returned if the width fits.
+    // `OutOfMemory` is never returned if the maximum length fits.
     ensures reserves { Reserves output.old stamp_width (vec_capacity output.new) (is_out_of_memory result) }
     ensures room { HasRoom output.old stamp_width → result ≢ Err Format.OutOfMemory }
 {

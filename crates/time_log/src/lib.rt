@@ -1,4 +1,5 @@
-//! Times of log lines, as RFC 3339 has them. The text of a second is kept for the lines of that second.
+//! Times of log lines, as RFC 3339 has them. The text of a second is cached for the lines of that
+//! second.
 #![tactic(auto)]
 
 mod decimals;

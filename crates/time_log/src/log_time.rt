@@ -20,8 +20,8 @@ use time_known::accepted::OutOfRange;
 /// The times of the lines of one log, at one offset and with as many decimals in each: texts of
 /// RFC 3339, section 5.6, as `1985-04-12T23:20:50.520Z`.
 ///
-/// The text of the last second is kept up to its decimals. Another time of that second costs a copy of
-/// it, the decimals and the offset. What is kept changes no byte of any text.
+/// The text of the last second is cached up to its decimals. Another time of that second costs a
+/// copy of it, the decimals and the offset. What is cached changes no byte of any text.
 #[derive(Clone, Drop)]
 pub struct LogTime {
     offset: UtcOffset,
@@ -31,7 +31,7 @@ pub struct LogTime {
     is_utc: bool,
     // The bytes of each text.
     length: usize,
-    // The second that is kept, and its text up to the decimals.
+    // The second that is cached, and its text up to the decimals.
     second: i64,
     head: [u8; LENGTH],
 }
@@ -77,7 +77,7 @@ impl LogTime {
         LogTime::at(UtcOffset::from_valid_hms(0, 0, 0), decimals)
     }
 
-    // Times at an offset that is not refused. What is kept is the second at which the clock there
+    // Times at an offset that is not refused. What is cached is the second at which the clock there
     // shows the beginning of 1970.
     fn at(offset: UtcOffset, decimals: Decimals) -> LogTime
         requires { IsLogOffset offset }

@@ -1,4 +1,4 @@
-//! The text of a moment, from what is kept.
+//! The text of a moment, from what is cached.
 ghost use Rattle.std.specs.Prelude.{◌≡◌, ◌≤◌, ◌+◌, ◌++◌, IsAscii, codes, if◌then◌else◌, length, take};
 ghost use Rattle.time_digits.specs.Shown.{shown};
 ghost use Rattle.time_fmt.specs.Decimals.{decimals as decimals_of};

@@ -21,10 +21,11 @@ use time_digits::{ri8, ri32, ru8, ru16};
 
 /// Gives the components of a value, group by group.
 ///
-/// A method may keep in the state what it computed. It may be called where the value supplies its
-/// group and the state agrees with the value, and the state agrees afterwards. It still holds what it
-/// held. The group is real: a date of the calendar with its own components, a time of day in its ranges, an
-/// offset in its ranges and of one sign, a moment less than 26 hours outside the range of `Timestamp` at most.
+/// A method may cache in the state what it computed. It may be called where the value supplies its
+/// group and the state agrees with the value, and the state agrees afterwards. It still holds what
+/// it held. The group is real: a date of the calendar with its own components, a time of day in its
+/// ranges, an offset in its ranges and of one sign, a moment less than 26 hours outside the range
+/// of `Timestamp` at most.
 pub trait ComponentProvider {
     /// What earlier calls for the same value computed.
     type State: Kept;
@@ -78,7 +79,8 @@ pub trait ComponentProvider {
         ensures agrees { agrees state.new self.now }
         ensures kept { keeps state.old state.new };
 
-    /// The nanosecond of the second, 0 to 999,999,999. A moment has it at hand, so that nothing is kept.
+    /// The nanosecond of the second, 0 to 999,999,999. A moment has it at hand, so that nothing is
+    /// cached.
     fn nanosecond(&self, state: &mut Self::State) -> Nanoseconds
         requires supplied { IsTrue SUPPLIES_TIME }
         requires agrees { agrees state.old self.now }
@@ -104,7 +106,7 @@ pub trait ComponentProvider {
     ghost groups: { (value : Self)
         → Supplies SUPPLIES_DATE SUPPLIES_TIME SUPPLIES_OFFSET SUPPLIES_TIMESTAMP (facts value) };
 
-    // What the state keeps of the date leaves it in agreement with the value.
+    // What the state caches of the date leaves it in agreement with the value.
     ghost states: { (value : Self) → States Self.State.holds Self.State.grows keeps
         (λ state. agrees state value) (the_date (facts value)) };
 
@@ -257,7 +259,7 @@ pub trait ComponentProvider {
         ru8::within(self.supplied_time(state).as_hms_nano().1)
     }
 
-    /// The half of the day: before noon, or from noon on.
+    /// AM or PM: before noon, or from noon on.
     #[inline(always)]
     final fn period(&self, state: &mut Self::State) -> Period
         requires supplied { IsTrue SUPPLIES_TIME }

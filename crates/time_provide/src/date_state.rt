@@ -25,7 +25,7 @@ impl Kept for DateState {
 
     ghost grows = { λ old new date. Agrees new date × Keeps old new };
 
-    // The day of the month. Where it is absent, it is kept with the month.
+    // The day of the month. Where it is absent, it is cached with the month.
     fn kept_day(&mut self, date: Date) -> Day
         requires { Agrees self.old (date_facts date) }
         ensures value { result ≡ day_of date }
@@ -45,7 +45,7 @@ impl Kept for DateState {
         day
     }
 
-    // The month, which is kept.
+    // The month, which is cached.
     fn kept_month(&mut self, date: Date) -> Month
         requires { Agrees self.old (date_facts date) }
         ensures value { month_number result ≡ month_of date }
@@ -61,7 +61,7 @@ impl Kept for DateState {
         month
     }
 
-    // The week of the week calendar. Where it is absent, it is kept with its year.
+    // The week of the week calendar. Where it is absent, it is cached with its year.
     fn kept_iso_week(&mut self, date: Date) -> IsoWeekNumber
         requires { Agrees self.old (date_facts date) }
         ensures value { result ≡ iso_week_of date }
@@ -78,7 +78,7 @@ impl Kept for DateState {
         self.fill_week(date).1
     }
 
-    // The year of the week calendar. Where it is absent, it is kept with the week.
+    // The year of the week calendar. Where it is absent, it is cached with the week.
     fn kept_iso_year(&mut self, date: Date) -> Year
         requires { Agrees self.old (date_facts date) }
         ensures value { result ≡ iso_year_of date }

@@ -1,4 +1,4 @@
-//! What states keep of a date.
+//! What states cache of a date.
 ghost use Rattle.std.specs.Prelude.{◌≡◌, ◌≤◌, unsigned_abs};
 ghost use Rattle.std.specs.Int.{IsInRange};
 ghost use Rattle.time_below.specs.Calendar.{month_of, day_of, iso_year_of, iso_week_of};
@@ -10,7 +10,7 @@ use std::default::Default;
 use time_below::{Date, Month};
 use time_digits::{ri32, ru8};
 
-/// What is kept of one date between calls.
+/// What is cached of one date between calls.
 pub trait Kept: Default {
     /// It holds nothing but components of the date.
     ghost holds: { Self → DateFacts → Type 0 };
@@ -46,7 +46,7 @@ pub trait Kept: Default {
         ensures grows { grows self.old self.new (date_facts date) };
 }
 
-/// Nothing is kept.
+/// Nothing is cached.
 impl Kept for () {
     ghost holds = { λ _ _. Unit {0} };
 

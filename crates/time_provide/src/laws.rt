@@ -24,9 +24,9 @@ pub fn values_supply_their_components()
     ensures timestamp { ⟦<Timestamp as ComponentProvider>⟧.facts ≡ facts_of_timestamp }
 {}
 
-/// The state of a value that has a date agrees with it exactly if each entry is that component of the
-/// date, and that of a moment if its entries are those of the moment in UTC. A time of day and an
-/// offset keep nothing, so their states agree with every value.
+/// The state of a value that has a date agrees with it exactly if each entry is that component of
+/// the date, and that of a moment if its entries are those of the moment in UTC. A time of day and
+/// an offset cache nothing, so their states agree with every value.
 pub fn states_agree_with_their_values(state: DateState, of_moment: TimestampState)
     ensures date { (v : OrdinalDate)
         → ⟦<Date as ComponentProvider>⟧.agrees state v ↔ Agrees state (date_facts v) }

@@ -37,7 +37,7 @@ fn no_offset() -> UtcOffset
     UtcOffset::from_valid_hms(0, 0, 0)
 }
 
-/// A date keeps its costly components.
+/// A date caches its costly components.
 impl ComponentProvider for Date {
     type State = DateState;
 
@@ -101,7 +101,7 @@ impl ComponentProvider for Date {
     ghost fresh = { λ state value is_fresh. Prim.search rules };
 }
 
-/// A time of day keeps nothing.
+/// A time of day caches nothing.
 impl ComponentProvider for Time {
     type State = ();
 
@@ -161,7 +161,7 @@ impl ComponentProvider for Time {
     ghost fresh = { λ state value is_fresh. Prim.search rules };
 }
 
-/// An offset keeps nothing.
+/// An offset caches nothing.
 impl ComponentProvider for UtcOffset {
     type State = ();
 
@@ -223,7 +223,7 @@ impl ComponentProvider for UtcOffset {
     ghost fresh = { λ state value is_fresh. Prim.search rules };
 }
 
-/// A date with a time of day keeps what its date keeps.
+/// A date with a time of day caches what its date caches.
 impl ComponentProvider for PlainDateTime {
     type State = DateState;
 
@@ -400,7 +400,7 @@ impl ComponentProvider for OffsetDateTime {
     ghost fresh = { λ state value is_fresh. Prim.search rules };
 }
 
-/// A moment supplies all groups in UTC, and keeps its date and its time.
+/// A moment supplies all groups in UTC, and caches its date and its time.
 impl ComponentProvider for Timestamp {
     type State = TimestampState;
 

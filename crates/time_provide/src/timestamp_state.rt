@@ -8,7 +8,7 @@ use crate::kept::Kept;
 use crate::ranges::{Day, IsoWeekNumber, Year};
 use time_below::{Date, Month, Time, Timestamp};
 
-/// The date and the time of a moment in UTC, each perhaps absent, and what that date keeps.
+/// The date and the time of a moment in UTC, each perhaps absent, and what that date caches.
 #[derive(Debug, Default, Drop)]
 pub struct TimestampState {
     pub(crate) date: Option<Date>,
@@ -17,7 +17,7 @@ pub struct TimestampState {
 }
 
 impl TimestampState {
-    // The date in UTC, which is kept.
+    // The date in UTC, which is cached.
     pub(crate) fn date(&mut self, moment: Timestamp) -> Date
         requires { AgreesWithMoment self.old moment }
         ensures value { result ≡ utc_date moment.seconds }
@@ -33,7 +33,7 @@ impl TimestampState {
         date
     }
 
-    // The time of day in UTC, which is kept.
+    // The time of day in UTC, which is cached.
     pub(crate) fn time(&mut self, moment: Timestamp) -> Time
         requires { AgreesWithMoment self.old moment }
         ensures value { result ≡ utc_time moment }

@@ -52,8 +52,8 @@ pub fn serialize<T: Moment, S: Serializer>(moment: &T, out: &mut S) -> Result<()
 /// Reads the moment from a text that spells it by the grammar of RFC 3339, section 5.6, as [`read`]
 /// does. A text is copied only where it has an escape.
 ///
-/// Any other text is an error of the format, whose message says at which byte it is none and what
-/// could have stood there.
+/// Any other text is an error of the format, whose message says at which byte it is invalid and
+/// what could have stood there.
 pub fn deserialize<'de, T: Moment, F: Format>(
     alloc: Global,
     from: &mut Deserializer<'de, '_, F>,

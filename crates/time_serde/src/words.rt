@@ -13,7 +13,7 @@ pub(crate) fn unwritten(component: OutOfRange) -> InlineText<WORDS> {
     InlineText::of(Format::InvalidComponent(component.name()))
 }
 
-/// The words of `time_read` for the place at which a text is none of RFC 3339.
+/// The words of `time_read` for the position at which a text is not one of RFC 3339.
 pub(crate) fn unread(place: NotRead) -> InlineText<WORDS> {
     InlineText::of(place)
 }

@@ -12,7 +12,8 @@ use std::marker::Brand;
 use time_below::format_description::Node;
 use time_provide::ComponentProvider;
 
-/// Writes the text of the nodes to the start of a buffer that has room for their width. Allocates nothing.
+/// Writes the text of the nodes to the start of a buffer that has room for their maximum length.
+/// Allocates nothing.
 ///
 /// Returns the number of bytes, or the refusal that ends the text. After the text, or what precedes its
 /// refusal, the buffer is as it was.

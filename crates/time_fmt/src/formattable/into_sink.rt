@@ -11,7 +11,8 @@ use crate::sink::Sink;
 use time_below::format_description::Node;
 use time_provide::ComponentProvider;
 
-/// Appends the text of the nodes in order to a sink with room for their width. Allocates nothing.
+/// Appends the text of the nodes in order to a sink with spare capacity for their maximum length.
+/// Allocates nothing.
 ///
 /// Returns the refusal that ends the text, if there is one. The bytes before it stay.
 #[inline]

@@ -1,4 +1,4 @@
-//! Descriptions that are known when they are compiled: a text, the choices of a component, and a pair of
+//! Descriptions that are known at compile time: a text, the choices of a component, and a pair of
 //! descriptions.
 ghost use Rattle.std.specs.Char.{is_ascii};
 ghost use Rattle.std.specs.List.{list_all};

@@ -92,8 +92,8 @@ impl Formattable for FormatDescriptionV3<'_> {
     }
 }
 
-/// Appends the text of the description. The output needs spare capacity for its width. Allocates
-/// nothing.
+/// Appends the text of the description. The output needs spare capacity for its maximum length.
+/// Allocates nothing.
 ///
 /// Returns the number of bytes appended, or the refusal that ends the text.
 #[inline]

@@ -13,8 +13,8 @@ use crate::formattable::{Formattable, Literal};
 use crate::metadata::ComputeMetadata;
 use crate::modifier::Modifier;
 
-/// A literal gives its bytes and no refusal, has their number as its width, and the guarantee where all
-/// of them are ASCII.
+/// A literal gives its bytes and no refusal, has their number as its maximum length, and the
+/// guarantee where all of them are ASCII.
 pub fn literal_means_its_bytes<const N: usize>(text: Literal<N>)
     ensures outcome { (f : Facts)
         → ⟦<Literal<N> as Formattable>⟧.outcome_of text.entry f ≡ done text.entry.0 }
@@ -23,7 +23,7 @@ pub fn literal_means_its_bytes<const N: usize>(text: Literal<N>)
         ≡ list_all is_ascii text.entry.0 }
 {}
 
-/// The choices of a component have its outcome and its width, and always the guarantee.
+/// The choices of a component have its outcome and its maximum length, and always the guarantee.
 pub fn choices_mean_their_component<M: Modifier>(part: M)
     ensures outcome { (f : Facts)
         → ⟦<M as Formattable>⟧.outcome_of part f ≡ component_outcome (M.component_of part) f }
@@ -31,7 +31,8 @@ pub fn choices_mean_their_component<M: Modifier>(part: M)
     ensures guarantee { ⟦<M as ComputeMetadata>⟧.is_guaranteed part ≡ true }
 {}
 
-/// A pair has the first outcome followed by the second, both widths, and the guarantee where both have it.
+/// A pair has the first outcome followed by the second, both maximum lengths, and the guarantee
+/// where both have it.
 pub fn pair_means_one_after_the_other<A: Formattable + Copy, B: Formattable + Copy>(pair: (A, B))
     ensures outcome { (f : Facts)
         → ⟦<(A, B) as Formattable>⟧.outcome_of pair f
@@ -42,8 +43,8 @@ pub fn pair_means_one_after_the_other<A: Formattable + Copy, B: Formattable + Co
         ≡ (A.is_guaranteed pair.0 && B.is_guaranteed pair.1) }
 {}
 
-/// A pair of descriptions that mean lists means the two lists in one: its outcome, its width and its
-/// guarantee are those of that list.
+/// A pair of descriptions that mean lists means the two lists in one: its outcome, its maximum
+/// length and its guarantee are those of that list.
 pub fn pair_means_both_lists()
     ensures { PairMeansBothLists }
 {}

@@ -1,4 +1,4 @@
-//! Centuries and the last two digits of a year: their texts, widths and writers.
+//! Centuries and the last two digits of a year: their texts, maximum lengths and writers.
 //!
 //! The calendar year and the year of the week calendar have the same texts.
 #![tactic(auto, using(crate::proofs::TextLemmas::signed_lengths))]

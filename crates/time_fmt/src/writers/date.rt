@@ -1,4 +1,4 @@
-//! The day, the month and the day of the year: their texts, widths and writers.
+//! The day, the month and the day of the year: their texts, maximum lengths and writers.
 #![tactic(auto, using(crate::proofs::TextLemmas::text_lengths))]
 
 ghost use Rattle.std.specs.Prelude.{◌≡◌, length, take};

@@ -1,4 +1,4 @@
-//! The components of an offset from UTC: their texts, widths and writers.
+//! The components of an offset from UTC: their texts, maximum lengths and writers.
 #![tactic(auto, using(crate::proofs::TextLemmas::text_lengths))]
 
 ghost use Rattle.std.specs.Prelude.{length, unsigned_abs};

@@ -1,4 +1,4 @@
-//! The decimals of the second: their texts, width and writer.
+//! The decimals of the second: their texts, maximum length and writer.
 ghost use Rattle.std.specs.Prelude.{◌≡◌, ◌<◌, length, take};
 ghost use Rattle.time_below.specs.declared.format_description.component.Component.TheVariants as component;
 ghost use Rattle.time_below.specs.declared.format_description.modifier.SubsecondDigits.TheVariants as SubsecondDigits;

@@ -1,4 +1,4 @@
-//! The hour, the minute, the second and the half of the day: their texts, widths and writers.
+//! The hour, the minute, the second, and AM or PM: their texts, maximum lengths and writers.
 #![tactic(auto, using(crate::proofs::TextLemmas::text_lengths))]
 
 ghost use Rattle.std.specs.Prelude.{◌≡◌, length};

@@ -1,4 +1,5 @@
-//! The seconds and milliseconds since 1970-01-01T00:00:00 UTC: their texts, widths and writers.
+//! The seconds and milliseconds since 1970-01-01T00:00:00 UTC: their texts, maximum lengths and
+//! writers.
 #![tactic(auto, using(crate::proofs::TextLemmas::signed_lengths))]
 
 ghost use Rattle.std.specs.Prelude.{length};

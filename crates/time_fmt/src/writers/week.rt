@@ -1,4 +1,4 @@
-//! The weekday and the weeks of the year: their texts, widths and writers.
+//! The weekday and the weeks of the year: their texts, maximum lengths and writers.
 #![tactic(auto, using(crate::proofs::TextLemmas::text_lengths))]
 
 ghost use Rattle.std.specs.Prelude.{◌≡◌, ◌≤◌, length, decimal};

@@ -1,4 +1,4 @@
-//! Whole years: their texts, widths and writers.
+//! Whole years: their texts, maximum lengths and writers.
 //!
 //! The calendar year and the year of the week calendar have the same texts.
 #![tactic(auto, using(crate::proofs::TextLemmas::signed_lengths))]

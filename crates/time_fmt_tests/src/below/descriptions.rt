@@ -1,4 +1,4 @@
-//! Components and items, with their widths.
+//! Components and items, with their maximum lengths.
 use crate::items::{Tree, one};
 use crate::texts::{DAY, assert_same, assert_that};
 use std::alloc::{AllocError, Global};

@@ -1,5 +1,6 @@
-//! The rows of `docs/COMPONENTS.md`: each component by the choices of its row, with its example and width. Tests
-//! of other modules go through the same rows. Behind them stands each constant of `time_fmt::parts` as a part.
+//! The rows of `docs/COMPONENTS.md`: each component by the choices of its row, with its example and
+//! maximum length. Tests of other modules go through the same rows. Behind them stands each
+//! constant of `time_fmt::parts` as a part.
 use crate::fmt::texts_by_parts::assert_part;
 use crate::texts::assert_components;
 use time_below::format_description::modifier::Padding::{Space, Zero};
@@ -11,7 +12,7 @@ use time_below::format_description::{Component, modifier};
 use time_compare::{Value, WEDNESDAY};
 use time_fmt::parts::*;
 
-/// Rows of a component by its choices, its text and its width.
+/// Rows of a component by its choices, its text and its maximum length.
 macro_rules! components {
     ($($name:ident { $($choice:ident: $chosen:expr),* } $text:literal $width:literal,)+) => {
         &[$((Component::$name(modifier::$name { $($choice: $chosen),* }), $text, $width)),+]

@@ -1,4 +1,4 @@
-//! What each component keeps in the state of a value, and its text by the third version.
+//! What each component caches in the state of a value, and its text by the third version.
 use crate::fmt::components_table::{COMPONENTS, DEPRECATED};
 use crate::provide::states::{Kept, state_with};
 use crate::texts::{assert_same, assert_that, some};
@@ -10,8 +10,8 @@ use time_below::format_description::{
 use time_compare::{append_with, wednesday};
 use time_fmt::{ComponentProvider, Formattable};
 
-/// What a component keeps that is not deprecated. The number of a month is computed with the day, and both
-/// are kept.
+/// What a component caches that is not deprecated. The number of a month is computed with the day,
+/// and both are cached.
 fn what_is_kept(component: Component) -> Kept {
     match component {
         Component::Day(_) | Component::MonthNumerical(_) => Kept::Day,
@@ -37,7 +37,7 @@ fn write<D: Formattable, V: ComponentProvider>(
     (is_written, state)
 }
 
-/// Appends the text of the Wednesday, and compares what is kept.
+/// Appends the text of the Wednesday, and compares what is cached.
 fn appended<D: Formattable>(rt: &impl Abort, alloc: Global, item: &D, kept: Kept) -> Vec<u8> {
     let (value, mut output) = (some(rt, wednesday(0)), Vec::new(alloc));
     let (is_written, state) = write(&mut output, item, &value);
@@ -52,7 +52,7 @@ fn appended_v3(rt: &impl Abort, alloc: Global, component: Component, kept: Kept)
     appended(rt, alloc, &item, kept)
 }
 
-/// The component is written, this is kept, and the third version writes the same.
+/// The component is written, this is cached, and the third version writes the same.
 fn assert_kept(rt: &impl Abort, alloc: Global, component: Component, kept: Kept) {
     let written = appended(rt, alloc, &BorrowedFormatItem::Component(component), kept);
     let third = appended_v3(rt, alloc, component, kept);

@@ -10,7 +10,8 @@ use time_compare::{WEDNESDAY, all_that_is_left, append_by, measured, refusal_nam
 use time_fmt::{BorrowedItems, Formattable, OwnedItems};
 use time_provide::DateState;
 
-/// The width of each description: twice the smallest piece that is taken, so that nothing of it is left.
+/// The maximum length of each description: twice the smallest piece that is taken, so that nothing
+/// of it is left.
 const WIDTH: usize = 8_388_608;
 
 /// 16 GiB down to 4 MiB.
@@ -24,7 +25,8 @@ const SIZES: &[usize] = &[
     1 << 22,
 ];
 
-/// Appends the text where no block as large as the width is left: neither that nor the text as its own can be made.
+/// Appends the text where no block as large as the maximum length is left: neither that nor the
+/// text as its own can be made.
 fn assert_no_memory<D: Formattable>(
     rt: &impl Abort,
     alloc: Global,

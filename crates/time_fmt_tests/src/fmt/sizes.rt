@@ -145,7 +145,7 @@ pub(super) fn assert_levels<K, T: Tree<K>>(
 /// measured 2^64 times.
 const LEVELS: usize = 64;
 
-/// The width of the innermost item, and of three more in each list.
+/// The maximum length of the innermost item, and of three more in each list.
 const WIDTH: usize = 2 * (3 * LEVELS + 1);
 
 /// A list of four items, of which this is the last.

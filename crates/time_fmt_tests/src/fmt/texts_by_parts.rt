@@ -53,7 +53,8 @@ fn assert_as_list<P: Formattable>(
     assert_same(rt, answer.unwrap_or(0), wanted.unwrap_or(0));
 }
 
-/// Compares the parts with the list, of every value; and their text and width, of the example.
+/// Compares the parts with the list, of every value; and their text and maximum length, of the
+/// example.
 fn assert_list<P: Formattable>(
     rt: &impl Abort,
     alloc: Global,

@@ -30,7 +30,7 @@ const TIMES: Rows = rows! {
     Time(9, 55, 6, 0) => End { trailing_input: TrailingInput::Discard } "",
 };
 
-/// Rows of a number of decimals, their text and their width.
+/// Rows of a number of decimals, their text and their maximum length.
 macro_rules! decimals {
     ($($digits:ident $text:literal $width:literal,)+) => {
         &[$((

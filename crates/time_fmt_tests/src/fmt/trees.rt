@@ -232,7 +232,7 @@ fn engines_write_where_there_is_room(rt: HostRuntime) -> Result<(), Fail> {
     Ok(())
 }
 
-/// Metadata of this width, of a text.
+/// Metadata of this maximum length, of a text.
 fn width(max_bytes_needed: usize) -> Metadata {
     Metadata {
         max_bytes_needed,

@@ -1,4 +1,4 @@
-//! Each component, written into exactly as much spare capacity as its width.
+//! Each component, written into exactly as much spare capacity as its maximum length.
 use crate::fmt::components_table::{COMPONENTS, DEPRECATED};
 use crate::texts::{assert_same, assert_that, some};
 use std::alloc::Global;
@@ -9,8 +9,8 @@ use time_compare::moment;
 use time_fmt::component_write_into;
 use time_provide::DateState;
 
-/// Writes the component of the value into exactly as much spare capacity as its width, and returns
-/// the number of its bytes; a refusal has none.
+/// Writes the component of the value into exactly as much spare capacity as its maximum length, and
+/// returns the number of its bytes; a refusal has none.
 fn written(rt: &impl Abort, alloc: Global, component: &Component, value: &OffsetDateTime) -> usize {
     let width = component_width(component);
     let Ok(mut output) = Vec::with_capacity(alloc, width) else {
@@ -35,7 +35,7 @@ fn longest(rt: &impl Abort, alloc: Global, component: &Component) -> usize {
     first.max(written(rt, alloc, component, &standard))
 }
 
-/// Each component of the rows fills its width.
+/// Each component of the rows fills its maximum length.
 fn assert_filled(rt: &impl Abort, alloc: Global, rows: &[(Component, &str, usize)]) {
     for (component, _, _) in rows {
         assert_same(
@@ -46,7 +46,7 @@ fn assert_filled(rt: &impl Abort, alloc: Global, rows: &[(Component, &str, usize
     }
 }
 
-/// Each component of the rows is within its width.
+/// Each component of the rows is within its maximum length.
 fn assert_within(rt: &impl Abort, alloc: Global, rows: &[(Component, &str, usize)]) {
     for (component, _, _) in rows {
         assert_that(

@@ -36,7 +36,7 @@ enum Method {
     UnixTimestampMilliseconds,
 }
 
-/// What a state of a date keeps after one method.
+/// What a state of a date caches after one method.
 #[derive(Clone, Copy)]
 pub(crate) enum Kept {
     Nothing,
@@ -54,7 +54,8 @@ const DATE: [bool; 2] = [true, false];
 
 const TIME: [bool; 2] = [false, true];
 
-/// A method, what a fresh state of a date keeps after it, and what one of a moment keeps beside it.
+/// A method, what a fresh state of a date caches after it, and what one of a moment caches beside
+/// it.
 type Row = (Method, Kept, [bool; 2]);
 
 const METHODS: &[Row] = &[
@@ -137,8 +138,8 @@ fn call_of_timestamp<V: ComponentProvider>(value: &V, state: &mut V::State, meth
     }
 }
 
-/// Calls the method where the value supplies its group. Where it does not, a clause of the method says that
-/// the state is kept.
+/// Calls the method where the value supplies its group. Where it does not, a clause of the method
+/// says that the state is kept.
 fn call<V: ComponentProvider>(value: &V, state: &mut V::State, method: Method)
     requires { V.agrees state.old value.now }
     ensures { V.agrees state.new value.now }
@@ -173,7 +174,7 @@ fn state_after<V: ComponentProvider>(
     state
 }
 
-/// Has the state keep this of the value.
+/// Has the state cache this of the value.
 fn keep<V: ComponentProvider>(value: &V, state: &mut V::State, kept: Kept)
     requires { V.agrees state.old value.now }
     ensures { V.agrees state.new value.now }
@@ -186,7 +187,7 @@ fn keep<V: ComponentProvider>(value: &V, state: &mut V::State, kept: Kept)
     }
 }
 
-/// The state of the date that keeps all of these.
+/// The state of the date that caches all of these.
 pub(crate) fn state_with(date: &Date, first: Kept, second: Kept, third: Kept) -> DateState {
     let mut state = DateState::default();
     keep(date, &mut state, first);

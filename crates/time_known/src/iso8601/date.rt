@@ -28,7 +28,7 @@ use time_provide::ComponentProvider;
 use time_provide::ranges::Year;
 
 /// Appends the date, whether or not the configuration formats dates. The output needs spare
-/// capacity for its width. Allocates nothing.
+/// capacity for its maximum length. Allocates nothing.
 ///
 /// Returns the number of bytes appended, or the refusal of a year that four digits do not hold,
 /// before any byte of the date.

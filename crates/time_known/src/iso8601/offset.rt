@@ -19,8 +19,8 @@ use time_fmt::{Format, Sink};
 use time_provide::ComponentProvider;
 
 /// Appends the offset, whether or not the configuration formats offsets: `Z` for UTC if it formats
-/// a time, else the difference from UTC. The output needs spare capacity for its width. Allocates
-/// nothing.
+/// a time, else the difference from UTC. The output needs spare capacity for its maximum length.
+/// Allocates nothing.
 ///
 /// Returns the number of bytes appended, or the refusal of a second before any byte of the offset,
 /// or of a minute that the precision leaves out, after the hour.

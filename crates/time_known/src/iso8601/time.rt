@@ -31,7 +31,7 @@ const NANOSECONDS_PER_MINUTE: u64 = 60_000_000_000;
 const NANOSECONDS_PER_HOUR: u64 = 3_600_000_000_000;
 
 /// Appends the time, whether or not the configuration formats times. The output needs spare
-/// capacity for its width. Allocates nothing and refuses nothing.
+/// capacity for its maximum length. Allocates nothing and refuses nothing.
 ///
 /// Returns the number of bytes appended.
 pub fn format_time<V: ComponentProvider>(
