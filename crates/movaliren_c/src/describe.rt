@@ -1,4 +1,6 @@
 //! Descriptions from a text, in items or at once.
+//!
+//! `cold` and `inline(never)` keep long or rare bodies out of their callers.
 ghost use Rattle.std.specs.Prelude.{◌≡◌, ◌≤◌, IfOk, length};
 ghost use Rattle.movaliren_c.specs.Answer.{Answers, IsText};
 ghost use Rattle.movaliren_c.specs.Described.{Leaves, bracket_items, few, strftime_items};

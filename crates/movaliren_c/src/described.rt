@@ -1,4 +1,7 @@
 //! Descriptions that cross as data, whose texts allocate nothing.
+//!
+//! Without `inline(always)` the compiler leaves calls of the functions that have it. `cold` and
+//! `inline(never)` keep long or rare bodies out of their callers.
 ghost use Rattle.std.specs.Prelude.{◌≡◌, ◌≤◌, ◌<◌, ◌+◌, ◌∷◌, IfNone, IfOk, IfSome, IsFalse, IsTrue, MatchOption, Ok, [], length, slice_range};
 ghost use Rattle.movaliren_c.specs.Answer.{Answers};
 ghost use Rattle.movaliren_c.specs.Items.{EndsFirst, EndsItem, EndsRun, IsDescribed, IsPut, IsShown, PutsOrLoses, as_one, item_tree, part_tree, reason_before, trees_of, width_answer};
@@ -210,7 +213,6 @@ pub fn write_long<B: Before, V: FirstState>(
 
 /// Writes the text of the items to the start of a buffer, or as much of it as fits, by the loop that is chosen
 /// for them. Returns the number of bytes of the whole text, up to the greatest `usize`.
-#[inline(always)]
 fn write_chosen<B: Before, V: FirstState>(
     items: &[Item],
     texts: &[u8],
@@ -246,7 +248,6 @@ fn write_items<B: Before, V: FirstState, const HAS_RUNS: bool>(
 
 /// Writes the texts of the items into a sink, but for those that do not fit. Returns their number
 /// of bytes, up to the greatest `usize`.
-#[inline(always)]
 fn put_items<S: Sink, V: FirstState, const HAS_RUNS: bool>(
     items: &[Item],
     texts: &[u8],
@@ -413,7 +414,6 @@ fn write_apart<M: Modifier, S: Sink, V: ComponentProvider>(
 
 /// Writes a literal if it and two bytes fit, or else nothing. Most have one or two bytes, for which one test tells that
 /// there is room.
-#[inline(always)]
 fn write_usual_text<S: Sink>(
     item: &Item,
     texts: &[u8],
@@ -446,7 +446,6 @@ fn write_usual_text<S: Sink>(
 }
 
 /// The bytes at a place and behind it, if there is one behind it.
-#[inline(always)]
 fn pair_at(texts: &[u8], start: usize) -> Option<(u8, u8)>
     requires { start < length texts.now }
     ensures there { IfSome result (λ pair. start + 2 ≤ length texts.now) }
@@ -490,7 +489,6 @@ fn write_item<S: Sink, V: ComponentProvider>(
 }
 
 /// Writes any part if its text fits, and returns the number of bytes that are lost if it does not.
-#[inline(always)]
 #[tactic(auto, using(crate::proofs::DescribedLemmas::component_fits))]
 fn write_any<S: Sink, V: ComponentProvider>(
     part: Part<'_>,
@@ -545,7 +543,6 @@ fn width(items: &[Item], texts: &[u8]) -> Result<usize, Reason>
     Ok(GREATEST_WIDTH - left)
 }
 
-#[inline(always)]
 fn part_width(part: Part<'_>) -> usize
     ensures { result ≡ tree_width (part_tree part.entry) }
 {

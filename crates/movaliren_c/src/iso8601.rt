@@ -1,4 +1,6 @@
 //! ISO 8601-1:2019, by its default configuration and by any other.
+//!
+//! `inline(never)` keeps long or rare bodies out of their callers.
 ghost use Rattle.std.specs.Prelude.{◌≡◌, ◌≢◌, ◌≤◌, IfErr, IfOk, Ok, length};
 ghost use Rattle.movaliren_c.specs.Answer.{IsAnswer, IsRefusedFor, IsText, IsWritten, gives};
 ghost use Rattle.movaliren_c.specs.Batch.{IsBatch};
@@ -49,7 +51,6 @@ impl Format for Iso8601 {
 
     ghost outcome = { λ _. iso8601_of default_choices };
 
-    #[inline(always)]
     fn text(self, value: &OffsetDateTime) -> Result<SeparatedText, Reason> {
         let usual = Usual {
             has_separators: true,
@@ -61,7 +62,6 @@ impl Format for Iso8601 {
 }
 
 /// The text of the value by such choices with separators, or the reason why it has none.
-#[inline(always)]
 fn separated_text(usual: &Usual, value: &OffsetDateTime) -> Result<SeparatedText, Reason>
     ensures chosen { IfOk result (λ t. t.usual ≡ usual.now) }
     ensures text { IfOk result (λ t. iso8601_of (separated usual.now) value.now
@@ -249,7 +249,6 @@ pub extern "C" fn movaliren_iso8601_with_utc_batch(
 impl<S: Source> Iso8601By<S> {
     /// Puts the text of the value by such choices with separators at the start of the buffer. Each
     /// source has one call of a function of its own, so that the compiler can inline it.
-    #[inline]
     fn put_usual(
         &self,
         usual: &Usual,
@@ -292,7 +291,6 @@ fn write_parts(config: &Config, value: &OffsetDateTime, room: &mut [u8]) -> Resu
 }
 
 /// Puts the parts at the start of a buffer that holds them, up to what is refused.
-#[inline(always)]
 fn put_at_once<B: Before>(
     config: &Config,
     value: &OffsetDateTime,

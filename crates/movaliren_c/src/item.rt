@@ -1,4 +1,6 @@
 //! The items of a description, as C passes them.
+//!
+//! Without `inline(always)` the compiler leaves calls of the functions that have it.
 ghost use Rattle.std.specs.Prelude.{◌≡◌, Err, IfNone, IfSome, Ok};
 ghost use Rattle.movaliren_c.specs.declared.reason.Reason.TheVariants.{BadItem};
 ghost use Rattle.time_below.specs.Tree.{byte_literal};
@@ -181,7 +183,6 @@ fn component_of(item: &Item) -> Result<Component, Reason>
 }
 
 /// The bytes that an item of the kind of texts names, if they are there.
-#[inline(always)]
 pub fn text_of<'a>(item: &Item, texts: &'a [u8]) -> Option<&'a [u8]>
     requires { item.now.kind ≡ 255 }
     ensures there { IfSome result (λ text. item_tree texts.now item.now ≡ Ok (byte_literal text.now)) }

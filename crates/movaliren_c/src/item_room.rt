@@ -1,4 +1,6 @@
 //! Items at the start of an array.
+//!
+//! Without `inline(always)` the compiler leaves calls of the functions that have it.
 ghost use Rattle.std.specs.Prelude.{◌≡◌, ◌+◌, ◌<◌, ◌≤◌, ◌∷◌, [], List, ℕ, Option, None, length, min, nat_le, slice_set};
 ghost use Rattle.movaliren_c.specs.Described.{DescribeNothing, HoldsIn, HoldsListsIn, IsItem};
 ghost use Rattle.movaliren_c.specs.Flat.{closed_at, flat, or_at};
@@ -63,7 +65,6 @@ impl<'a> ItemRoom<'a> {
     }
 
     /// Adds an item behind all others, unless it is left out.
-    #[inline(always)]
     fn put(&mut self, item: Item)
         ensures put { (text : List ℕ) (fs : List Frame) (tree : Tree) → IsItem text item tree → flat tree ≡ tree ∷ []
             → Adds (λ room all. HoldsIn text fs room.array.now room.count room.hidden_at all) self.old self.new (tree ∷ []) }
@@ -100,7 +101,6 @@ fn closed_at(hidden_at: Option<usize>, depth: usize) -> Option<usize>
 }
 
 /// One item more than so many, up to the greatest `usize`. Where there is room for it, no sum is tested.
-#[inline(always)]
 fn one_more(count: usize, room: usize) -> usize
     ensures { result ≡ min (count + 1) 0xffff_ffff_ffff_ffff }
 {
@@ -112,7 +112,6 @@ fn one_more(count: usize, room: usize) -> usize
 }
 
 /// Stores an item at a place of the array, if it has that place.
-#[inline(always)]
 fn store(array: &mut [Item], at: usize, item: Item)
     ensures stored { at < length array.old → array.new ≡ slice_set array.old at item }
     ensures len { length array.new ≡ length array.old }
@@ -140,13 +139,11 @@ impl Items for ItemRoom<'_> {
         Ok(())
     }
 
-    #[inline(always)]
     fn put_byte(&mut self, byte: u8) -> Result<(), AllocError> {
         self.put(byte_item(byte));
         Ok(())
     }
 
-    #[inline(always)]
     fn put_literal(&mut self, text: &[u8], start: usize, len: usize) -> Result<(), AllocError> {
         self.put(text_item(text, start, len));
         Ok(())

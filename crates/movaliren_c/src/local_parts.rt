@@ -1,4 +1,6 @@
 //! Local dates and times whose month and day are known before a description asks for them.
+//!
+//! Without `inline(always)` the compiler leaves calls of the functions that have it.
 ghost use Rattle.std.specs.Prelude.{◌≡◌, true};
 ghost use Rattle.std.specs.Int.{IsInRange};
 ghost use Rattle.std.proofs.Common.{rules};
@@ -50,7 +52,6 @@ impl Model for LocalParts {
 
 impl LocalParts {
     /// A value whose month and day are not known.
-    #[inline(always)]
     pub fn new(value: OffsetDateTime) -> LocalParts
         ensures { result ≡ value }
     {
@@ -58,7 +59,6 @@ impl LocalParts {
     }
 
     /// A value whose parts are known.
-    #[inline(always)]
     fn by_parts(value: OffsetDateTime, parts: &Moment) -> LocalParts
         requires time { value.time ≡ time_of_parts parts.now }
         requires offset { value.offset ≡ offset_of_parts parts.now }
@@ -74,7 +74,6 @@ impl LocalParts {
     }
 
     /// The time of day.
-    #[inline(always)]
     fn time(&self) -> Time
         ensures { result ≡ self.now.time }
     {
@@ -83,7 +82,6 @@ impl LocalParts {
     }
 
     /// The offset.
-    #[inline(always)]
     fn offset(&self) -> UtcOffset
         ensures { result ≡ self.now.offset }
     {
@@ -96,7 +94,6 @@ impl LocalParts {
     }
 
     /// The same value by its three parts.
-    #[inline(always)]
     fn value(&self) -> OffsetDateTime
         ensures { result ≡ self.now }
     {
@@ -104,7 +101,6 @@ impl LocalParts {
     }
 
     /// The month and the day, if they are known.
-    #[inline(always)]
     fn known(&self) -> Option<(Month, Day)>
         ensures { AreHeld result (date_facts self.now.date) }
     {
@@ -125,7 +121,6 @@ pub fn local_parts_of(moment: &Moment) -> Result<LocalParts, Reason>
 }
 
 /// The local date and time this long after 1970, at an offset of so many seconds east of UTC.
-#[inline(always)]
 pub fn local_parts_at(seconds: i64, nanosecond: u32, east: i64) -> Result<LocalParts, Reason>
     ensures { result ≡ local_value seconds nanosecond east }
 {
@@ -144,7 +139,6 @@ pub struct LocalState {
 
 impl LocalState {
     /// The month and the day, which are kept.
-    #[inline(always)]
     fn month_and_day(&mut self, date: Date) -> (Month, Day)
         requires { Holds self.old (date_facts date) }
         ensures month { month_number result.0 ≡ month_of date }
@@ -213,33 +207,28 @@ impl ComponentProvider for LocalParts {
 
     const SUPPLIES_TIMESTAMP: bool = true;
 
-    #[inline(always)]
     fn supplied_date(&self, _state: &mut LocalState) -> Date {
         let date = self.date;
         let _in_range = date.ordinal();
         date
     }
 
-    #[inline(always)]
     fn supplied_time(&self, _state: &mut LocalState) -> Time {
         let time = self.time();
         let _in_range = time.as_hms_nano();
         time
     }
 
-    #[inline(always)]
     fn nanosecond(&self, _state: &mut LocalState) -> Nanoseconds {
         ru32::within(self.time().as_hms_nano().3)
     }
 
-    #[inline(always)]
     fn supplied_offset(&self) -> UtcOffset {
         let offset = self.offset();
         let _in_range = offset.as_hms();
         offset
     }
 
-    #[inline(always)]
     fn supplied_moment(&self) -> (i64, u32) {
         (self.value().unix_timestamp(), self.time().as_hms_nano().3)
     }
@@ -252,7 +241,6 @@ impl ComponentProvider for LocalParts {
 }
 
 impl FirstState for LocalParts {
-    #[inline(always)]
     fn first_state(&self) -> LocalState {
         LocalState {
             known: self.known(),
@@ -262,14 +250,12 @@ impl FirstState for LocalParts {
 }
 
 impl FirstState for Timestamp {
-    #[inline(always)]
     fn first_state(&self) -> TimestampState {
         Default::default()
     }
 }
 
 impl FirstState for Date {
-    #[inline(always)]
     fn first_state(&self) -> DateState {
         Default::default()
     }

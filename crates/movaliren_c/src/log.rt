@@ -1,4 +1,6 @@
 //! Times of log lines: what the texts of one second have in common is kept by the caller.
+//!
+//! `cold` and `inline(never)` keep long or rare bodies out of their callers.
 ghost use Rattle.std.specs.Prelude.{◌≡◌, ◌<◌, ◌≤◌, ◌+◌, ◌++◌, ◌⊎◌, IfOk, IsTrue, codes, drop, length, take};
 ghost use Rattle.movaliren_c.specs.Answer.{IsAnswer, IsWritten};
 ghost use Rattle.movaliren_c.specs.Chosen.{iso8601_by};
@@ -85,7 +87,6 @@ fn log_anew(
 }
 
 /// Whether this second at this offset is kept.
-#[inline(always)]
 fn is_kept(kept: &LogCache, seconds: i64, offset: i64) -> bool
     ensures second { IsTrue result → kept.now.second ≡ seconds }
     ensures offset { IsTrue result → kept.now.offset ≡ offset }
@@ -96,7 +97,6 @@ fn is_kept(kept: &LogCache, seconds: i64, offset: i64) -> bool
 }
 
 /// Whether the nanosecond is one, and the decimals are three, six or nine.
-#[inline(always)]
 fn is_usual(nanosecond: u32, decimals: u8) -> bool
     ensures nanosecond { IsTrue result → nanosecond < 1_000_000_000 }
     ensures decimals { IsTrue result → decimals ≡ 3 ⊎ decimals ≡ 6 ⊎ decimals ≡ 9 }
@@ -121,7 +121,6 @@ fn log_config(decimals: u8) -> Iso8601Config
 }
 
 /// Writes what is kept, with so many decimals of the nanosecond within it, if they fit.
-#[inline(always)]
 fn write_kept(
     kept: &LogCache,
     nanosecond: Nanoseconds,
@@ -147,7 +146,6 @@ fn write_kept(
 }
 
 /// Overwrites the bytes of the buffer from a place on by the first three, six or nine decimals of a second.
-#[inline(always)]
 fn write_decimals(room: &mut [u8], at: usize, nanosecond: Nanoseconds, decimals: u8)
     requires few { decimals ≡ 3 ⊎ decimals ≡ 6 ⊎ decimals ≡ 9 }
     requires room { at + decimals ≤ length room.old }
@@ -159,7 +157,6 @@ fn write_decimals(room: &mut [u8], at: usize, nanosecond: Nanoseconds, decimals:
 }
 
 /// Puts the first three, six or nine decimals of a second at the start of a buffer.
-#[inline(always)]
 #[tactic(auto, using(time_fmt::proofs::DecimalLemmas::three_of_second, time_fmt::proofs::DecimalLemmas::six_of_second, time_fmt::proofs::RoomLemmas::room_written))]
 fn put_decimals<B: Before>(room: &mut [u8], nanosecond: Nanoseconds, decimals: u8)
     requires before { room.old ≡ B.before }
@@ -178,7 +175,6 @@ fn put_decimals<B: Before>(room: &mut [u8], nanosecond: Nanoseconds, decimals: u
 
 /// Overwrites the bytes of the buffer from a place on by an offset. The compiler knows
 /// its usual lengths, 1 and 6.
-#[inline(always)]
 #[tactic(auto, using(std::proofs::lemmas::List::take_all))]
 fn write_zone(room: &mut [u8], at: usize, zone: &[u8])
     requires { at + length zone.now ≤ length room.old }

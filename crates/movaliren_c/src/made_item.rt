@@ -1,4 +1,6 @@
 //! The items of components and literals.
+//!
+//! Without `inline(always)` the compiler leaves calls of the functions that have it.
 ghost use Rattle.std.specs.Prelude.{◌≡◌, ◌≤◌, ◌+◌, ◌∷◌, [], ℕ, List, MatchOption, Ok, false, length, slice_range};
 ghost use Rattle.movaliren_c.specs.Described.{IsItem, IsItemOf, is_shown};
 ghost use Rattle.movaliren_c.specs.Items.{component_at, component_of, digits_at, padding_at};
@@ -26,7 +28,6 @@ pub const NO_ITEM: Item = Item {
     len: 0,
 };
 
-#[inline(always)]
 fn padding_number(padding: Padding) -> u8
     ensures { padding_at result ≡ Ok padding }
 {
@@ -37,7 +38,6 @@ fn padding_number(padding: Padding) -> u8
     }
 }
 
-#[inline(always)]
 fn digits_number(digits: SubsecondDigits) -> u8
     ensures { digits_at result ≡ Ok digits }
 {
@@ -56,7 +56,6 @@ fn digits_number(digits: SubsecondDigits) -> u8
 }
 
 /// The item of this kind with these choices.
-#[inline(always)]
 #[tactic(auto, unfolding(crate::specs::Items::component_of))]
 fn item(kind: u32, padding: Padding, flag: bool, digits: SubsecondDigits) -> Item
     ensures kind { result.kind ≡ kind }
@@ -141,7 +140,6 @@ pub fn item_of(component: Component) -> Item
 }
 
 /// The item of a byte.
-#[inline(always)]
 #[tactic(auto, using(crate::proofs::ItemLemmas::byte_is))]
 pub fn byte_item(byte: u8) -> Item
     ensures { (text : List ℕ) → IsItem text result (literal_of (byte ∷ [])) }
@@ -154,7 +152,6 @@ pub fn byte_item(byte: u8) -> Item
 }
 
 /// The item of so many bytes of the text, from a place on.
-#[inline(always)]
 #[tactic(auto, using(crate::proofs::ItemLemmas::text_is))]
 pub fn text_item(_text: &[u8], start: usize, len: usize) -> Item
     requires { start + len ≤ length _text.now }

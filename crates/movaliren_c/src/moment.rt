@@ -1,4 +1,7 @@
 //! Moments in the interface, and the values that they give.
+//!
+//! Without `inline(always)` the compiler leaves calls of the functions that have it. `cold` and
+//! `inline(never)` keep long or rare bodies out of their callers.
 ghost use Rattle.std.specs.Prelude.{◌≡◌, ◌≤◌, IsTrue, unsigned_abs};
 ghost use Rattle.movaliren_c.specs.Known.{offset_of_parts, time_of_parts};
 ghost use Rattle.movaliren_c.specs.Utc.{utc_value};
@@ -34,7 +37,6 @@ pub struct UtcMoment {
 }
 
 /// The parts of a value, with this month and this day.
-#[inline(always)]
 pub fn parts_of(value: OffsetDateTime, month: u8, day: u8) -> Moment
     ensures year { result.year ≡ value.date.year }
     ensures month { result.month ≡ month }
@@ -59,7 +61,6 @@ pub fn parts_of(value: OffsetDateTime, month: u8, day: u8) -> Moment
 }
 
 /// The date of a year, a month and a day, or the first of them that is outside its range.
-#[inline(always)]
 #[tactic(auto, unfolding(crate::specs::Value::date_value))]
 pub fn date_value(year: i32, month: u8, day: u8) -> Result<Date, Reason>
     ensures { result ≡ date_value year month day }
@@ -78,7 +79,6 @@ pub fn date_value(year: i32, month: u8, day: u8) -> Result<Date, Reason>
     Ok(Date::from_valid_calendar_date(year, month, day))
 }
 
-#[inline(always)]
 fn time_value(moment: &Moment) -> Result<Time, Reason>
     ensures { result ≡ time_value moment.now }
 {
@@ -99,7 +99,6 @@ fn time_value(moment: &Moment) -> Result<Time, Reason>
 
 /// The offset of the parts, or the first of them that is outside its range or has the opposite sign of
 /// one before it.
-#[inline(always)]
 fn offset_value(moment: &Moment) -> Result<UtcOffset, Reason>
     ensures { result ≡ offset_value moment.now }
 {
@@ -114,7 +113,6 @@ fn offset_value(moment: &Moment) -> Result<UtcOffset, Reason>
 
 /// Whether three parts are in their ranges and have one sign at most. Two tests for all three cost less than one for
 /// each two, and one where all are zero, as in UTC.
-#[inline(always)]
 fn are_offset_parts(hours: i8, minutes: i8, seconds: i8) -> bool
     ensures { IsTrue result → IsOffset (record { hours = hours; minutes = minutes; seconds = seconds }) }
 {
@@ -152,7 +150,6 @@ fn tested_offset(moment: &Moment) -> Result<UtcOffset, Reason>
 }
 
 /// Whether a part is at most so far from zero, and has not the opposite sign of one of two parts before it.
-#[inline(always)]
 fn is_offset_part(greatest: u8, first: i8, second: i8, part: i8) -> bool
     ensures value { result ≡ is_offset_part greatest first second part }
     ensures range { IsTrue result → unsigned_abs part ≤ greatest }
@@ -163,7 +160,6 @@ fn is_offset_part(greatest: u8, first: i8, second: i8, part: i8) -> bool
 }
 
 /// Whether neither of two parts is above zero where the other one is below.
-#[inline(always)]
 fn is_alike(first: i8, second: i8) -> bool
     ensures value { result ≡ is_alike first second }
     ensures sign { IsTrue result → HasNoOtherSign first second }
@@ -209,7 +205,6 @@ pub fn in_utc(moment: Timestamp) -> UtcDateTime
 }
 
 /// The date and time in UTC this long after 1970.
-#[inline(always)]
 #[tactic(auto, unfolding(crate::specs::Utc::utc_value))]
 pub fn value_in_utc(seconds: i64, nanosecond: u32) -> Result<OffsetDateTime, Reason>
     ensures { result ≡ utc_value seconds nanosecond }

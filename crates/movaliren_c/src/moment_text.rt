@@ -1,4 +1,7 @@
 //! Formats of moments, whose texts are written without an allocation.
+//!
+//! Without `inline(always)` the compiler leaves calls of the functions that have it. `cold` and
+//! `inline(never)` keep long or rare bodies out of their callers.
 ghost use Rattle.std.specs.Prelude.{◌≡◌, ◌≤◌, ◌++◌, ℕ, IfOk, IfErr, drop, length};
 ghost use Rattle.movaliren_c.specs.Answer.{IsAnswer, IsRefusedFor, IsText, IsWritten, gives};
 ghost use Rattle.time_below.specs.Moment.{OffsetDateAndTime};
@@ -68,7 +71,6 @@ impl<F: Format, S: Source> Writer for Texts<F, S> {
 impl<F: Format, S: Source> Texts<F, S> {
     /// Puts the text of the value at the start of a buffer that holds every text. Each format and source
     /// has one call of a function of its own, so that the compiler can inline it.
-    #[inline]
     fn put(&self, value: &OffsetDateTime, room: &mut [u8]) -> Result<usize, Reason>
         requires room { F.WIDTH ≤ length room.old }
         ensures { IsWritten result (F.outcome self.now.format value.now) room.old room.new }
@@ -122,7 +124,6 @@ fn put_before<B: Before, T: Text>(text: &T, room: &mut [u8]) -> usize
 }
 
 /// Answers for a moment by its seconds since 1970 and its nanosecond.
-#[inline(always)]
 pub fn answer_at<W: Writer<Item = UtcMoment>>(
     writer: &W,
     seconds: i64,

@@ -30,7 +30,6 @@ impl Format for Rfc2822 {
 
     ghost outcome = { λ _. rfc2822_of };
 
-    #[inline(always)]
     #[tactic(auto, using(time_known::proofs::AcceptedLemmas::any_hour))]
     fn text(self, value: &OffsetDateTime) -> Result<Rfc2822Text, Reason> {
         match accepted_fields(1900, 25, value, &mut DateState::default()) {

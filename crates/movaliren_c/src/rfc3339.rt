@@ -30,7 +30,6 @@ impl Format for Rfc3339 {
 
     ghost outcome = { λ _. rfc3339_of };
 
-    #[inline(always)]
     fn text(self, value: &OffsetDateTime) -> Result<Rfc3339Text, Reason> {
         let fields = accepted_fields(0, 23, value, &mut DateState::default())?;
         Ok(Rfc3339Text { fields })

@@ -1,4 +1,6 @@
 //! Texts at the start of the buffer.
+//!
+//! Without `inline(always)` the compiler leaves calls of the functions that have it.
 ghost use Rattle.std.specs.Prelude.{◌≡◌, ◌≤◌, ◌+◌, ◌++◌, IfOk, drop, length};
 ghost use Rattle.movaliren_c.specs.Answer.{IsWritten};
 ghost use Rattle.time_fmt.specs.Outcome.{done};
@@ -36,7 +38,6 @@ fn copy_over(text: &[u8], room: &mut [u8])
 
 /// Copies the first bytes of a text and the last ones to the start of a buffer, so many of each. They may overlap, and
 /// are all of the text.
-#[inline(always)]
 #[tactic(auto, using(crate::proofs::RoomLemmas::ends_copied))]
 fn copy_ends(text: &[u8], count: usize, room: &mut [u8])
     requires least { count ≤ length text.now }

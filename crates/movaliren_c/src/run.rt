@@ -18,7 +18,6 @@ pub enum Run {
 }
 
 /// Whether one of the first two items begins a date or a time of day, as in most descriptions that have one.
-#[inline(always)]
 pub fn begins_with_run(items: &[Item]) -> bool {
     match items {
         [first, second, ..] => is_first_of_run(first) || is_first_of_run(second),
@@ -27,14 +26,12 @@ pub fn begins_with_run(items: &[Item]) -> bool {
 }
 
 /// Whether an item may begin a date or a time of day.
-#[inline(always)]
 fn is_first_of_run(item: &Item) -> bool {
     item.kind == 13 || item.kind == 14 || item.kind == 24
 }
 
 /// The date or the time of day that the first five items are, if they are one, and the bytes between its
 /// parts.
-#[inline(always)]
 pub fn run_of(items: &[Item], texts: &[u8]) -> Option<(Run, (u8, u8))>
     ensures five { IfSome result (λ _. 5 ≤ length items.now) }
     ensures begin { IfSome result (λ found. trees_of texts.now items.now
@@ -53,7 +50,6 @@ pub fn run_of(items: &[Item], texts: &[u8]) -> Option<(Run, (u8, u8))>
 }
 
 /// The date or the time of day that three items are, if they are one.
-#[inline(always)]
 #[tactic(auto, unfolding(crate::specs::Items::component_of, crate::specs::Items::date_component, crate::specs::Items::year_component, crate::specs::Items::time_component))]
 fn run_between(first: &Item, second: &Item, third: &Item) -> Option<Run>
     ensures first { IfSome result (λ run. (texts : List ℕ)
@@ -72,7 +68,6 @@ fn run_between(first: &Item, second: &Item, third: &Item) -> Option<Run>
 }
 
 /// The kind of an item, and above it its choices and its byte. The compiler reads the five as one number.
-#[inline(always)]
 pub fn head_of(item: &Item) -> u64
     ensures kind { result < 2 ^ 32 → item.now.kind ≡ result }
     ensures padding { result < 2 ^ 32 → item.now.padding ≡ 0 }
@@ -85,7 +80,6 @@ pub fn head_of(item: &Item) -> u64
 }
 
 /// The byte that an item is, if it is a text of one.
-#[inline(always)]
 pub fn byte_of(item: &Item, texts: &[u8]) -> Option<u8>
     ensures { IfSome result (λ byte. item_tree texts.now item.now ≡ Ok (byte_literal (byte ∷ []))) }
 {

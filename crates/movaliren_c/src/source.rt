@@ -1,4 +1,6 @@
 //! Where the values of moments come from.
+//!
+//! Without `inline(always)` the compiler leaves calls of the functions that have it.
 ghost use Rattle.std.specs.Prelude.{◌≡◌, Result};
 ghost use Rattle.movaliren_c.specs.Utc.{east_value, local_there, local_value, utc_value};
 ghost use Rattle.movaliren_c.specs.Value.{moment_value};
@@ -47,7 +49,6 @@ impl Source for InUtc {
 
     ghost given = { λ _ moment. utc_value moment.seconds moment.nanosecond };
 
-    #[inline(always)]
     fn value(self, moment: &UtcMoment) -> Result<OffsetDateTime, Reason> {
         value_in_utc(moment.seconds, moment.nanosecond)
     }
@@ -80,7 +81,6 @@ pub fn local_value(seconds: i64, nanosecond: u32, east: i64) -> Result<OffsetDat
 }
 
 /// The offset of this many seconds east of UTC, if it is at most 25:59:59 either way.
-#[inline(always)]
 fn offset_east(east: i64) -> Result<UtcOffset, Reason>
     ensures { result ≡ east_value east }
 {
@@ -94,7 +94,6 @@ fn offset_east(east: i64) -> Result<UtcOffset, Reason>
 }
 
 /// The moment at this offset, or the reason why it has no local date there.
-#[inline(always)]
 fn local_there(moment: Timestamp, offset: UtcOffset) -> Result<OffsetDateTime, Reason>
     ensures { result ≡ local_there moment offset }
 {

@@ -29,7 +29,6 @@ impl Format for Stamp {
 
     ghost outcome = { λ _. utc_stamp_of };
 
-    #[inline(always)]
     fn text(self, value: &OffsetDateTime) -> Result<StampText, Reason> {
         let value = UtcDateTime::new(value.date(), value.time());
         let fields = accepted_fields(0, 25, &value, &mut DateState::default())?;

@@ -8,7 +8,6 @@ const CUMULATIVE_DAYS: [u16; 12] = [0, 31, 59, 90, 120, 151, 181, 212, 243, 273,
 
 /// Whether 4 divides the year, and 100 does not or 400 does. Three years of four are told by the first test.
 /// Where 4 divides the year, 100 does if 25 does, and 400 does if 25 and 16 do.
-#[inline]
 pub fn is_leap_year(year: i32) -> bool
     ensures { result ≡ is_leap_year year }
 {
@@ -79,7 +78,6 @@ pub fn month_and_day(is_leap: bool, ordinal: u16) -> (u8, u8)
 }
 
 // The rest by seven, which the first three bits of a product are: the factor is a seventh of 2^32, rounded up.
-#[inline]
 #[tactic(auto, using(crate::proofs::ProductLemmas::rest_facts))]
 pub fn rest_by_seven(number: u32) -> u8
     requires { number < 100_000_000 }
@@ -90,7 +88,6 @@ pub fn rest_by_seven(number: u32) -> u8
 }
 
 // The whole weeks in so many days, by a product.
-#[inline]
 pub fn weeks_in(days: u32) -> u8
     requires { days < 378 }
     ensures value { result ≡ days / 7 }

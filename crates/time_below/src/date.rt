@@ -92,7 +92,6 @@ impl Date {
 
     /// The date of a year, a month and a day that `from_calendar_date` takes, as the caller knows. Nothing
     /// is tested.
-    #[inline]
     #[tactic(auto, using(crate::proofs::MonthLemmas::month_within))]
     pub fn from_valid_calendar_date(year: i32, month: Month, day: u8) -> Date
         requires year { IsYear year }
@@ -239,7 +238,6 @@ impl Date {
     }
 
     // The Thursday of the date's week, which is counted from Monday.
-    #[inline(always)]
     #[tactic(auto, using(crate::proofs::CalendarLemmas::thursday_facts))]
     fn thursday(self) -> Date
         ensures { result ≡ thursday_of self }

@@ -41,7 +41,6 @@ pub enum Month {
 
 impl Month {
     /// The month of a number from 1 to 12, as the caller knows. Nothing is tested.
-    #[inline]
     pub fn from_number(number: u8) -> Month
         requires { IsInRange 1 12 number }
         ensures { month_number result ≡ number }
@@ -64,7 +63,6 @@ impl Month {
     }
 
     /// The number of days of the month in this year, 28 to 31.
-    #[inline]
     pub fn length(self, year: i32) -> u8
         ensures value { result ≡ days_in_month (is_leap_year year) (month_number self) }
         ensures range { IsInRange 28 31 result }

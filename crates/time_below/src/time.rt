@@ -136,7 +136,6 @@ impl Time {
     }
 
     /// The time of parts that are in the ranges of `from_hms_nano`, as the caller knows. Nothing is tested.
-    #[inline]
     pub fn from_valid_hms_nano(hour: u8, minute: u8, second: u8, nanosecond: u32) -> Time
         requires { IsTimeOfDay (time_of hour minute second nanosecond) }
         ensures { result ≡ time_of hour minute second nanosecond }

@@ -102,7 +102,6 @@ impl UtcOffset {
 
     /// The offset of parts that are in the ranges of `from_hms`, as the caller knows. Nothing is tested.
     /// If signs differ, the later parts take the sign of the first part that is not zero.
-    #[inline]
     pub fn from_ranged_hms(hours: i8, minutes: i8, seconds: i8) -> UtcOffset
         requires { AreOffsetParts hours minutes seconds }
         ensures { result ≡ settled hours minutes seconds }
@@ -117,7 +116,6 @@ impl UtcOffset {
 
     /// The offset of parts that are in the ranges of `from_hms` and have one sign at most, as the caller
     /// knows. Nothing is tested.
-    #[inline]
     pub fn from_valid_hms(hours: i8, minutes: i8, seconds: i8) -> UtcOffset
         requires { IsOffset (record { hours = hours; minutes = minutes; seconds = seconds }) }
         ensures { result ≡ record { hours = hours; minutes = minutes; seconds = seconds } }

@@ -3,6 +3,8 @@
 //! The conversions are those of POSIX.1-2017 but `%Z` and those with `E` or `O`, and of GNU `%k`, `%l`, `%N`,
 //! `%P`, `%s` and `%:z`. A number takes one flag: `-` for no padding, `_` for spaces, `0` for zeros. A year has at
 //! least four digits, unless a flag says otherwise.
+//!
+//! `inline(never)` keeps long or rare bodies out of their callers.
 ghost use Rattle.std.specs.Prelude.{◌≡◌, ◌+◌, ◌<◌, ◌≤◌, ℕ, List, [], length, drop, slice_range, Ok, IfOk, IfErr, OnOk, IsTrue, IsFalse};
 ghost use Rattle.time_below.specs.Tree.{Tree, owned_tree};
 ghost use Rattle.time_describe.specs.Conversions.{composed, offset};
@@ -91,7 +93,6 @@ fn put_composed<I: Items>(items: &mut I, text: &[u8]) -> Result<(), AllocError>
 }
 
 /// Adds the items of a part, to which so many bytes of the text belong, from a position on.
-#[inline(always)]
 fn put_part<I: Items>(
     items: &mut I,
     text: &[u8],
@@ -116,7 +117,6 @@ fn put_part<I: Items>(
 }
 
 /// Adds the component that a letter stands for, if it stands for one alone. Returns whether it does.
-#[inline(always)]
 fn put_letter<I: Items>(items: &mut I, letter: u8) -> Result<bool, AllocError>
     ensures put { IfOk result (λ is_put. (text : List ℕ)
         → AddsLetter (I.Holds text []) items.old items.new letter is_put) }
@@ -132,7 +132,6 @@ fn put_letter<I: Items>(items: &mut I, letter: u8) -> Result<bool, AllocError>
 
 /// Adds the component that a letter stands for, if most texts have it. Returns whether they have. The compiler makes
 /// the item of each letter, which stands here as a constant.
-#[inline(always)]
 fn put_usual<I: Items>(items: &mut I, letter: u8) -> Result<bool, AllocError>
     ensures put { IfOk result (λ is_put. (text : List ℕ)
         → AddsLetter (I.Holds text []) items.old items.new letter is_put) }
@@ -162,7 +161,6 @@ fn put_usual<I: Items>(items: &mut I, letter: u8) -> Result<bool, AllocError>
 
 /// Adds the component of the conversion at a position of the text, if it is one that most texts
 /// have. Returns whether it is.
-#[inline(always)]
 fn put_usual_at<I: Items>(items: &mut I, text: &[u8], at: usize) -> Result<bool, AllocError>
     requires { at < length text.now }
     ensures put { IfOk result (λ is_put. IsTrue is_put → (whole : List ℕ)
@@ -182,7 +180,6 @@ fn put_usual_at<I: Items>(items: &mut I, text: &[u8], at: usize) -> Result<bool,
 }
 
 /// Adds the items of the part at a position of the text. Returns how many bytes belong to it.
-#[inline(always)]
 fn put_front<I: Items>(items: &mut I, text: &[u8], at: usize) -> Result<usize, Failure>
     requires { at < length text.now }
     ensures put { IfOk result (λ len. AddsFront (I.Holds text.now []) items.old items.new
@@ -200,7 +197,6 @@ fn put_front<I: Items>(items: &mut I, text: &[u8], at: usize) -> Result<usize, F
 }
 
 /// Reads the part at a position of the text, and returns the position after it.
-#[inline(always)]
 fn step<I: Items>(items: &mut I, text: &[u8], at: usize) -> Result<usize, Failure>
     requires { at < length text.now }
     ensures goes_on { (before : List Tree) → IsTrue (are_leaves before) → I.Holds text.now [] items.old before

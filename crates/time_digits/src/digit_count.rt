@@ -14,7 +14,6 @@ pub trait DigitCount {
 impl DigitCount for u8 {
     ghost number = { λ n. n };
 
-    #[inline]
     fn num_digits(self) -> u8 {
         u32::from(self).num_digits()
     }
@@ -23,7 +22,6 @@ impl DigitCount for u8 {
 impl DigitCount for u16 {
     ghost number = { λ n. n };
 
-    #[inline]
     fn num_digits(self) -> u8 {
         u32::from(self).num_digits()
     }
@@ -32,7 +30,6 @@ impl DigitCount for u16 {
 impl DigitCount for u32 {
     ghost number = { λ n. n };
 
-    #[inline]
     #[tactic(auto, using(crate::proofs::LengthLemmas::count_facts))]
     fn num_digits(self) -> u8 {
         match self.checked_ilog10() {

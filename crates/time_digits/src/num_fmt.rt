@@ -27,7 +27,6 @@ const EIGHT_ZEROS: u64 = 0x3030_3030_3030_3030;
 
 /// Writes `value` in two places, with a zero in front where it is below 10, to the bytes `offset`
 /// and `offset + 1`.
-#[inline]
 #[tactic(auto, using(crate::proofs::WriteLemmas::digit_writes))]
 pub fn write_two_digits(buf: &mut [u8], offset: usize, value: ru8<0, 99>)
     requires room { offset + 2 ≤ length buf.old }
@@ -39,7 +38,6 @@ pub fn write_two_digits(buf: &mut [u8], offset: usize, value: ru8<0, 99>)
 }
 
 /// Writes the digit `value` to the byte `offset`.
-#[inline]
 #[tactic(auto, using(crate::proofs::WriteLemmas::digit_writes))]
 pub fn write_one_digit(buf: &mut [u8], offset: usize, value: ru8<0, 9>)
     requires room { offset + 1 ≤ length buf.old }
@@ -49,7 +47,6 @@ pub fn write_one_digit(buf: &mut [u8], offset: usize, value: ru8<0, 9>)
 }
 
 /// The quotient and the remainder of `n` by 100, in this order, by one multiplication and a shift.
-#[inline]
 #[tactic(auto, using(crate::proofs::DivisionLemmas::quotient_by_5243))]
 pub fn div_100(n: ru16<0, 9_999>) -> [ru8<0, 99>; 2]
     ensures { result ≡ n / 100 ∷ n % 100 ∷ [] }
@@ -61,7 +58,6 @@ pub fn div_100(n: ru16<0, 9_999>) -> [ru8<0, 99>; 2]
 }
 
 /// The text of the digit `n`, one byte.
-#[inline]
 #[tactic(auto, using(crate::proofs::SingleDigitLemmas::digit_facts))]
 pub fn single_digit(n: ru8<0, 9>) -> &'static str
     ensures text { result.now ≡ decimal n }
@@ -71,7 +67,6 @@ pub fn single_digit(n: ru8<0, 9>) -> &'static str
 }
 
 /// The one or two digits of `n`, with no padding.
-#[inline]
 #[tactic(auto, using(crate::proofs::ZeroPaddedLemmas::number_facts))]
 pub fn one_to_two_digits_no_padding(n: ru8<0, 99>) -> &'static str
     ensures text { result.now ≡ decimal n }
@@ -87,7 +82,6 @@ pub fn one_to_two_digits_no_padding(n: ru8<0, 99>) -> &'static str
 }
 
 /// `n` in two places, with a zero in front where it is below 10.
-#[inline]
 #[tactic(auto, using(crate::proofs::ZeroPaddedLemmas::pair_facts))]
 pub fn two_digits_zero_padded(n: ru8<0, 99>) -> &'static str
     ensures text { result.now ≡ zero_padded 2 n }
@@ -98,7 +92,6 @@ pub fn two_digits_zero_padded(n: ru8<0, 99>) -> &'static str
 
 /// The magnitude of `n` in two places, with a zero in front where it is below 10. It is read from a table by
 /// `n` itself, so that no sign is taken away first.
-#[inline]
 #[tactic(auto, using(crate::proofs::MagnitudeLemmas::magnitude_facts))]
 pub fn magnitude_zero_padded(n: ri8<59>) -> &'static str
     ensures text { result.now ≡ zero_padded 2 (unsigned_abs n) }
@@ -108,7 +101,6 @@ pub fn magnitude_zero_padded(n: ri8<59>) -> &'static str
 }
 
 /// `n` in two places, with a space in front where it is below 10.
-#[inline]
 #[tactic(auto, using(crate::proofs::SpacePaddedLemmas::space_facts))]
 pub fn two_digits_space_padded(n: ru8<0, 99>) -> &'static str
     ensures text { result.now ≡ space_padded 2 n }
@@ -119,7 +111,6 @@ pub fn two_digits_space_padded(n: ru8<0, 99>) -> &'static str
 
 /// The one to three digits of `n`, with no padding; the second piece holds the last two of them, or
 /// the only one.
-#[inline]
 #[tactic(auto, using(crate::proofs::PieceLemmas::three_places))]
 pub fn one_to_three_digits_no_padding(n: ru16<0, 999>) -> [&'static str; 2]
     ensures text { joined result ≡ decimal n }
@@ -137,7 +128,6 @@ pub fn one_to_three_digits_no_padding(n: ru16<0, 999>) -> [&'static str; 2]
 }
 
 /// `n` in three places, with zeros in front; pieces of one and two bytes.
-#[inline]
 #[tactic(auto, using(crate::proofs::PieceLemmas::three_places))]
 pub fn three_digits_zero_padded(n: ru16<0, 999>) -> [&'static str; 2]
     ensures text { joined result ≡ zero_padded 3 n }
@@ -152,7 +142,6 @@ pub fn three_digits_zero_padded(n: ru16<0, 999>) -> [&'static str; 2]
 }
 
 /// `n` in three places, with spaces in front; pieces of one and two bytes.
-#[inline]
 #[tactic(auto, using(crate::proofs::PieceLemmas::three_places))]
 pub fn three_digits_space_padded(n: ru16<0, 999>) -> [&'static str; 2]
     ensures text { joined result ≡ space_padded 3 n }
@@ -168,7 +157,6 @@ pub fn three_digits_space_padded(n: ru16<0, 999>) -> [&'static str; 2]
 
 /// The one to four digits of `n`, with no padding; the second piece holds the last two of them, or
 /// the only one.
-#[inline]
 #[tactic(auto, using(crate::proofs::PieceLemmas::four_places))]
 pub fn one_to_four_digits_no_padding(n: ru16<0, 9_999>) -> [&'static str; 2]
     ensures text { joined result ≡ decimal n }
@@ -183,7 +171,6 @@ pub fn one_to_four_digits_no_padding(n: ru16<0, 9_999>) -> [&'static str; 2]
 }
 
 /// `n` in four places, with zeros in front; two pieces of two bytes.
-#[inline]
 #[tactic(auto, using(crate::proofs::PieceLemmas::four_places))]
 pub fn four_digits_zero_padded(n: ru16<0, 9_999>) -> [&'static str; 2]
     ensures text { joined result ≡ zero_padded 4 n }
@@ -195,7 +182,6 @@ pub fn four_digits_zero_padded(n: ru16<0, 9_999>) -> [&'static str; 2]
 }
 
 /// `n` in four places, with spaces in front; two pieces of two bytes.
-#[inline]
 #[tactic(auto, using(crate::proofs::PieceLemmas::four_places))]
 pub fn four_digits_space_padded(n: ru16<0, 9_999>) -> [&'static str; 2]
     ensures text { joined result ≡ space_padded 4 n }
@@ -212,7 +198,6 @@ pub fn four_digits_space_padded(n: ru16<0, 9_999>) -> [&'static str; 2]
 
 /// `n` in four places with zeros in front, or all its five or six digits; the first piece is what
 /// precedes the last four digits, empty below 10,000.
-#[inline]
 #[tactic(auto, using(crate::proofs::PieceLemmas::six_places))]
 pub fn four_to_six_digits(n: ru32<0, 999_999>) -> [&'static str; 3]
     ensures text { joined result ≡ zero_padded 4 n }
@@ -231,7 +216,6 @@ pub fn four_to_six_digits(n: ru32<0, 999_999>) -> [&'static str; 3]
 }
 
 /// `n` in five places, with zeros in front; pieces of one, two and two bytes.
-#[inline]
 #[tactic(auto, using(crate::proofs::PieceLemmas::six_places))]
 pub fn five_digits_zero_padded(n: ru32<0, 99_999>) -> [&'static str; 3]
     ensures text { joined result ≡ zero_padded 5 n }
@@ -245,7 +229,6 @@ pub fn five_digits_zero_padded(n: ru32<0, 99_999>) -> [&'static str; 3]
 }
 
 /// `n` in six places, with zeros in front; three pieces of two bytes.
-#[inline]
 #[tactic(auto, using(crate::proofs::PieceLemmas::six_places))]
 pub fn six_digits_zero_padded(n: ru32<0, 999_999>) -> [&'static str; 3]
     ensures text { joined result ≡ zero_padded 6 n }
@@ -260,7 +243,6 @@ pub fn six_digits_zero_padded(n: ru32<0, 999_999>) -> [&'static str; 3]
 
 /// The nine digits of `n` nanoseconds, as the decimals of a second; a piece of one byte and four of
 /// two.
-#[inline]
 #[tactic(auto, using(crate::proofs::PieceLemmas::six_places))]
 pub fn subsecond_from_nanos(n: ru32<0, 999_999_999>) -> [&'static str; 5]
     ensures text { joined result ≡ fixed 9 n }
@@ -274,7 +256,6 @@ pub fn subsecond_from_nanos(n: ru32<0, 999_999_999>) -> [&'static str; 5]
 }
 
 // The last four digits of a number, in two pieces.
-#[inline]
 #[tactic(auto, using(crate::proofs::PieceLemmas::six_places))]
 fn last_four_digits(number: u32) -> [&'static str; 2]
     ensures text { joined result ≡ fixed 4 number }
@@ -285,7 +266,6 @@ fn last_four_digits(number: u32) -> [&'static str; 2]
 
 /// How many zeros end the eight digits that the bytes of `word` are in little-endian order, from 0
 /// to 8.
-#[inline]
 #[tactic(auto, using(crate::proofs::WordLemmas::word_facts))]
 pub fn zeros_to_drop(word: u64) -> u32
     requires digits { AllDigits 10 (to_le_bytes w64 word) }
@@ -297,7 +277,6 @@ pub fn zeros_to_drop(word: u64) -> u32
 
 /// The decimals of a second of `n` nanoseconds: its nine digits without the zeros at their end, at
 /// least one digit.
-#[inline]
 pub fn truncated_subsecond_from_nanos(n: ru32<0, 999_999_999>) -> StackStr<9>
     ensures text { shown result ≡ trimmed_fraction n }
     ensures some { 1 ≤ length (shown result) }
@@ -310,7 +289,6 @@ pub fn truncated_subsecond_from_nanos(n: ru32<0, 999_999_999>) -> StackStr<9>
 }
 
 // The nine digits of a number of nanoseconds.
-#[inline]
 fn nine_digits(n: ru32<0, 999_999_999>) -> [u8; 9]
     ensures { result ≡ fixed 9 n }
 {
@@ -324,7 +302,6 @@ fn nine_digits(n: ru32<0, 999_999_999>) -> [u8; 9]
 }
 
 /// The one to twenty digits of `value`, with no padding.
-#[inline]
 pub fn u64_pad_none(value: u64) -> StackTrailingStr<20>
     ensures text { shown_end result ≡ decimal value }
     ensures some { 1 ≤ length (shown_end result) }
@@ -352,7 +329,6 @@ pub fn u64_pad_none(value: u64) -> StackTrailingStr<20>
 }
 
 // Writes `value` in four places, with zeros in front, from the byte `offset` on.
-#[inline]
 #[tactic(auto, using(crate::proofs::WriteLemmas::four_written))]
 fn write_four_digits(buf: &mut [u8], offset: usize, value: ru16<0, 9_999>)
     requires room { offset + 4 ≤ length buf.old }

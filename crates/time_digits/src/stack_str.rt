@@ -14,7 +14,6 @@ impl<const N: usize> StackStr<N> {
     ghost use Rattle.time_digits.specs.Shown.{shown};
 
     /// The text of the first `len` bytes, which are ASCII, as the caller knows. Nothing is tested.
-    #[inline]
     pub fn new(bytes: [u8; N], len: usize) -> Self
         requires within { len ≤ N }
         requires ascii { IsAscii (take len bytes) }
@@ -24,7 +23,6 @@ impl<const N: usize> StackStr<N> {
     }
 
     /// The number of bytes of the text, at most `N`.
-    #[inline]
     pub fn len(&self) -> usize
         ensures value { result ≡ length (shown self.now) }
         ensures within { result ≤ N }
@@ -33,7 +31,6 @@ impl<const N: usize> StackStr<N> {
     }
 
     /// The text.
-    #[inline]
     pub fn as_str(&self) -> &str
         ensures { result.now ≡ shown self.now }
     {
@@ -54,7 +51,6 @@ impl<const N: usize> StackTrailingStr<N> {
     ghost use Rattle.time_digits.specs.Shown.{shown_end};
 
     /// The text of the bytes from `start` on, which are ASCII, as the caller knows. Nothing is tested.
-    #[inline]
     pub fn new(bytes: [u8; N], start: usize) -> Self
         requires within { start ≤ N }
         requires ascii { IsAscii (drop start bytes) }
@@ -64,7 +60,6 @@ impl<const N: usize> StackTrailingStr<N> {
     }
 
     /// The number of bytes of the text, at most `N`.
-    #[inline]
     pub fn len(&self) -> usize
         ensures value { result ≡ length (shown_end self.now) }
         ensures within { result ≤ N }
@@ -73,7 +68,6 @@ impl<const N: usize> StackTrailingStr<N> {
     }
 
     /// The text.
-    #[inline]
     pub fn as_str(&self) -> &str
         ensures { result.now ≡ shown_end self.now }
     {
@@ -83,7 +77,6 @@ impl<const N: usize> StackTrailingStr<N> {
 }
 
 // The bytes as a text, since ASCII is UTF-8.
-#[inline]
 fn text_of(bytes: &[u8]) -> &str
     requires { IsAscii bytes.now }
     ensures { result.now ≡ bytes.now }

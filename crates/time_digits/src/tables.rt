@@ -34,7 +34,6 @@ pub const MAGNITUDE_PAIRS: &str = "\
 41424344454647484950515253545556575859";
 
 /// The `len` bytes of an ASCII table from `start` on.
-#[inline]
 #[tactic(auto, using(crate::proofs::TableLemmas::ascii_boundary))]
 pub fn piece_of(table: &'static str, start: usize, len: usize) -> &'static str
     requires ascii { IsTrue (is_ascii table.now) }

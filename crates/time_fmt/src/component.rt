@@ -1,4 +1,7 @@
 //! The engine for one component.
+//!
+//! Without `inline(always)` the compiler leaves calls of the functions that have it. `cold` and
+//! `inline(never)` keep long or rare bodies out of their callers.
 ghost use Rattle.std.specs.Prelude.{◌≡◌, ◌+◌, ◌≤◌, IsUtf8, MatchOption, false, vec_len};
 ghost use Rattle.time_below.specs.Conversion.{is_current};
 ghost use Rattle.time_below.specs.Width.{component_width};
@@ -100,7 +103,6 @@ fn write_rare<M: Modifier, S: Sink, V: ComponentProvider>(
 
 /// Appends the text of any component, of a deprecated one that of the current one in its place. Returns
 /// its refusal, if it is refused.
-#[inline]
 pub fn end_component<S: Sink, V: ComponentProvider>(
     component: Component,
     output: &mut S,
@@ -125,7 +127,6 @@ pub fn end_component<S: Sink, V: ComponentProvider>(
 ///
 /// A deprecated component has the text of the current one. Returns the number of bytes appended, or
 /// the refusal of the component, which has no bytes.
-#[inline]
 #[tactic(auto, using(crate::proofs::EndLemmas::answered))]
 pub fn component_write_into<V: ComponentProvider>(
     component: &Component,

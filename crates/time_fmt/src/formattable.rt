@@ -1,4 +1,6 @@
 //! Descriptions of a text.
+//!
+//! `cold` and `inline(never)` keep long or rare bodies out of their callers.
 ghost use Rattle.std.specs.Prelude.{◌≡◌, ◌≢◌, ℕ, List, ◌+◌, ◌<◌, ◌≤◌, None, IsOk, is_err, OnOk, IfOk, IfErr, IfSome, IsSome, IsSomeAnd, IsTrue, [], IsUtf8, string_bytes, vec_len, vec_capacity};
 ghost use Rattle.time_below.specs.Facts.{Facts};
 ghost use Rattle.time_fmt.specs.Outcome.{Outcome, Names, Appends, Adds, is_out_of_memory};
@@ -157,7 +159,6 @@ pub trait Formattable: ComputeMetadata {
 
 /// Reserves spare capacity for this many bytes if it is missing. One reservation at least doubles
 /// the capacity. If it fails, the vector is unchanged.
-#[inline]
 pub fn make_room(output: &mut Vec<u8>, width: usize) -> Result<(), AllocError>
     ensures items { output.new.items ≡ output.old.items }
     ensures len { vec_len output.new ≡ vec_len output.old }
@@ -187,7 +188,6 @@ fn grow(output: &mut Vec<u8>, width: usize) -> Result<(), AllocError>
 }
 
 /// An empty vector with room for so many bytes, if they are fewer than the greatest `usize` and are there.
-#[inline]
 fn with_room(alloc: Global, width: usize) -> Option<Vec<u8>>
     ensures items { IfSome result (λ v. v.items ≡ []) }
     ensures len { IfSome result (λ v. vec_len v ≡ 0) }
@@ -202,7 +202,6 @@ fn with_room(alloc: Global, width: usize) -> Option<Vec<u8>>
 }
 
 /// The bytes as a text, which they are known to be.
-#[inline]
 fn text_of(bytes: Vec<u8>) -> String
     requires { IsUtf8 bytes.items }
     ensures text { string_bytes result ≡ lossy_text bytes.items }

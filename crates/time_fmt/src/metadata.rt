@@ -25,8 +25,7 @@ pub trait ComputeMetadata {
         ensures text { result.guaranteed_utf8 ≡ is_guaranteed self.now }
         ensures reached { reaches_width self.now };
 
-    /// The number of bytes of `compute_metadata` alone. No more than `inline` in the impls: what becomes part
-    /// of a large text is counted before anything is folded.
+    /// The number of bytes of `compute_metadata` alone.
     fn width(&self) -> usize
         ensures { result ≡ min (width_of self.now) usize.MAX }
     {

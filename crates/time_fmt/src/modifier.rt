@@ -1,5 +1,7 @@
 //! The trait of a component's choices, which say what component it is, its group, its maximum
 //! length and its writer.
+//!
+//! Without `inline(always)` the compiler leaves calls of the functions that have it.
 ghost use Rattle.std.specs.Prelude.{◌≡◌, IsTrue};
 ghost use Rattle.time_below.specs.Conversion.{is_current};
 ghost use Rattle.time_below.specs.declared.format_description.component.Component.{Component};
@@ -70,9 +72,7 @@ pub fn write_part<M: Modifier, S: Sink, V: ComponentProvider>(
     part.write_supplied(output, value, state)
 }
 
-/// Whether the values of a type supply the group of a component, which is not deprecated. No more than
-/// `inline`: what becomes part of a large text is counted before anything is folded.
-#[inline]
+/// Whether the values of a type supply the group of a component, which is not deprecated.
 pub(crate) fn is_supplied<M: Modifier, V: ComponentProvider>(part: M) -> bool
     ensures supplied { result ≡ is_supplied V.SUPPLIES_DATE V.SUPPLIES_TIME
         V.SUPPLIES_OFFSET V.SUPPLIES_TIMESTAMP (group_of (M.component_of part)) }
@@ -85,7 +85,6 @@ pub(crate) fn is_supplied<M: Modifier, V: ComponentProvider>(part: M) -> bool
 }
 
 /// Whether the values of a type supply a group.
-#[inline]
 pub(crate) fn supplies<V: ComponentProvider>(group: Group) -> bool
     ensures supplied { result ≡ is_supplied V.SUPPLIES_DATE V.SUPPLIES_TIME
         V.SUPPLIES_OFFSET V.SUPPLIES_TIMESTAMP group }

@@ -1,4 +1,6 @@
 //! What components refuse.
+//!
+//! `cold` and `inline(never)` keep long or rare bodies out of their callers.
 ghost use Rattle.time_fmt.specs.Ends.{refusal_of};
 ghost use Rattle.time_fmt.specs.Outcome.{Names};
 

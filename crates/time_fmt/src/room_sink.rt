@@ -31,7 +31,6 @@ pub struct RoomSink<'a, B: Before> {
 
 impl<'a, B: Before> RoomSink<'a, B> {
     /// An empty text at the start of a buffer, which holds what `B` says.
-    #[inline(always)]
     pub fn new(room: &'a mut [u8]) -> RoomSink<'a, B>
         requires before { room.old ≡ B.before }
         ensures { ⟦<RoomSink<'a, B> as Sink>⟧.buffer result ≡ record {
@@ -48,7 +47,6 @@ impl<'a, B: Before> RoomSink<'a, B> {
     }
 
     /// The number of bytes of the text.
-    #[inline(always)]
     pub fn len(&self) -> usize
         ensures { result ≡ (⟦<RoomSink<'a, B> as Sink>⟧.buffer self.now).len }
     {
@@ -63,26 +61,22 @@ impl<B: Before> Sink for RoomSink<'_, B> {
       block = record { capacity = length s.room.now; lender = Some s.room.ghost_name };
     } };
 
-    #[inline(always)]
     fn put_byte(&mut self, byte: u8) {
         let at = self.len;
         self.len = at + 1;
         self.room[at] = byte;
     }
 
-    #[inline]
     fn put_first(&mut self, bytes: [u8; 9], count: usize) {
         let at = self.len;
         self.len = at + count;
         write_first_over(self.room, at, &bytes, count);
     }
 
-    #[inline(always)]
     fn room(&self) -> usize {
         self.room.len() - self.len
     }
 
-    #[inline(always)]
     fn take_out(&mut self) -> Self {
         let empty = RoomSink {
             room: &mut [],
@@ -92,7 +86,6 @@ impl<B: Before> Sink for RoomSink<'_, B> {
         replace(self, empty)
     }
 
-    #[inline(always)]
     fn put_back(&mut self, taken: Self) {
         *self = taken;
     }
@@ -100,7 +93,6 @@ impl<B: Before> Sink for RoomSink<'_, B> {
 
 // Overwrites the bytes of a buffer from a position on by the first of nine. Those of a name are
 // written with no call, since the compiler knows how many they are.
-#[inline(always)]
 fn write_first_over(room: &mut [u8], at: usize, bytes: &[u8; 9], count: usize)
     requires most { count ≤ 9 }
     requires room { at + 9 ≤ length room.old }
@@ -121,7 +113,6 @@ fn write_first_over(room: &mut [u8], at: usize, bytes: &[u8; 9], count: usize)
 }
 
 /// Overwrites the bytes of a buffer from a position on.
-#[inline(always)]
 #[tactic(auto, using(crate::proofs::RoomLemmas::written_over))]
 pub fn write_over(room: &mut [u8], at: usize, bytes: &[u8])
     requires { at + length bytes.now ≤ length room.old }

@@ -1,4 +1,6 @@
 //! A date and a time of day in one step, with a byte between each two parts.
+//!
+//! Without `inline(always)` the compiler leaves calls of the functions that have it.
 ghost use Rattle.std.specs.Prelude.{◌≡◌, ◌+◌, ◌≤◌, ◌<◌, IsTrue, length};
 ghost use Rattle.time_below.specs.Facts.{the_date, the_time};
 ghost use Rattle.time_below.specs.Month.{month_number};
@@ -38,7 +40,6 @@ pub fn write_date<S: Sink, V: ComponentProvider>(
 }
 
 /// The number of a month, 1 to 12.
-#[inline(always)]
 fn number_of(month: Month) -> ru8<0, 99>
     ensures number { result ≡ month_number month }
     ensures range { result < 100 }
@@ -48,7 +49,6 @@ fn number_of(month: Month) -> ru8<0, 99>
 
 /// Appends the hour, the minute and the second of a value in two digits each, with a byte before each of the
 /// last two. Returns the number of bytes.
-#[inline(always)]
 pub fn write_time<S: Sink, V: ComponentProvider>(
     between: (u8, u8),
     output: &mut S,
@@ -71,7 +71,6 @@ pub fn write_time<S: Sink, V: ComponentProvider>(
 }
 
 /// Appends two numbers in two places, each behind its byte, and returns the number of bytes.
-#[inline(always)]
 fn write_two_after<S: Sink>(
     output: &mut S,
     between: (u8, u8),

@@ -52,13 +52,11 @@ pub trait Sink: Sized {
 impl Sink for Vec<u8> {
     ghost buffer = { vec_buffer };
 
-    #[inline(always)]
     fn put_byte(&mut self, byte: u8) {
         self.push_reserved(byte);
     }
 
     // All nine are two stores. Those after the first are taken back.
-    #[inline(always)]
     #[tactic(auto, using(crate::proofs::FirstLemmas::first_bytes))]
     fn put_first(&mut self, bytes: [u8; 9], count: usize) {
         let end = self.len() + count;
@@ -66,24 +64,20 @@ impl Sink for Vec<u8> {
         self.truncate(end);
     }
 
-    #[inline(always)]
     fn room(&self) -> usize {
         self.capacity() - self.len()
     }
 
-    #[inline(always)]
     fn take_out(&mut self) -> Vec<u8> {
         take_out(self)
     }
 
-    #[inline(always)]
     fn put_back(&mut self, taken: Vec<u8>) {
         put_back(self, taken);
     }
 }
 
 // Appends nine bytes.
-#[inline(always)]
 fn push_nine(output: &mut Vec<u8>, bytes: [u8; 9])
     requires room { Fits (vec_buffer output.old) 9 }
     ensures bytes { output.new.items ≡ output.old.items ++ bytes }
@@ -97,7 +91,6 @@ fn push_nine(output: &mut Vec<u8>, bytes: [u8; 9])
 }
 
 // Appends four bytes.
-#[inline(always)]
 fn push_four(output: &mut Vec<u8>, bytes: [u8; 4])
     requires room { Fits (vec_buffer output.old) 4 }
     ensures bytes { output.new.items ≡ output.old.items ++ bytes }

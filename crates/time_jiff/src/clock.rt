@@ -1,4 +1,7 @@
 //! The clock of a zone.
+//!
+//! Without `inline(always)` the compiler leaves calls of the functions that have it. `cold` and
+//! `inline(never)` keep long or rare bodies out of their callers.
 ghost use Rattle.std.specs.Prelude.{◌≡◌, ◌≤ℤ◌, ◌+ℤ◌, ◌*ℤ◌, pos, neg_ℤ};
 ghost use Rattle.jiff_tz.specs.Zone.{next_at, offset_at, previous_at};
 ghost use Rattle.time_below.specs.Offset.{offset_seconds};

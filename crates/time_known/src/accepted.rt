@@ -36,7 +36,6 @@ impl OutOfRange {
 /// The year as a number of four digits, if it is from the first to 9,999, and the offset has at most
 /// this many hours and no seconds. Else the first of them that is refused. No offset has more than 25
 /// hours, so that where these are the most they are not tested.
-#[inline(always)]
 pub fn accepted_year(
     first: u16,
     greatest_hour: u8,
@@ -65,7 +64,6 @@ pub fn accepted_year(
 }
 
 // The sizes of the hours and the seconds of an offset.
-#[inline(always)]
 fn hour_and_second(offset: UtcOffset) -> (u8, u8)
     ensures hour { result.0 ≡ unsigned_abs offset.hours }
     ensures second { result.1 ≡ unsigned_abs offset.seconds }

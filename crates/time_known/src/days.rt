@@ -1,4 +1,6 @@
 //! The days of a year, by their month and the day of that month.
+//!
+//! Without `inline(always)` the compiler leaves calls of the functions that have it.
 ghost use Rattle.std.specs.Prelude.{◌≡◌, ◌+◌, ◌++◌, if◌then◌else◌, length};
 ghost use Rattle.std.specs.Int.{IsInRange};
 ghost use Rattle.time_below.specs.Calendar.{days_in_year, is_leap_year};
@@ -101,7 +103,6 @@ pub enum CalendarDay {
 
 impl CalendarDay {
     /// The month and the day of a day of this year. None of them is computed: the table has both.
-    #[inline(always)]
     #[tactic(auto, using(crate::proofs::DayLemmas::same_month_and_day))]
     pub fn in_year(year: Year, ordinal: Ordinal) -> CalendarDay
         requires { IsInRange 1 (days_in_year year) ordinal }
@@ -111,7 +112,6 @@ impl CalendarDay {
     }
 
     // Two digits of the month, and two of the day.
-    #[inline]
     pub(crate) fn digits(self) -> (&'static str, &'static str)
         ensures month { result.0.now ≡ zero_padded 2 (month_and_day self).month }
         ensures day { result.1.now ≡ zero_padded 2 (month_and_day self).day }
@@ -131,7 +131,6 @@ impl CalendarDay {
     }
 
     // The first letter of the month's English name, and the next two.
-    #[inline]
     pub(crate) fn month_letters(self) -> (&'static str, &'static str)
         ensures text { result.0.now ++ result.1.now
             ≡ short_name (month_name (month_and_day self).month) }
@@ -149,7 +148,6 @@ impl CalendarDay {
 }
 
 // Three digits of a day of the year, after a dash if it is wanted, in two pieces.
-#[inline]
 pub(crate) fn ordinal_digits(day: Ordinal, has_dash: bool) -> (&'static str, &'static str)
     ensures digits { result.0.now ++ result.1.now ≡ dash has_dash ++ zero_padded 3 day }
     ensures first { length result.0.now ≡ 1 + length (dash has_dash) }
@@ -181,7 +179,6 @@ fn day_of_leap_year(is_leap: bool, ordinal: Ordinal) -> Ordinal
 }
 
 // The first letter of the month's English name, and the next two.
-#[inline]
 fn month_letters(month: ru8<1, 12>) -> (&'static str, &'static str)
     ensures text { result.0.now ++ result.1.now ≡ short_name (month_name month) }
     ensures first { length result.0.now ≡ 1 }

@@ -29,7 +29,6 @@ pub struct Fields {
 
 /// Returns the fields of a value whose year is from the first to 9,999, and whose offset has at most this
 /// many hours and no seconds. Else returns the first of these that has no place.
-#[inline(always)]
 pub fn accepted_fields<V: ComponentProvider>(
     first: u16,
     greatest_hour: u8,
@@ -70,7 +69,6 @@ pub fn accepted_fields<V: ComponentProvider>(
 }
 
 // The value's time of day.
-#[inline(always)]
 pub(crate) fn time_of<V: ComponentProvider>(value: &V, state: &mut V::State) -> Time
     requires supplied { IsTrue V.SUPPLIES_TIME }
     requires agrees { V.agrees state.old value.now }
@@ -81,7 +79,6 @@ pub(crate) fn time_of<V: ComponentProvider>(value: &V, state: &mut V::State) -> 
 }
 
 // The value's offset.
-#[inline(always)]
 pub(crate) fn offset_of<V: ComponentProvider>(value: &V) -> UtcOffset
     requires supplied { IsTrue V.SUPPLIES_OFFSET }
     ensures offset { result ≡ the_offset (V.facts value.now) }

@@ -1,4 +1,6 @@
 //! The pieces of texts, put into a sink. Each is inlined, so that it becomes a few stores.
+//!
+//! Without `inline(always)` the compiler leaves calls of the functions that have it.
 #![tactic(auto, using(crate::proofs::LengthLemmas::joined_lengths))]
 
 ghost use Rattle.std.specs.Prelude.{◌≡◌, ◌+◌, ◌*◌, ◌++◌, length, unsigned_abs};
@@ -58,7 +60,6 @@ pub fn put_month_and_day<S: Sink>(output: &mut S, date: CalendarDay, separator: 
 }
 
 /// Puts the first three letters of the month's English name.
-#[inline(always)]
 pub fn put_month_name<S: Sink>(output: &mut S, date: CalendarDay)
     requires room { Fits (S.buffer output.old) 3 }
     ensures puts { Puts (S.buffer output.old) (S.buffer output.new) 3
@@ -86,7 +87,6 @@ pub fn put_clock<S: Sink>(output: &mut S, time: Time, separator: &str)
 }
 
 // The hours of an offset in two places.
-#[inline(always)]
 fn offset_hours(offset: UtcOffset) -> &'static str
     ensures text { result.now ≡ zero_padded 2 (unsigned_abs offset.hours) }
     ensures length { length result.now ≡ 2 }
@@ -95,7 +95,6 @@ fn offset_hours(offset: UtcOffset) -> &'static str
 }
 
 // The minutes of an offset in two places.
-#[inline(always)]
 pub(crate) fn offset_minutes(offset: UtcOffset) -> &'static str
     ensures text { result.now ≡ zero_padded 2 (unsigned_abs offset.minutes) }
     ensures length { length result.now ≡ 2 }
@@ -104,7 +103,6 @@ pub(crate) fn offset_minutes(offset: UtcOffset) -> &'static str
 }
 
 /// Puts the sign of the whole offset, and its hours.
-#[inline(always)]
 pub fn put_offset_hours<S: Sink>(output: &mut S, offset: UtcOffset)
     requires room { Fits (S.buffer output.old) 3 }
     ensures puts { Puts (S.buffer output.old) (S.buffer output.new) 3

@@ -1,4 +1,6 @@
 //! RFC 3339.
+//!
+//! Without `inline(always)` the compiler leaves calls of the functions that have it.
 ghost use Rattle.std.specs.Prelude.{true};
 ghost use Rattle.time_fmt.specs.Sink.{Fits};
 ghost use Rattle.time_known.specs.Fields.{shown};

@@ -1,4 +1,6 @@
 //! Texts that are put into a sink piece by piece.
+//!
+//! Without `inline(always)` the compiler leaves calls of the functions that have it.
 ghost use Rattle.std.specs.Prelude.{ℕ, List, Ok};
 ghost use Rattle.time_fmt.specs.Outcome.{AppendsUpTo, done};
 ghost use Rattle.time_fmt.specs.Room.{HasRoom};

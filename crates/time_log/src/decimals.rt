@@ -33,7 +33,6 @@ impl Decimals {
 }
 
 /// Appends the first digits of the nine of a nanosecond.
-#[inline(always)]
 #[tactic(auto, using(time_fmt::proofs::DecimalLemmas::three_of_second, time_fmt::proofs::DecimalLemmas::six_of_second))]
 pub(crate) fn put_decimals<S: Sink>(output: &mut S, nanosecond: Nanoseconds, decimals: Decimals)
     requires room { Fits (S.buffer output.old) (digits_of decimals) }

@@ -1,4 +1,6 @@
 //! The text of a second at an offset, up to its decimals.
+//!
+//! `cold` and `inline(never)` keep long or rare bodies out of their callers.
 ghost use Rattle.std.specs.Prelude.{◌≡◌, ◌↔◌, ◌<◌, IfNone, IfSome, IsTrue, length};
 ghost use Rattle.time_below.specs.Moment.{local_at};
 ghost use Rattle.time_below.specs.Offset.{Offset};
@@ -31,7 +33,6 @@ pub(crate) fn head_at(moment: Timestamp, offset: UtcOffset) -> Option<[u8; LENGT
 }
 
 /// Whether the year is one of 0 to 9,999.
-#[inline]
 fn has_four_digits(date: Date) -> bool
     ensures { IsTrue result ↔ IsFourDigits date.year }
 {
@@ -40,7 +41,6 @@ fn has_four_digits(date: Date) -> bool
 }
 
 /// The text of a date of the years 0 to 9,999 and a time of day.
-#[inline]
 fn head_of(date: Date, time: Time) -> [u8; LENGTH]
     requires { IsFourDigits date.year }
     ensures { (o : Offset)
@@ -62,7 +62,6 @@ fn head_of(date: Date, time: Time) -> [u8; LENGTH]
 }
 
 /// The two digits of a number.
-#[inline]
 pub(crate) fn pair(number: u8) -> [u8; 2]
     requires { number < 100 }
     ensures digits { result ≡ zero_padded 2 number }

@@ -16,7 +16,6 @@ use time_fmt::{Before, RoomSink, Sink};
 use time_provide::ranges::Nanoseconds;
 
 /// Appends the text up to the decimals, these and the offset.
-#[inline(always)]
 pub(crate) fn append_text(
     output: &mut Vec<u8>,
     head: &[u8; LENGTH],
@@ -42,7 +41,6 @@ pub(crate) fn append_text(
 
 /// Appends the bytes, whose number the compiler knows. They are read before any is written, so that they
 /// become a few stores.
-#[inline(always)]
 pub(crate) fn push_each<const N: usize>(output: &mut Vec<u8>, bytes: [u8; N])
     requires long { length bytes ≡ N }
     requires room { HasRoom output.old N }
@@ -57,7 +55,6 @@ pub(crate) fn push_each<const N: usize>(output: &mut Vec<u8>, bytes: [u8; N])
 pub(crate) const LONGEST: usize = 35;
 
 /// The same text in memory of its own.
-#[inline]
 pub(crate) fn text_in_array(
     head: &[u8; LENGTH],
     nanosecond: Nanoseconds,
@@ -78,7 +75,6 @@ pub(crate) fn text_in_array(
 }
 
 /// Puts it at the start of a buffer that held these bytes before.
-#[inline(always)]
 fn put_at_start<B: Before>(
     room: &mut [u8],
     head: &[u8; LENGTH],
@@ -103,7 +99,6 @@ fn put_at_start<B: Before>(
 }
 
 /// Puts the text up to the decimals, these and the offset.
-#[inline(always)]
 fn put_pieces<S: Sink>(
     output: &mut S,
     head: &[u8; LENGTH],

@@ -29,7 +29,6 @@ pub(crate) fn zone_of(offset: UtcOffset) -> [u8; 6]
 }
 
 /// The text of an offset: `Z` for UTC, else these bytes.
-#[inline(always)]
 pub(crate) fn zone_text(zone: &[u8; 6], is_utc: bool) -> &[u8]
     requires six { length zone.now ≡ 6 }
     ensures text { result.now ≡ (if is_utc then codes "Z" else zone.now) }
@@ -39,7 +38,6 @@ pub(crate) fn zone_text(zone: &[u8; 6], is_utc: bool) -> &[u8]
 }
 
 /// Appends `Z` for UTC, else these bytes.
-#[inline(always)]
 pub(crate) fn put_zone(output: &mut Vec<u8>, zone: &[u8; 6], is_utc: bool)
     requires six { length zone.now ≡ 6 }
     requires room { HasRoom output.old (zone_length is_utc) }

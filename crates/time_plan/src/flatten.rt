@@ -1,4 +1,6 @@
 //! The steps of a tree.
+//!
+//! `inline(never)` keeps long or rare bodies out of their callers.
 ghost use Rattle.std.specs.Prelude.{◌≡◌, true, OnOk, MatchOption, IsUtf8, map};
 ghost use Rattle.time_below.specs.Tree.{of_component, all_of, trees};
 ghost use Rattle.time_plan.specs.Literal.{literal_tree};
@@ -40,7 +42,6 @@ pub(crate) fn add_nodes<T: Node>(
 
 /// Adds a text or a component, and nothing of any other node. It becomes part of the loop over a list, so
 /// that no item of these needs a call there.
-#[inline(always)]
 fn add_leaf<T: Node>(
     alloc: Global,
     steps: &mut Vec<Step>,
@@ -82,7 +83,6 @@ pub(crate) fn add_node<T: Node>(
 }
 
 /// Adds a component.
-#[inline]
 fn add_component(
     alloc: Global,
     steps: &mut Vec<Step>,

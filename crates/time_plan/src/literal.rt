@@ -35,7 +35,6 @@ impl Literal {
     }
 
     /// How many bytes there are.
-    #[inline]
     pub(crate) fn len(&self) -> usize
         ensures { result ≡ length (literal_bytes self.now) }
     {

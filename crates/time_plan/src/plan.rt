@@ -1,4 +1,6 @@
 //! Plans: descriptions that were flattened, with what is known of their texts.
+//!
+//! `cold` and `inline(never)` keep long or rare bodies out of their callers.
 ghost use Rattle.std.specs.Prelude.{◌≡◌};
 ghost use Rattle.time_below.specs.Metadata.{trees_metadata};
 ghost use Rattle.time_below.specs.Width.{trees_width, are_guaranteed_text};
@@ -63,7 +65,6 @@ impl Plan {
     }
 
     /// The steps, in order: a component or a run of them, and the literal behind it.
-    #[inline]
     pub fn steps(&self) -> &[Step]
         ensures outcome { ⟦<Plan as Formattable>⟧.outcome_of self.now ≡ trees_outcome (step_trees result.now) }
         ensures width { ⟦<Plan as ComputeMetadata>⟧.width_of self.now ≡ trees_width (step_trees result.now) }
@@ -72,7 +73,6 @@ impl Plan {
     }
 
     /// The plan that has these steps.
-    #[inline]
     fn of_steps(steps: Vec<Step>) -> Plan
         ensures { result.steps ≡ steps }
     {
@@ -119,7 +119,6 @@ impl ComputeMetadata for Plan {
 
     ghost is_guaranteed = { λ plan. are_guaranteed_text (step_trees plan.steps.items) };
 
-    #[inline]
     fn compute_metadata(&self) -> Metadata {
         self.metadata
     }
@@ -128,7 +127,6 @@ impl ComputeMetadata for Plan {
 impl Formattable for Plan {
     ghost outcome_of = { λ plan. trees_outcome (step_trees plan.steps.items) };
 
-    #[inline]
     #[tactic(auto, using(time_fmt::proofs::EndLemmas::answered))]
     fn write_into<V: ComponentProvider>(
         &self,
@@ -143,9 +141,7 @@ impl Formattable for Plan {
         }
     }
 
-    // This becomes part of the caller, so that no result lies in memory. No vector has room for the
-    // greatest `usize`, so that a greater width is refused too.
-    #[inline]
+    // No vector has room for the greatest `usize`, so that a greater width is refused too.
     fn format_into<V: ComponentProvider>(
         &self,
         output: &mut Vec<u8>,
@@ -158,7 +154,6 @@ impl Formattable for Plan {
         self.write_into(output, value, state)
     }
 
-    #[inline]
     fn fits_plainly(&self, room: usize) -> bool {
         let width = self.metadata.max_bytes_needed;
         width < usize::MAX && width <= room

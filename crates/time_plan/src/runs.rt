@@ -1,4 +1,7 @@
 //! Dates and times of day at the front of a list.
+//!
+//! Without `inline(always)` the compiler leaves calls of the functions that have it. `cold` keeps
+//! long or rare bodies out of their callers.
 ghost use Rattle.std.specs.Prelude.{◌≡◌, ◌∷◌, [], true, IfSome, map, drop};
 ghost use Rattle.std.specs.Str.{is_utf8};
 ghost use Rattle.time_below.specs.Facts.{Facts};
@@ -78,7 +81,6 @@ fn byte_of<T: Node>(node: &T) -> Option<u8>
 }
 
 /// The current component in the place of a deprecated one, where it is as wide.
-#[inline]
 pub(crate) fn kept_of(component: Component) -> Component
     ensures outcome { (f : Facts) → component_outcome result f ≡ component_outcome component f }
     ensures width { component_width result ≡ component_width component }

@@ -1,4 +1,6 @@
 //! What a step shows of a value.
+//!
+//! Without `inline` the compiler leaves a call of the function that has it.
 ghost use Rattle.std.specs.Prelude.{◌≡◌, ◌∷◌, [], true, IfSome};
 ghost use Rattle.std.specs.Str.{is_utf8};
 
@@ -19,7 +21,6 @@ impl Shown {
     ghost use Rattle.time_plan.specs.Shown.{shown_tree};
 
     /// The most bytes that are shown.
-    #[inline]
     pub fn width(&self) -> usize
         ensures { result ≡ tree_width (shown_tree self.now) }
     {

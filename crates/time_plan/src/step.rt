@@ -25,7 +25,6 @@ impl Step {
     ghost use Rattle.time_plan.specs.Steps.{step_tree};
 
     /// What is known of the text.
-    #[inline]
     pub(crate) fn metadata(&self) -> Metadata
         ensures { result ≡ tree_metadata (step_tree self.now) }
     {
@@ -36,7 +35,6 @@ impl Step {
     }
 
     /// Whether there is plainly no literal behind what is shown.
-    #[inline]
     pub(crate) fn has_no_literal(&self) -> bool
         ensures { IsTrue result → (literal_bytes self.now.literal ≡ []) × (self.now.is_text ≡ true) }
     {
@@ -44,7 +42,6 @@ impl Step {
     }
 
     /// Puts another literal behind what is shown.
-    #[inline]
     pub(crate) fn end_with(&mut self, literal: Literal, is_text: bool)
         requires utf8 { is_text ≡ true → IsUtf8 (literal_bytes literal) }
         ensures shown { self.new.shown ≡ self.old.shown }

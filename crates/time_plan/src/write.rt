@@ -1,4 +1,7 @@
 //! The loop over the steps of a plan.
+//!
+//! Without `inline(always)` the compiler leaves calls of the functions that have it.
+//! `inline(never)` keeps long or rare bodies out of their callers.
 ghost use Rattle.std.specs.Prelude.{◌≡◌, MatchOption, length};
 ghost use Rattle.time_below.specs.Tree.{all_of};
 ghost use Rattle.time_below.specs.Width.{tree_width, trees_width};
@@ -59,7 +62,6 @@ pub fn write_steps<S: Sink, V: ComponentProvider>(
 
 /// Writes a step that is met often, and returns its refusal, if it is refused. Of any other it writes
 /// nothing, and returns `None`. It becomes part of the loop.
-#[inline(always)]
 fn write_step<S: Sink, V: ComponentProvider>(
     step: &Step,
     output: &mut S,
@@ -84,7 +86,6 @@ fn write_step<S: Sink, V: ComponentProvider>(
 
 /// Writes what a step shows, if that is met often, and returns its refusal, if it is refused. Of any other
 /// component it writes nothing, and returns `None`.
-#[inline(always)]
 fn write_shown<S: Sink, V: ComponentProvider>(
     shown: &Shown,
     output: &mut S,

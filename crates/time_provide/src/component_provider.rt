@@ -1,4 +1,6 @@
 //! The components of a value.
+//!
+//! Without `inline(always)` the compiler leaves calls of the functions that have it.
 ghost use Rattle.std.specs.Prelude.{◌≡◌, ◌≤◌, ◌<◌, Bool, IsTrue, unsigned_abs};
 ghost use Rattle.std.specs.Int.{IsInRange};
 ghost use Rattle.time_below.specs.Calendar.{IsDate};
@@ -142,7 +144,6 @@ pub trait ComponentProvider {
     }
 
     /// The day of the year, 1 to 366.
-    #[inline(always)]
     final fn ordinal(&self, state: &mut Self::State) -> Ordinal
         requires supplied { IsTrue SUPPLIES_DATE }
         requires agrees { agrees state.old self.now }
@@ -167,7 +168,6 @@ pub trait ComponentProvider {
     }
 
     /// The week of the week calendar, 1 to 53 (ISO 8601-1:2019, week date).
-    #[inline(always)]
     final fn iso_week_number(&self, state: &mut Self::State) -> IsoWeekNumber
         requires supplied { IsTrue SUPPLIES_DATE }
         requires agrees { agrees state.old self.now }
@@ -181,7 +181,6 @@ pub trait ComponentProvider {
     }
 
     /// The week of the year, 0 to 53, where week 1 begins on the first Monday.
-    #[inline(always)]
     final fn monday_based_week(&self, state: &mut Self::State) -> MondayBasedWeek
         requires supplied { IsTrue SUPPLIES_DATE }
         requires agrees { agrees state.old self.now }
@@ -194,7 +193,6 @@ pub trait ComponentProvider {
     }
 
     /// The week of the year, 0 to 53, where week 1 begins on the first Sunday.
-    #[inline(always)]
     final fn sunday_based_week(&self, state: &mut Self::State) -> SundayBasedWeek
         requires supplied { IsTrue SUPPLIES_DATE }
         requires agrees { agrees state.old self.now }
@@ -289,7 +287,6 @@ pub trait ComponentProvider {
     }
 
     /// Whether some part of the offset is below zero.
-    #[inline(always)]
     final fn offset_is_negative(&self, state: &mut Self::State) -> bool
         requires supplied { IsTrue SUPPLIES_OFFSET }
         requires agrees { agrees state.old self.now }
@@ -301,7 +298,6 @@ pub trait ComponentProvider {
     }
 
     /// Whether all parts of the offset are zero.
-    #[inline(always)]
     final fn offset_is_utc(&self, state: &mut Self::State) -> bool
         requires supplied { IsTrue SUPPLIES_OFFSET }
         requires agrees { agrees state.old self.now }
@@ -313,7 +309,6 @@ pub trait ComponentProvider {
     }
 
     /// The hour of the offset from UTC, -25 to 25.
-    #[inline(always)]
     final fn offset_hour(&self, state: &mut Self::State) -> OffsetHours
         requires supplied { IsTrue SUPPLIES_OFFSET }
         requires agrees { agrees state.old self.now }
@@ -326,7 +321,6 @@ pub trait ComponentProvider {
     }
 
     /// The minute of the offset from UTC, -59 to 59.
-    #[inline(always)]
     final fn offset_minute(&self, state: &mut Self::State) -> OffsetMinutes
         requires supplied { IsTrue SUPPLIES_OFFSET }
         requires agrees { agrees state.old self.now }
@@ -339,7 +333,6 @@ pub trait ComponentProvider {
     }
 
     /// The second of the offset from UTC, -59 to 59.
-    #[inline(always)]
     final fn offset_second(&self, state: &mut Self::State) -> OffsetSeconds
         requires supplied { IsTrue SUPPLIES_OFFSET }
         requires agrees { agrees state.old self.now }
@@ -352,7 +345,6 @@ pub trait ComponentProvider {
     }
 
     /// The seconds since 1970-01-01T00:00:00 UTC, rounded down, at most 14 digits.
-    #[inline(always)]
     final fn unix_timestamp_seconds(&self, state: &mut Self::State) -> i64
         requires supplied { IsTrue SUPPLIES_TIMESTAMP }
         requires agrees { agrees state.old self.now }
@@ -365,7 +357,6 @@ pub trait ComponentProvider {
     }
 
     /// The milliseconds since 1970-01-01T00:00:00 UTC, rounded toward zero, at most 17 digits.
-    #[inline(always)]
     final fn unix_timestamp_milliseconds(&self, state: &mut Self::State) -> i64
         requires supplied { IsTrue SUPPLIES_TIMESTAMP }
         requires agrees { agrees state.old self.now }

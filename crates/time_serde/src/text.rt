@@ -12,7 +12,6 @@ use time_fmt::{Before, RoomSink};
 use time_known::sink::Text;
 
 /// Puts the text at the start of the buffer, and returns the number of its bytes.
-#[inline(always)]
 pub(crate) fn put_at_start<T: Text>(text: &T, room: &mut [u8]) -> usize
     requires room { T.width text.now ≤ length room.old }
     ensures fits { result ≤ length room.old }
@@ -24,7 +23,6 @@ pub(crate) fn put_at_start<T: Text>(text: &T, room: &mut [u8]) -> usize
 }
 
 /// Puts it at the start of a buffer that held these bytes before.
-#[inline(always)]
 fn put_before<B: Before, T: Text>(text: &T, room: &mut [u8]) -> usize
     requires before { room.old ≡ B.before }
     requires room { T.width text.now ≤ length room.old }

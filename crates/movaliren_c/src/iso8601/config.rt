@@ -81,7 +81,6 @@ fn sign_at(number: u8) -> Result<DecimalSign, Reason>
 }
 
 /// The configuration that these numbers choose, if each of them is one that there is.
-#[inline(always)]
 pub fn config_at(numbers: &Iso8601Config) -> Result<Config, Reason>
     ensures { result ≡ choices_at numbers.now }
 {
@@ -98,7 +97,6 @@ pub fn config_at(numbers: &Iso8601Config) -> Result<Config, Reason>
 }
 
 /// What these numbers choose of a text with separators, if the rest is chosen as by most callers.
-#[inline(always)]
 pub fn separated_config_at(numbers: &Iso8601Config) -> Option<Usual>
     ensures chosen { IfSome result (λ u. choices_at numbers.now ≡ Ok (separated u)) }
     ensures separators { IfSome result (λ u. IsTrue u.has_separators) }

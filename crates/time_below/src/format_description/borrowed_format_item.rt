@@ -29,7 +29,6 @@ impl Node for BorrowedFormatItem<'_> {
 
     ghost size = { borrowed_size };
 
-    #[inline]
     fn layer(&self) -> Layer<'_, Self> {
         match self {
             BorrowedFormatItem::Literal(bytes) => Layer::Bytes(bytes),
@@ -42,7 +41,6 @@ impl Node for BorrowedFormatItem<'_> {
     }
 
     // Two tests, since a `match` becomes a jump through a table.
-    #[inline(always)]
     fn quick_bound(&self) -> Option<usize> {
         if let BorrowedFormatItem::Component(component) = self {
             return Some(component_bound(component));

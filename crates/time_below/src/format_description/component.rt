@@ -1,4 +1,6 @@
 //! A component of a description.
+//!
+//! Without `inline(always)` the compiler leaves calls of the functions that have it.
 ghost use Rattle.std.specs.Prelude.{◌≡◌, ◌≤◌, IsTrue};
 ghost use Rattle.time_below.specs.Conversion.{current_component, is_current};
 ghost use Rattle.time_below.specs.Group.{group_of};
@@ -209,7 +211,6 @@ pub fn component_width(component: &Component) -> usize
 }
 
 /// A bound of the width, the same whatever the choices are, so that the compiler makes a table of it.
-#[inline(always)]
 pub fn component_bound(component: &Component) -> usize
     ensures { component_width component.now ≤ result }
 {

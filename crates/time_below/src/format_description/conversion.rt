@@ -1,4 +1,6 @@
 //! The current component in the place of each deprecated one.
+//!
+//! `inline(never)` keeps long or rare bodies out of their callers.
 ghost use Rattle.std.specs.Prelude.{◌≡◌, IsTrue};
 ghost use Rattle.time_below.specs.Conversion.{current_component, is_current};
 

@@ -1,4 +1,6 @@
 //! A description of the third version, over parts that are borrowed or its own.
+//!
+//! Without `inline(always)` the compiler leaves calls of the functions that have it.
 ghost use Rattle.std.specs.Prelude.{◌≡◌, min};
 ghost use Rattle.time_below.specs.Conversion.{current_component};
 ghost use Rattle.time_below.specs.Size.{v3_size};

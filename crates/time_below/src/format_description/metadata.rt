@@ -1,4 +1,6 @@
 //! What is known of a text before it is written.
+//!
+//! `inline(never)` keeps long or rare bodies out of their callers.
 ghost use Rattle.std.specs.Prelude.{◌≡◌, ◌+◌, ◌≤◌, fold, map, min, true, IfSome, IsTrue};
 ghost use Rattle.time_below.specs.Metadata.{tree_metadata, trees_metadata};
 ghost use Rattle.time_below.specs.Tree.{trees};
@@ -20,7 +22,6 @@ pub struct Metadata {
 
 impl Metadata {
     // What is known once a text of at most this many bytes comes after.
-    #[inline(always)]
     fn with_text(self, width: usize) -> Metadata
         ensures width { result.max_bytes_needed ≡ min (self.max_bytes_needed + width) usize.MAX }
         ensures text { result.guaranteed_utf8 ≡ self.guaranteed_utf8 }
@@ -94,7 +95,6 @@ pub fn metadata_of_nodes<T: Node>(nodes: &[T]) -> Metadata
 
 // The most bytes of a text or a component, and nothing of any other description. It becomes part of
 // the loop over a list, so that no item of these needs a call there.
-#[inline(always)]
 fn width_of_text<T: Node>(node: &T) -> Option<usize>
     ensures width { IfSome result (λ width. width ≡ tree_width (T.tree node.now)) }
     ensures text { IfSome result (λ _. is_guaranteed_text (T.tree node.now) ≡ true) }
@@ -133,7 +133,6 @@ pub fn metadata_of_node<T: Node>(node: &T) -> Metadata
 
 /// Whether the quick bounds of the items come to at most so many bytes, which are then enough for their
 /// text. It is `false` where an item has no such bound.
-#[inline]
 pub fn nodes_fit<T: Node>(nodes: &[T], room: usize) -> bool
     ensures { IsTrue result → trees_width (trees (map T.tree nodes.now)) ≤ room }
 {

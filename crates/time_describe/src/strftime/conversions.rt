@@ -1,4 +1,7 @@
 //! The conversions of strftime, by the letter that each one has.
+//!
+//! Without `inline(always)` the compiler leaves calls of the functions that have it.
+//! `inline(never)` keeps long or rare bodies out of their callers.
 ghost use Rattle.std.specs.Prelude.{◌≡◌, ◌∷◌, [], option_map};
 ghost use Rattle.time_describe.specs.Conversions.{flag_named, number, word, sign, composition, width, refusal};
 
@@ -7,7 +10,6 @@ use time_below::format_description::modifier::{Padding, SubsecondDigits};
 use time_below::format_description::{Component, modifier};
 
 /// The padding that a flag asks for.
-#[inline(always)]
 #[tactic(auto, unfolding(crate::specs::Conversions::flag_named))]
 pub fn flag_named(byte: u8) -> Option<Padding>
     ensures { result ≡ flag_named byte }
@@ -98,7 +100,6 @@ pub fn number(letter: u8, flag: Option<Padding>) -> Option<Component>
 }
 
 /// The name or the fraction that a letter stands for.
-#[inline(always)]
 #[tactic(auto, unfolding(crate::specs::Conversions::word))]
 pub fn word(letter: u8) -> Option<Component>
     ensures { result ≡ word letter }
@@ -154,7 +155,6 @@ pub fn composition(letter: u8) -> Option<&'static [u8]>
 }
 
 /// The byte that a letter stands for.
-#[inline(always)]
 #[tactic(auto, unfolding(crate::specs::Conversions::sign))]
 pub fn sign(letter: u8) -> Option<u8>
     ensures { option_map (λ byte. byte ∷ []) result ≡ sign letter }
@@ -168,7 +168,6 @@ pub fn sign(letter: u8) -> Option<u8>
 }
 
 /// How many digits of a fraction a digit asks for.
-#[inline(always)]
 #[tactic(auto, unfolding(crate::specs::Conversions::width))]
 pub fn width(digit: u8) -> Option<SubsecondDigits>
     ensures { result ≡ width digit }

@@ -1,4 +1,7 @@
 //! The parts of a text in the syntax of strftime, before anything is made of them.
+//!
+//! Without `inline(always)` the compiler leaves calls of the functions that have it.
+//! `inline(never)` keeps long or rare bodies out of their callers.
 ghost use Rattle.std.specs.Prelude.{◌≡◌, ◌≤◌, ◌<◌, ◌+◌, ℕ, List, length, IfOk, option_map, position};
 ghost use Rattle.std.specs.List.{position_or_len};
 ghost use Rattle.time_describe.specs.Conversions.{component_of, is_offered, refusal_behind_flag, items_of};
@@ -60,7 +63,6 @@ fn refusal_behind_flag(letter: u8) -> StrftimeReason
 }
 
 /// What a letter stands for that has no flag.
-#[inline(always)]
 fn part_of(letter: u8) -> Option<Part<'static>>
     ensures { (own : List ℕ) → option_map (items_of_part own) result ≡ items_of letter }
 {
@@ -182,7 +184,6 @@ fn conversion<'a>(bytes: &'a [u8]) -> Result<(Part<'a>, usize), Fault>
 }
 
 /// The position of the first `%`.
-#[inline(always)]
 fn place_of_percent(bytes: &[u8]) -> Option<usize>
     ensures { result ≡ position is_percent bytes.now }
 {
@@ -190,7 +191,6 @@ fn place_of_percent(bytes: &[u8]) -> Option<usize>
 }
 
 /// How many bytes come before the first `%`.
-#[inline(always)]
 fn literal_len(bytes: &[u8]) -> usize
     ensures place { result ≡ position_or_len is_percent bytes.now }
     ensures inside { result ≤ length bytes.now }
@@ -202,7 +202,6 @@ fn literal_len(bytes: &[u8]) -> usize
 }
 
 /// The first part of a text, and how many bytes belong to it behind the first one.
-#[inline(always)]
 #[tactic(auto, unfolding(crate::specs::Strftime::first_part))]
 pub fn first_part<'a>(text: &'a [u8]) -> Result<(Part<'a>, usize), Fault>
     requires { 0 < length text.now }

@@ -22,7 +22,6 @@ impl<const MAX: u8> Model for ri8<MAX> {
 
 impl<const MAX: u8> ri8<MAX> {
     /// Returns `n` if it is in `-MAX` to `MAX`, else `None`.
-    #[inline]
     pub fn new(n: i8) -> Option<Self>
         ensures { SomeIff result (unsigned_abs n ≤ MAX) n }
     {
@@ -34,7 +33,6 @@ impl<const MAX: u8> ri8<MAX> {
     }
 
     /// Returns `n`, which is known to be in `-MAX` to `MAX`; nothing is tested.
-    #[inline]
     pub fn within(n: i8) -> Self
         requires range { unsigned_abs n ≤ MAX }
         ensures { result ≡ n }
@@ -43,7 +41,6 @@ impl<const MAX: u8> ri8<MAX> {
     }
 
     /// The number, from `-MAX` to `MAX`.
-    #[inline]
     pub fn get(self) -> i8
         ensures value { result ≡ self.entry }
         ensures range { unsigned_abs result ≤ MAX }
@@ -54,7 +51,6 @@ impl<const MAX: u8> ri8<MAX> {
     }
 
     /// The magnitude of the number, from 0 to `MAX`.
-    #[inline]
     pub fn abs(self) -> ru8<0, MAX>
         ensures { result ≡ unsigned_abs self.entry }
     {
@@ -62,7 +58,6 @@ impl<const MAX: u8> ri8<MAX> {
     }
 
     /// Whether the number is below zero.
-    #[inline]
     pub fn is_negative(self) -> bool
         ensures { IsTrue result ↔ (self.entry <ℤ pos 0) }
     {
@@ -70,7 +65,6 @@ impl<const MAX: u8> ri8<MAX> {
     }
 
     /// Widens the bounds to a greatest magnitude of at least `MAX`. Nothing is tested.
-    #[inline]
     pub fn expand<const HIGH: u8>(self) -> ri8<HIGH>
         requires greatest { MAX ≤ HIGH }
         ensures { result ≡ self.entry }
@@ -79,7 +73,6 @@ impl<const MAX: u8> ri8<MAX> {
     }
 
     /// Narrows the bounds to `-HIGH` to `HIGH`, or returns `None` if the number is outside.
-    #[inline]
     pub fn narrow<const HIGH: u8>(self) -> Option<ri8<HIGH>>
         ensures { SomeIff result (unsigned_abs self.entry ≤ HIGH) self.entry }
     {
@@ -105,7 +98,6 @@ impl<const MAX: u16> Model for ri16<MAX> {
 
 impl<const MAX: u16> ri16<MAX> {
     /// Returns `n` if it is in `-MAX` to `MAX`, else `None`.
-    #[inline]
     pub fn new(n: i16) -> Option<Self>
         ensures { SomeIff result (unsigned_abs n ≤ MAX) n }
     {
@@ -117,7 +109,6 @@ impl<const MAX: u16> ri16<MAX> {
     }
 
     /// Returns `n`, which is known to be in `-MAX` to `MAX`; nothing is tested.
-    #[inline]
     pub fn within(n: i16) -> Self
         requires range { unsigned_abs n ≤ MAX }
         ensures { result ≡ n }
@@ -126,7 +117,6 @@ impl<const MAX: u16> ri16<MAX> {
     }
 
     /// The number, from `-MAX` to `MAX`.
-    #[inline]
     pub fn get(self) -> i16
         ensures value { result ≡ self.entry }
         ensures range { unsigned_abs result ≤ MAX }
@@ -137,7 +127,6 @@ impl<const MAX: u16> ri16<MAX> {
     }
 
     /// The magnitude of the number, from 0 to `MAX`.
-    #[inline]
     pub fn abs(self) -> ru16<0, MAX>
         ensures { result ≡ unsigned_abs self.entry }
     {
@@ -145,7 +134,6 @@ impl<const MAX: u16> ri16<MAX> {
     }
 
     /// Whether the number is below zero.
-    #[inline]
     pub fn is_negative(self) -> bool
         ensures { IsTrue result ↔ (self.entry <ℤ pos 0) }
     {
@@ -153,7 +141,6 @@ impl<const MAX: u16> ri16<MAX> {
     }
 
     /// Widens the bounds to a greatest magnitude of at least `MAX`. Nothing is tested.
-    #[inline]
     pub fn expand<const HIGH: u16>(self) -> ri16<HIGH>
         requires greatest { MAX ≤ HIGH }
         ensures { result ≡ self.entry }
@@ -162,7 +149,6 @@ impl<const MAX: u16> ri16<MAX> {
     }
 
     /// Narrows the bounds to `-HIGH` to `HIGH`, or returns `None` if the number is outside.
-    #[inline]
     pub fn narrow<const HIGH: u16>(self) -> Option<ri16<HIGH>>
         ensures { SomeIff result (unsigned_abs self.entry ≤ HIGH) self.entry }
     {
@@ -188,7 +174,6 @@ impl<const MAX: u32> Model for ri32<MAX> {
 
 impl<const MAX: u32> ri32<MAX> {
     /// Returns `n` if it is in `-MAX` to `MAX`, else `None`.
-    #[inline]
     pub fn new(n: i32) -> Option<Self>
         ensures { SomeIff result (unsigned_abs n ≤ MAX) n }
     {
@@ -200,7 +185,6 @@ impl<const MAX: u32> ri32<MAX> {
     }
 
     /// Returns `n`, which is known to be in `-MAX` to `MAX`; nothing is tested.
-    #[inline]
     pub fn within(n: i32) -> Self
         requires range { unsigned_abs n ≤ MAX }
         ensures { result ≡ n }
@@ -209,7 +193,6 @@ impl<const MAX: u32> ri32<MAX> {
     }
 
     /// The number, from `-MAX` to `MAX`.
-    #[inline]
     pub fn get(self) -> i32
         ensures value { result ≡ self.entry }
         ensures range { unsigned_abs result ≤ MAX }
@@ -220,7 +203,6 @@ impl<const MAX: u32> ri32<MAX> {
     }
 
     /// The magnitude of the number, from 0 to `MAX`.
-    #[inline]
     pub fn abs(self) -> ru32<0, MAX>
         ensures { result ≡ unsigned_abs self.entry }
     {
@@ -228,7 +210,6 @@ impl<const MAX: u32> ri32<MAX> {
     }
 
     /// Whether the number is below zero.
-    #[inline]
     pub fn is_negative(self) -> bool
         ensures { IsTrue result ↔ (self.entry <ℤ pos 0) }
     {
@@ -236,7 +217,6 @@ impl<const MAX: u32> ri32<MAX> {
     }
 
     /// Widens the bounds to a greatest magnitude of at least `MAX`. Nothing is tested.
-    #[inline]
     pub fn expand<const HIGH: u32>(self) -> ri32<HIGH>
         requires greatest { MAX ≤ HIGH }
         ensures { result ≡ self.entry }
@@ -245,7 +225,6 @@ impl<const MAX: u32> ri32<MAX> {
     }
 
     /// Narrows the bounds to `-HIGH` to `HIGH`, or returns `None` if the number is outside.
-    #[inline]
     pub fn narrow<const HIGH: u32>(self) -> Option<ri32<HIGH>>
         ensures { SomeIff result (unsigned_abs self.entry ≤ HIGH) self.entry }
     {

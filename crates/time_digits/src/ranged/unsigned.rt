@@ -21,7 +21,6 @@ impl<const MIN: u8, const MAX: u8> Model for ru8<MIN, MAX> {
 
 impl<const MIN: u8, const MAX: u8> ru8<MIN, MAX> {
     /// Returns `n` if it is in `MIN` to `MAX`, else `None`.
-    #[inline]
     pub fn new(n: u8) -> Option<Self>
         ensures { SomeIff result ((MIN ≤ n) × (n ≤ MAX)) n }
     {
@@ -33,7 +32,6 @@ impl<const MIN: u8, const MAX: u8> ru8<MIN, MAX> {
     }
 
     /// Returns `n`, which is known to be in `MIN` to `MAX`; nothing is tested.
-    #[inline]
     pub fn within(n: u8) -> Self
         requires least { MIN ≤ n }
         requires greatest { n ≤ MAX }
@@ -43,7 +41,6 @@ impl<const MIN: u8, const MAX: u8> ru8<MIN, MAX> {
     }
 
     /// The number, from `MIN` to `MAX`.
-    #[inline]
     pub fn get(self) -> u8
         ensures value { result ≡ self.entry }
         ensures least { MIN ≤ result }
@@ -53,7 +50,6 @@ impl<const MIN: u8, const MAX: u8> ru8<MIN, MAX> {
     }
 
     /// Widens the bounds to some that contain `MIN` to `MAX`. Nothing is tested.
-    #[inline]
     pub fn expand<const LOW: u8, const HIGH: u8>(self) -> ru8<LOW, HIGH>
         requires least { LOW ≤ MIN }
         requires greatest { MAX ≤ HIGH }
@@ -63,7 +59,6 @@ impl<const MIN: u8, const MAX: u8> ru8<MIN, MAX> {
     }
 
     /// Narrows the bounds to `LOW` to `HIGH`, or returns `None` if the number is outside.
-    #[inline]
     pub fn narrow<const LOW: u8, const HIGH: u8>(self) -> Option<ru8<LOW, HIGH>>
         ensures { SomeIff result ((LOW ≤ self.entry) × (self.entry ≤ HIGH)) self.entry }
     {
@@ -89,7 +84,6 @@ impl<const MIN: u16, const MAX: u16> Model for ru16<MIN, MAX> {
 
 impl<const MIN: u16, const MAX: u16> ru16<MIN, MAX> {
     /// Returns `n` if it is in `MIN` to `MAX`, else `None`.
-    #[inline]
     pub fn new(n: u16) -> Option<Self>
         ensures { SomeIff result ((MIN ≤ n) × (n ≤ MAX)) n }
     {
@@ -101,7 +95,6 @@ impl<const MIN: u16, const MAX: u16> ru16<MIN, MAX> {
     }
 
     /// Returns `n`, which is known to be in `MIN` to `MAX`; nothing is tested.
-    #[inline]
     pub fn within(n: u16) -> Self
         requires least { MIN ≤ n }
         requires greatest { n ≤ MAX }
@@ -111,7 +104,6 @@ impl<const MIN: u16, const MAX: u16> ru16<MIN, MAX> {
     }
 
     /// The number, from `MIN` to `MAX`.
-    #[inline]
     pub fn get(self) -> u16
         ensures value { result ≡ self.entry }
         ensures least { MIN ≤ result }
@@ -121,7 +113,6 @@ impl<const MIN: u16, const MAX: u16> ru16<MIN, MAX> {
     }
 
     /// Widens the bounds to some that contain `MIN` to `MAX`. Nothing is tested.
-    #[inline]
     pub fn expand<const LOW: u16, const HIGH: u16>(self) -> ru16<LOW, HIGH>
         requires least { LOW ≤ MIN }
         requires greatest { MAX ≤ HIGH }
@@ -131,7 +122,6 @@ impl<const MIN: u16, const MAX: u16> ru16<MIN, MAX> {
     }
 
     /// Narrows the bounds to `LOW` to `HIGH`, or returns `None` if the number is outside.
-    #[inline]
     pub fn narrow<const LOW: u16, const HIGH: u16>(self) -> Option<ru16<LOW, HIGH>>
         ensures { SomeIff result ((LOW ≤ self.entry) × (self.entry ≤ HIGH)) self.entry }
     {
@@ -157,7 +147,6 @@ impl<const MIN: u32, const MAX: u32> Model for ru32<MIN, MAX> {
 
 impl<const MIN: u32, const MAX: u32> ru32<MIN, MAX> {
     /// Returns `n` if it is in `MIN` to `MAX`, else `None`.
-    #[inline]
     pub fn new(n: u32) -> Option<Self>
         ensures { SomeIff result ((MIN ≤ n) × (n ≤ MAX)) n }
     {
@@ -169,7 +158,6 @@ impl<const MIN: u32, const MAX: u32> ru32<MIN, MAX> {
     }
 
     /// Returns `n`, which is known to be in `MIN` to `MAX`; nothing is tested.
-    #[inline]
     pub fn within(n: u32) -> Self
         requires least { MIN ≤ n }
         requires greatest { n ≤ MAX }
@@ -179,7 +167,6 @@ impl<const MIN: u32, const MAX: u32> ru32<MIN, MAX> {
     }
 
     /// The number, from `MIN` to `MAX`.
-    #[inline]
     pub fn get(self) -> u32
         ensures value { result ≡ self.entry }
         ensures least { MIN ≤ result }
@@ -189,7 +176,6 @@ impl<const MIN: u32, const MAX: u32> ru32<MIN, MAX> {
     }
 
     /// Widens the bounds to some that contain `MIN` to `MAX`. Nothing is tested.
-    #[inline]
     pub fn expand<const LOW: u32, const HIGH: u32>(self) -> ru32<LOW, HIGH>
         requires least { LOW ≤ MIN }
         requires greatest { MAX ≤ HIGH }
@@ -199,7 +185,6 @@ impl<const MIN: u32, const MAX: u32> ru32<MIN, MAX> {
     }
 
     /// Narrows the bounds to `LOW` to `HIGH`, or returns `None` if the number is outside.
-    #[inline]
     pub fn narrow<const LOW: u32, const HIGH: u32>(self) -> Option<ru32<LOW, HIGH>>
         ensures { SomeIff result ((LOW ≤ self.entry) × (self.entry ≤ HIGH)) self.entry }
     {

@@ -15,7 +15,6 @@ use time_provide::ComponentProvider;
 /// Allocates nothing.
 ///
 /// Returns the refusal that ends the text, if there is one. The bytes before it stay.
-#[inline]
 pub fn write_into_sink<T: Node, S: Sink, V: ComponentProvider>(
     nodes: &[T],
     output: &mut S,

@@ -1,4 +1,6 @@
 //! Lists of items, which mean what a compound of the same items means.
+//!
+//! Without `inline(always)` the compiler leaves calls of the functions that have it.
 #![tactic(auto, using(crate::proofs::EndLemmas::answered))]
 
 ghost use Rattle.std.specs.Prelude.{map};

@@ -1,5 +1,7 @@
 //! Descriptions that are known at compile time: a text, the choices of a component, and a pair of
 //! descriptions.
+//!
+//! Without `inline(always)` the compiler leaves calls of the functions that have it.
 ghost use Rattle.std.specs.Char.{is_ascii};
 ghost use Rattle.std.specs.List.{list_all};
 ghost use Rattle.std.specs.Prelude.{◌≡◌, ◌+◌, ◌&&◌, length, true};
@@ -24,7 +26,6 @@ impl<const N: usize> ComputeMetadata for Literal<N> {
 
     ghost is_guaranteed = { λ text. list_all is_ascii text.0 };
 
-    #[inline(always)]
     fn compute_metadata(&self) -> Metadata {
         Metadata {
             max_bytes_needed: N,
@@ -32,7 +33,6 @@ impl<const N: usize> ComputeMetadata for Literal<N> {
         }
     }
 
-    #[inline]
     fn width(&self) -> usize {
         N
     }
@@ -41,7 +41,6 @@ impl<const N: usize> ComputeMetadata for Literal<N> {
 impl<const N: usize> Formattable for Literal<N> {
     ghost outcome_of = { λ text _. done text.0 };
 
-    #[inline(always)]
     fn write_into<V: ComponentProvider>(
         &self,
         output: &mut Vec<u8>,
@@ -53,7 +52,6 @@ impl<const N: usize> Formattable for Literal<N> {
 }
 
 // Whether the bytes are ASCII.
-#[inline]
 fn is_text(bytes: &[u8]) -> bool
     ensures { result ≡ list_all is_ascii bytes.now }
 {
@@ -66,12 +64,10 @@ impl<A: ComputeMetadata, B: ComputeMetadata> ComputeMetadata for (A, B) {
 
     ghost is_guaranteed = { λ both. A.is_guaranteed both.0 && B.is_guaranteed both.1 };
 
-    #[inline(always)]
     fn compute_metadata(&self) -> Metadata {
         self.0.compute_metadata() + self.1.compute_metadata()
     }
 
-    #[inline]
     fn width(&self) -> usize {
         self.0.width().saturating_add(self.1.width())
     }
@@ -128,7 +124,6 @@ impl<M: Modifier> ComputeMetadata for M {
 
     ghost is_guaranteed = { λ _. true };
 
-    #[inline(always)]
     fn compute_metadata(&self) -> Metadata {
         Metadata {
             max_bytes_needed: self.group_and_width().1,
@@ -136,7 +131,6 @@ impl<M: Modifier> ComputeMetadata for M {
         }
     }
 
-    #[inline]
     fn width(&self) -> usize {
         self.group_and_width().1
     }

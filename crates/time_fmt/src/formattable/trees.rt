@@ -96,7 +96,6 @@ impl Formattable for FormatDescriptionV3<'_> {
 /// Allocates nothing.
 ///
 /// Returns the number of bytes appended, or the refusal that ends the text.
-#[inline]
 pub fn v3_write_into<V: ComponentProvider>(
     item: &FormatDescriptionV3Inner<'_>,
     output: &mut Vec<u8>,

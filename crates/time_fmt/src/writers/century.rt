@@ -24,7 +24,6 @@ use time_provide::ranges::{ExtendedCentury, LastTwo, StandardCentury, Year};
 
 /// Appends the century of a year, padded to two places as `modifier` says, after a sign if the year is
 /// negative, the century is above 99, or `modifier` wants one.
-#[inline]
 pub fn fmt_calendar_year_century_extended_range<S: Sink>(
     output: &mut S,
     century: ExtendedCentury,
@@ -48,12 +47,10 @@ pub fn fmt_calendar_year_century_extended_range<S: Sink>(
 impl Modifier for modifier::CalendarYearCenturyExtendedRange {
     ghost component_of = { component.CalendarYearCenturyExtendedRange };
 
-    #[inline]
     fn group_and_width(self) -> (Group, usize) {
         (Group::Date, 5)
     }
 
-    #[inline(always)]
     fn write_supplied<S: Sink, V: ComponentProvider>(
         self,
         output: &mut S,
@@ -68,7 +65,6 @@ impl Modifier for modifier::CalendarYearCenturyExtendedRange {
 
 /// Appends the century of a year, padded to two places as `modifier` says, after a sign if the year is
 /// negative or `modifier` wants one.
-#[inline]
 pub fn fmt_calendar_year_century_standard_range<S: Sink>(
     output: &mut S,
     century: StandardCentury,
@@ -92,12 +88,10 @@ pub fn fmt_calendar_year_century_standard_range<S: Sink>(
 impl Modifier for modifier::CalendarYearCenturyStandardRange {
     ghost component_of = { component.CalendarYearCenturyStandardRange };
 
-    #[inline]
     fn group_and_width(self) -> (Group, usize) {
         (Group::Date, 3)
     }
 
-    #[inline(always)]
     fn write_supplied<S: Sink, V: ComponentProvider>(
         self,
         output: &mut S,
@@ -114,7 +108,6 @@ impl Modifier for modifier::CalendarYearCenturyStandardRange {
 
 /// Appends the century of a year of the week calendar, padded to two places as `modifier` says, after a sign
 /// if the year is negative, the century is above 99, or `modifier` wants one.
-#[inline]
 pub fn fmt_iso_year_century_extended_range<S: Sink>(
     output: &mut S,
     century: ExtendedCentury,
@@ -138,12 +131,10 @@ pub fn fmt_iso_year_century_extended_range<S: Sink>(
 impl Modifier for modifier::IsoYearCenturyExtendedRange {
     ghost component_of = { component.IsoYearCenturyExtendedRange };
 
-    #[inline]
     fn group_and_width(self) -> (Group, usize) {
         (Group::Date, 5)
     }
 
-    #[inline(always)]
     fn write_supplied<S: Sink, V: ComponentProvider>(
         self,
         output: &mut S,
@@ -158,7 +149,6 @@ impl Modifier for modifier::IsoYearCenturyExtendedRange {
 
 /// Appends the century of a year of the week calendar, padded to two places as `modifier` says, after a sign
 /// if the year is negative or `modifier` wants one.
-#[inline]
 pub fn fmt_iso_year_century_standard_range<S: Sink>(
     output: &mut S,
     century: StandardCentury,
@@ -182,12 +172,10 @@ pub fn fmt_iso_year_century_standard_range<S: Sink>(
 impl Modifier for modifier::IsoYearCenturyStandardRange {
     ghost component_of = { component.IsoYearCenturyStandardRange };
 
-    #[inline]
     fn group_and_width(self) -> (Group, usize) {
         (Group::Date, 3)
     }
 
-    #[inline(always)]
     fn write_supplied<S: Sink, V: ComponentProvider>(
         self,
         output: &mut S,
@@ -203,7 +191,6 @@ impl Modifier for modifier::IsoYearCenturyStandardRange {
 }
 
 /// Appends the last two digits of the year, 0 to 99, padded to two places as `modifier` says.
-#[inline]
 pub fn fmt_calendar_year_last_two<S: Sink>(
     output: &mut S,
     last_two: LastTwo,
@@ -220,12 +207,10 @@ pub fn fmt_calendar_year_last_two<S: Sink>(
 impl Modifier for modifier::CalendarYearLastTwo {
     ghost component_of = { component.CalendarYearLastTwo };
 
-    #[inline]
     fn group_and_width(self) -> (Group, usize) {
         (Group::Date, 2)
     }
 
-    #[inline(always)]
     #[tactic(auto, using(crate::proofs::TextLemmas::text_lengths))]
     fn write_supplied<S: Sink, V: ComponentProvider>(
         self,
@@ -239,7 +224,6 @@ impl Modifier for modifier::CalendarYearLastTwo {
 }
 
 /// Appends the last two digits of the week calendar's year, 0 to 99, padded to two places as `modifier` says.
-#[inline]
 pub fn fmt_iso_year_last_two<S: Sink>(
     output: &mut S,
     last_two: LastTwo,
@@ -256,12 +240,10 @@ pub fn fmt_iso_year_last_two<S: Sink>(
 impl Modifier for modifier::IsoYearLastTwo {
     ghost component_of = { component.IsoYearLastTwo };
 
-    #[inline]
     fn group_and_width(self) -> (Group, usize) {
         (Group::Date, 2)
     }
 
-    #[inline(always)]
     #[tactic(auto, using(crate::proofs::TextLemmas::text_lengths))]
     fn write_supplied<S: Sink, V: ComponentProvider>(
         self,
@@ -327,7 +309,6 @@ fn write_standard_century<S: Sink>(
 }
 
 // The year without its last two digits and without its sign, and whether the year is negative.
-#[inline(always)]
 fn century_of(year: Year) -> (ExtendedCentury, bool)
     ensures century { unsigned_abs result.0 ≡ century_of year }
     ensures sign { result.1 ≡ int_lt year (pos 0) }
@@ -338,7 +319,6 @@ fn century_of(year: Year) -> (ExtendedCentury, bool)
 }
 
 // The same of a year of at most four digits.
-#[inline(always)]
 fn standard_century_of(year: Year) -> Option<(StandardCentury, bool)>
     ensures { MatchOption result (99 < century_of year)
         (λ both. (unsigned_abs both.0 ≡ century_of year) × (both.1 ≡ int_lt year (pos 0)) × (century_of year ≤ 99)) }

@@ -1,4 +1,6 @@
 //! The day, the month and the day of the year: their texts, maximum lengths and writers.
+//!
+//! Without `inline(always)` the compiler leaves calls of the functions that have it.
 #![tactic(auto, using(crate::proofs::TextLemmas::text_lengths))]
 
 ghost use Rattle.std.specs.Prelude.{◌≡◌, length, take};
@@ -34,7 +36,6 @@ pub fn fmt_day<S: Sink>(output: &mut S, day: Day, modifier: modifier::Day) -> us
 impl Modifier for modifier::Day {
     ghost component_of = { component.Day };
 
-    #[inline]
     fn group_and_width(self) -> (Group, usize) {
         (Group::Date, 2)
     }
@@ -70,7 +71,6 @@ pub fn fmt_month_short<S: Sink>(
 impl Modifier for modifier::MonthShort {
     ghost component_of = { component.MonthShort };
 
-    #[inline]
     fn group_and_width(self) -> (Group, usize) {
         (Group::Date, 3)
     }
@@ -101,7 +101,6 @@ pub fn fmt_month_long<S: Sink>(output: &mut S, month: Month, modifier: modifier:
 impl Modifier for modifier::MonthLong {
     ghost component_of = { component.MonthLong };
 
-    #[inline]
     fn group_and_width(self) -> (Group, usize) {
         (Group::Date, 9)
     }
@@ -138,7 +137,6 @@ pub fn fmt_month_numerical<S: Sink>(
 impl Modifier for modifier::MonthNumerical {
     ghost component_of = { component.MonthNumerical };
 
-    #[inline]
     fn group_and_width(self) -> (Group, usize) {
         (Group::Date, 2)
     }
@@ -158,7 +156,6 @@ impl Modifier for modifier::MonthNumerical {
 }
 
 /// Appends the day of the year, 1 to 366, padded to three places as `modifier` says.
-#[inline]
 pub fn fmt_ordinal<S: Sink>(output: &mut S, ordinal: Ordinal, modifier: modifier::Ordinal) -> usize
     requires room { Fits (S.buffer output.old) (length (padded_text modifier.padding 3 ordinal)) }
     ensures writes { Puts (S.buffer output.old) (S.buffer output.new) result (padded_text modifier.padding 3 ordinal) }
@@ -171,12 +168,10 @@ pub fn fmt_ordinal<S: Sink>(output: &mut S, ordinal: Ordinal, modifier: modifier
 impl Modifier for modifier::Ordinal {
     ghost component_of = { component.Ordinal };
 
-    #[inline]
     fn group_and_width(self) -> (Group, usize) {
         (Group::Date, 3)
     }
 
-    #[inline(always)]
     fn write_supplied<S: Sink, V: ComponentProvider>(
         self,
         output: &mut S,
@@ -189,7 +184,6 @@ impl Modifier for modifier::Ordinal {
 }
 
 // The English name of a month with spaces after it, in nine bytes, and the number of its letters.
-#[inline]
 fn name_of_month(month: Month) -> (&'static [u8; 9], usize)
     ensures name { take result.1 result.0.now ≡ month_name (month_number month) }
     ensures short { take 3 result.0.now ≡ short_name (month_name (month_number month)) }

@@ -1,4 +1,7 @@
 //! Numbers, and the signs before them.
+//!
+//! Without `inline(always)` the compiler leaves calls of the functions that have it. `cold` and
+//! `inline(never)` keep long or rare bodies out of their callers.
 ghost use Rattle.std.specs.Prelude.{◌≡◌, ◌<◌, ◌≤◌, length, decimal, replicate};
 ghost use Rattle.time_digits.specs.Digits.{fixed, zero_padded};
 ghost use Rattle.time_fmt.specs.Ends.{EndsWhole};
@@ -17,7 +20,6 @@ use time_digits::num_fmt::{
 use time_digits::{ru8, ru16, ru32};
 
 /// Appends a minus if the number is negative, else a plus if a sign is mandatory, else nothing.
-#[inline(always)]
 pub fn fmt_sign<S: Sink>(output: &mut S, is_negative: bool, sign_is_mandatory: bool) -> usize
     requires room { Fits (S.buffer output.old) (length (sign_text is_negative sign_is_mandatory)) }
     ensures writes { Puts (S.buffer output.old) (S.buffer output.new) result (sign_text is_negative sign_is_mandatory) }
@@ -34,7 +36,6 @@ pub fn fmt_sign<S: Sink>(output: &mut S, is_negative: bool, sign_is_mandatory: b
 }
 
 /// Appends one digit.
-#[inline(always)]
 pub fn format_single_digit<S: Sink>(output: &mut S, value: ru8<0, 9>) -> usize
     requires room { Fits (S.buffer output.old) (length (decimal value)) }
     ensures writes { Puts (S.buffer output.old) (S.buffer output.new) result (decimal value) }
@@ -44,7 +45,6 @@ pub fn format_single_digit<S: Sink>(output: &mut S, value: ru8<0, 9>) -> usize
 }
 
 /// Appends a number in two places, with a zero in front where it is below 10.
-#[inline(always)]
 pub fn format_two_digits_pad_zero<S: Sink>(output: &mut S, value: ru8<0, 99>) -> usize
     requires room { Fits (S.buffer output.old) 2 }
     ensures writes { Puts (S.buffer output.old) (S.buffer output.new) 2 (zero_padded 2 value) }
@@ -68,7 +68,6 @@ pub fn format_two_digits<S: Sink>(output: &mut S, value: ru8<0, 99>, padding: Pa
 
 /// Appends two places of rare padding to a sink that is taken out, since most numbers have zeros
 /// in front.
-#[inline]
 pub(super) fn write_two_rarely<S: Sink>(
     output: &mut S,
     value: ru8<0, 99>,
@@ -98,7 +97,6 @@ fn write_two_places<S: Sink>(output: &mut S, value: ru8<0, 99>, padding: Padding
 }
 
 /// Appends a number of at most three digits, padded to three places as `padding` says.
-#[inline]
 #[tactic(auto, using(crate::proofs::TextLemmas::text_lengths))]
 pub fn format_three_digits<S: Sink>(output: &mut S, value: ru16<0, 999>, padding: Padding) -> usize
     requires room { Fits (S.buffer output.old) (length (padded_text padding 3 value)) }
@@ -127,7 +125,6 @@ pub fn format_four_digits<S: Sink>(output: &mut S, value: ru16<0, 9_999>, paddin
 
 // Appends four places of rare padding to a sink that is taken out, since most numbers have zeros
 // in front.
-#[inline]
 fn write_four_rarely<S: Sink>(output: &mut S, value: ru16<0, 9_999>, padding: Padding) -> usize
     requires room { Fits (S.buffer output.old) (length (padded_text padding 4 value)) }
     ensures writes { Puts (S.buffer output.old) (S.buffer output.new) result (padded_text padding 4 value) }
@@ -165,7 +162,6 @@ pub fn format_four_digits_pad_zero<S: Sink>(output: &mut S, value: ru16<0, 9_999
 }
 
 /// Appends a number in five places, with zeros in front.
-#[inline]
 pub fn format_five_digits_pad_zero<S: Sink>(output: &mut S, value: ru32<0, 99_999>) -> usize
     requires room { Fits (S.buffer output.old) (length (zero_padded 5 value)) }
     ensures writes { Puts (S.buffer output.old) (S.buffer output.new) result (zero_padded 5 value) }
@@ -174,7 +170,6 @@ pub fn format_five_digits_pad_zero<S: Sink>(output: &mut S, value: ru32<0, 99_99
 }
 
 /// Appends a number in six places, with zeros in front.
-#[inline]
 pub fn format_six_digits_pad_zero<S: Sink>(output: &mut S, value: ru32<0, 999_999>) -> usize
     requires room { Fits (S.buffer output.old) (length (zero_padded 6 value)) }
     ensures writes { Puts (S.buffer output.old) (S.buffer output.new) result (zero_padded 6 value) }
@@ -184,7 +179,6 @@ pub fn format_six_digits_pad_zero<S: Sink>(output: &mut S, value: ru32<0, 999_99
 
 /// Appends all digits of a number, and nothing before them. The last eight of nine to sixteen digits are
 /// appended as eight, so that the compiler knows their number.
-#[inline]
 pub fn format_u64_pad_none<S: Sink>(output: &mut S, value: u64) -> usize
     requires room { Fits (S.buffer output.old) (length (decimal value)) }
     ensures writes { Puts (S.buffer output.old) (S.buffer output.new) result (decimal value) }
@@ -202,7 +196,6 @@ pub fn format_u64_pad_none<S: Sink>(output: &mut S, value: u64) -> usize
 
 // Appends all digits of a number that has at most eight. Of five to eight the last four have a length
 // that is known.
-#[inline(always)]
 fn write_at_most_eight<S: Sink>(output: &mut S, value: u32) -> usize
     requires most { value < 100_000_000 }
     requires room { Fits (S.buffer output.old) (length (decimal value)) }
@@ -220,7 +213,6 @@ fn write_at_most_eight<S: Sink>(output: &mut S, value: u32) -> usize
 }
 
 /// Appends a number in eight places, with zeros in front.
-#[inline(always)]
 pub(super) fn write_eight_digits<S: Sink>(output: &mut S, value: u32) -> usize
     requires digits { value < 100_000_000 }
     requires room { Fits (S.buffer output.old) 8 }
@@ -233,7 +225,6 @@ pub(super) fn write_eight_digits<S: Sink>(output: &mut S, value: u32) -> usize
 }
 
 /// Appends a number in `width` places, with zeros in front, where it has no more digits than that.
-#[inline]
 pub fn format_int_padded<S: Sink>(output: &mut S, value: u64, width: u8) -> usize
     requires digits { length (decimal value) ≤ width }
     requires room { Fits (S.buffer output.old) (length (zero_padded width value)) }

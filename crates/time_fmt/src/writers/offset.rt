@@ -1,4 +1,6 @@
 //! The components of an offset from UTC: their texts, maximum lengths and writers.
+//!
+//! Without `inline(always)` the compiler leaves calls of the functions that have it.
 #![tactic(auto, using(crate::proofs::TextLemmas::text_lengths))]
 
 ghost use Rattle.std.specs.Prelude.{length, unsigned_abs};
@@ -46,7 +48,6 @@ pub fn fmt_offset_hour<S: Sink>(
 impl Modifier for modifier::OffsetHour {
     ghost component_of = { component.OffsetHour };
 
-    #[inline]
     fn group_and_width(self) -> (Group, usize) {
         (Group::Offset, 3)
     }
@@ -85,7 +86,6 @@ pub fn fmt_offset_minute<S: Sink>(
 impl Modifier for modifier::OffsetMinute {
     ghost component_of = { component.OffsetMinute };
 
-    #[inline]
     fn group_and_width(self) -> (Group, usize) {
         (Group::Offset, 2)
     }
@@ -103,7 +103,6 @@ impl Modifier for modifier::OffsetMinute {
 }
 
 /// Appends the second of the offset, 0 to 59, without a sign, padded to two places as `modifier` says.
-#[inline(always)]
 pub fn fmt_offset_second<S: Sink>(
     output: &mut S,
     second: OffsetSeconds,
@@ -122,12 +121,10 @@ pub fn fmt_offset_second<S: Sink>(
 impl Modifier for modifier::OffsetSecond {
     ghost component_of = { component.OffsetSecond };
 
-    #[inline]
     fn group_and_width(self) -> (Group, usize) {
         (Group::Offset, 2)
     }
 
-    #[inline(always)]
     fn write_supplied<S: Sink, V: ComponentProvider>(
         self,
         output: &mut S,

@@ -1,4 +1,7 @@
 //! Bytes and texts as they are.
+//!
+//! Without `inline(always)` the compiler leaves calls of the functions that have it.
+//! `inline(never)` keeps long or rare bodies out of their callers.
 ghost use Rattle.std.specs.Prelude.{◌≡◌, ◌+◌, ◌<◌, ◌≤◌, ◌++◌, length, take, [], if◌then◌else◌, vec_capacity};
 ghost use Rattle.time_digits.specs.Digits.{joined};
 ghost use Rattle.time_fmt.specs.Sink.{Fits, Puts};
@@ -9,7 +12,6 @@ use std::mem::{forget, replace};
 /// Takes the vector out of its borrow, which keeps an empty one. A call that is not inlined, and
 /// that borrows a vector, keeps that vector in memory for the whole of the caller. So the slow
 /// paths of writers borrow one that they have taken out, and put it back.
-#[inline(always)]
 pub fn take_out(output: &mut Vec<u8>) -> Vec<u8>
     ensures taken { result ≡ output.old }
     ensures left { vec_capacity output.new ≡ 0 }
@@ -19,7 +21,6 @@ pub fn take_out(output: &mut Vec<u8>) -> Vec<u8>
 }
 
 /// Puts the vector back in place of the empty one, which has no memory to free.
-#[inline(always)]
 pub fn put_back(output: &mut Vec<u8>, taken: Vec<u8>)
     ensures put { output.new ≡ taken }
 {
@@ -27,7 +28,6 @@ pub fn put_back(output: &mut Vec<u8>, taken: Vec<u8>)
 }
 
 /// Appends the bytes, and returns their number.
-#[inline(always)]
 pub fn write_bytes<S: Sink>(output: &mut S, bytes: &[u8]) -> usize
     requires room { Fits (S.buffer output.old) (length bytes.now) }
     ensures writes { Puts (S.buffer output.old) (S.buffer output.new) result bytes.now }
@@ -45,7 +45,6 @@ pub fn write_bytes<S: Sink>(output: &mut S, bytes: &[u8]) -> usize
 }
 
 /// Appends the bytes. Where their number is known, the loop is a few stores.
-#[inline(always)]
 pub(crate) fn write_each<S: Sink>(output: &mut S, bytes: &[u8]) -> usize
     requires room { Fits (S.buffer output.old) (length bytes.now) }
     ensures writes { Puts (S.buffer output.old) (S.buffer output.new) result bytes.now }
@@ -76,7 +75,6 @@ pub fn write_literal<S: Sink>(output: &mut S, bytes: &[u8]) -> usize
 }
 
 // Appends a literal of any length to a sink that is taken out.
-#[inline]
 fn write_long_literal<S: Sink>(output: &mut S, bytes: &[u8]) -> usize
     requires room { Fits (S.buffer output.old) (length bytes.now) }
     ensures writes { Puts (S.buffer output.old) (S.buffer output.new) result bytes.now }
@@ -112,7 +110,6 @@ fn write_in_blocks<S: Sink>(output: &mut S, bytes: &[u8])
 }
 
 // Appends four bytes.
-#[inline(always)]
 fn push_four<S: Sink>(output: &mut S, bytes: [u8; 4])
     requires room { Fits (S.buffer output.old) 4 }
     ensures puts { Puts (S.buffer output.old) (S.buffer output.new) 4 bytes }
@@ -125,7 +122,6 @@ fn push_four<S: Sink>(output: &mut S, bytes: [u8; 4])
 }
 
 // Appends the last bytes, at most three.
-#[inline(always)]
 fn push_rest<S: Sink>(output: &mut S, bytes: &[u8])
     requires few { length bytes.now < 4 }
     requires room { Fits (S.buffer output.old) (length bytes.now) }
@@ -149,7 +145,6 @@ fn push_rest<S: Sink>(output: &mut S, bytes: &[u8])
 }
 
 /// Appends the text, and returns the number of its bytes.
-#[inline(always)]
 pub fn write<S: Sink>(output: &mut S, text: &str) -> usize
     requires room { Fits (S.buffer output.old) (length text.now) }
     ensures writes { Puts (S.buffer output.old) (S.buffer output.new) result text.now }
@@ -159,7 +154,6 @@ pub fn write<S: Sink>(output: &mut S, text: &str) -> usize
 
 // Appends a text of two bytes. What becomes part of a large function is counted before anything is
 // folded, so this has no case for other lengths.
-#[inline(always)]
 pub(super) fn write_pair<S: Sink>(output: &mut S, text: &str) -> usize
     requires pair { length text.now ≡ 2 }
     requires room { Fits (S.buffer output.old) 2 }
@@ -201,7 +195,6 @@ pub(super) fn write_first<S: Sink>(output: &mut S, bytes: &[u8; 9], count: usize
 }
 
 /// Appends the texts one after another, and returns the number of their bytes.
-#[inline]
 pub fn write_many<S: Sink>(output: &mut S, texts: &[&str]) -> usize
     requires room { Fits (S.buffer output.old) (length (joined texts.now)) }
     ensures writes { Puts (S.buffer output.old) (S.buffer output.new) result (joined texts.now) }
@@ -215,7 +208,6 @@ pub fn write_many<S: Sink>(output: &mut S, texts: &[&str]) -> usize
 }
 
 /// Appends the text if it is wanted, and returns the number of bytes appended.
-#[inline(always)]
 pub fn write_if<S: Sink>(output: &mut S, is_wanted: bool, text: &str) -> usize
     requires room { Fits (S.buffer output.old) (length (if is_wanted then text.now else [])) }
     ensures writes { Puts (S.buffer output.old) (S.buffer output.new) result (if is_wanted then text.now else []) }
@@ -224,7 +216,6 @@ pub fn write_if<S: Sink>(output: &mut S, is_wanted: bool, text: &str) -> usize
 }
 
 /// Appends the first text if it is wanted, else the other, and returns the number of bytes appended.
-#[inline]
 pub fn write_if_else<S: Sink>(output: &mut S, is_wanted: bool, text: &str, other: &str) -> usize
     requires room { Fits (S.buffer output.old) (length (if is_wanted then text.now else other.now)) }
     ensures writes { Puts (S.buffer output.old) (S.buffer output.new) result

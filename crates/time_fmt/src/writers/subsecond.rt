@@ -1,4 +1,7 @@
 //! The decimals of the second: their texts, maximum length and writer.
+//!
+//! Without `inline(always)` the compiler leaves calls of the functions that have it. `cold` and
+//! `inline(never)` keep long or rare bodies out of their callers.
 ghost use Rattle.std.specs.Prelude.{◌≡◌, ◌<◌, length, take};
 ghost use Rattle.time_below.specs.declared.format_description.component.Component.TheVariants as component;
 ghost use Rattle.time_below.specs.declared.format_description.modifier.SubsecondDigits.TheVariants as SubsecondDigits;
@@ -46,7 +49,6 @@ pub fn fmt_subsecond<S: Sink>(
 impl Modifier for modifier::Subsecond {
     ghost component_of = { component.Subsecond };
 
-    #[inline]
     fn group_and_width(self) -> (Group, usize) {
         (Group::Time, subsecond_width(self.digits))
     }
@@ -64,7 +66,6 @@ impl Modifier for modifier::Subsecond {
 }
 
 // Any number of decimals, apart, since few texts have another than three or as many as are needed.
-#[inline]
 fn write_rare_decimals<S: Sink>(
     output: &mut S,
     nanosecond: Nanoseconds,
@@ -164,7 +165,6 @@ pub fn write_fraction<S: Sink>(output: &mut S, nanosecond: Nanoseconds) -> usize
 
 // Appends any fraction to a sink that is taken out, since most fractions have nine, three or six
 // digits.
-#[inline]
 fn write_rare_fraction<S: Sink>(output: &mut S, nanosecond: Nanoseconds) -> usize
     requires room { Fits (S.buffer output.old) (length (trimmed_fraction nanosecond)) }
     ensures writes { Puts (S.buffer output.old) (S.buffer output.new) result (trimmed_fraction nanosecond) }
@@ -178,7 +178,6 @@ fn write_rare_fraction<S: Sink>(output: &mut S, nanosecond: Nanoseconds) -> usiz
 /// Appends the first six of the nine digits. Allocates nothing and refuses nothing.
 ///
 /// Returns the number of bytes appended.
-#[inline(always)]
 pub fn write_six_decimals<S: Sink>(output: &mut S, nanosecond: Nanoseconds) -> usize
     requires room { Fits (S.buffer output.old) 6 }
     ensures writes { Puts (S.buffer output.old) (S.buffer output.new) 6 (take 6 (fixed 9 nanosecond)) }

@@ -1,4 +1,6 @@
 //! The hour, the minute, the second, and AM or PM: their texts, maximum lengths and writers.
+//!
+//! Without `inline(always)` the compiler leaves calls of the functions that have it.
 #![tactic(auto, using(crate::proofs::TextLemmas::text_lengths))]
 
 ghost use Rattle.std.specs.Prelude.{◌≡◌, length};
@@ -33,7 +35,6 @@ pub fn fmt_hour_12<S: Sink>(output: &mut S, hour: Hours, modifier: modifier::Hou
 impl Modifier for modifier::Hour12 {
     ghost component_of = { component.Hour12 };
 
-    #[inline]
     fn group_and_width(self) -> (Group, usize) {
         (Group::Time, 2)
     }
@@ -64,7 +65,6 @@ pub fn fmt_hour_24<S: Sink>(output: &mut S, hour: Hours, modifier: modifier::Hou
 impl Modifier for modifier::Hour24 {
     ghost component_of = { component.Hour24 };
 
-    #[inline]
     fn group_and_width(self) -> (Group, usize) {
         (Group::Time, 2)
     }
@@ -95,7 +95,6 @@ pub fn fmt_minute<S: Sink>(output: &mut S, minute: Minutes, modifier: modifier::
 impl Modifier for modifier::Minute {
     ghost component_of = { component.Minute };
 
-    #[inline]
     fn group_and_width(self) -> (Group, usize) {
         (Group::Time, 2)
     }
@@ -113,7 +112,6 @@ impl Modifier for modifier::Minute {
 }
 
 /// Appends `am` or `pm`, in capitals if they are wanted.
-#[inline(always)]
 pub fn fmt_period<S: Sink>(output: &mut S, period: Period, modifier: modifier::Period) -> usize
     requires room { Fits (S.buffer output.old) (length (period_text period modifier.is_uppercase)) }
     ensures writes { Puts (S.buffer output.old) (S.buffer output.new) result
@@ -131,7 +129,6 @@ pub fn fmt_period<S: Sink>(output: &mut S, period: Period, modifier: modifier::P
 impl Modifier for modifier::Period {
     ghost component_of = { component.Period };
 
-    #[inline]
     fn group_and_width(self) -> (Group, usize) {
         (Group::Time, 2)
     }
@@ -162,7 +159,6 @@ pub fn fmt_second<S: Sink>(output: &mut S, second: Seconds, modifier: modifier::
 impl Modifier for modifier::Second {
     ghost component_of = { component.Second };
 
-    #[inline]
     fn group_and_width(self) -> (Group, usize) {
         (Group::Time, 2)
     }
@@ -180,7 +176,6 @@ impl Modifier for modifier::Second {
 }
 
 // The hour on the dial of a clock, 1 to 12.
-#[inline(always)]
 fn on_the_dial(hour: Hours) -> ru8<0, 99>
     ensures { result ≡ hour_12 hour }
 {

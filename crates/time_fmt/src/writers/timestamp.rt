@@ -16,7 +16,6 @@ use time_provide::ComponentProvider;
 
 /// Appends all digits of the seconds since 1970-01-01T00:00:00 UTC, after a sign if they are negative or
 /// `modifier` wants one.
-#[inline]
 pub fn fmt_unix_timestamp_second<S: Sink>(
     output: &mut S,
     seconds: i64,
@@ -33,12 +32,10 @@ pub fn fmt_unix_timestamp_second<S: Sink>(
 impl Modifier for modifier::UnixTimestampSecond {
     ghost component_of = { component.UnixTimestampSecond };
 
-    #[inline]
     fn group_and_width(self) -> (Group, usize) {
         (Group::Timestamp, 15)
     }
 
-    #[inline(always)]
     fn write_supplied<S: Sink, V: ComponentProvider>(
         self,
         output: &mut S,
@@ -52,7 +49,6 @@ impl Modifier for modifier::UnixTimestampSecond {
 
 /// Appends all digits of the milliseconds since 1970-01-01T00:00:00 UTC, after a sign if they are negative or
 /// `modifier` wants one.
-#[inline]
 pub fn fmt_unix_timestamp_millisecond<S: Sink>(
     output: &mut S,
     milliseconds: i64,
@@ -69,12 +65,10 @@ pub fn fmt_unix_timestamp_millisecond<S: Sink>(
 impl Modifier for modifier::UnixTimestampMillisecond {
     ghost component_of = { component.UnixTimestampMillisecond };
 
-    #[inline]
     fn group_and_width(self) -> (Group, usize) {
         (Group::Timestamp, 18)
     }
 
-    #[inline(always)]
     fn write_supplied<S: Sink, V: ComponentProvider>(
         self,
         output: &mut S,

@@ -1,4 +1,6 @@
 //! The weekday and the weeks of the year: their texts, maximum lengths and writers.
+//!
+//! Without `inline(always)` the compiler leaves calls of the functions that have it.
 #![tactic(auto, using(crate::proofs::TextLemmas::text_lengths))]
 
 ghost use Rattle.std.specs.Prelude.{◌≡◌, ◌≤◌, length, decimal};
@@ -40,7 +42,6 @@ pub fn fmt_weekday_short<S: Sink>(
 impl Modifier for modifier::WeekdayShort {
     ghost component_of = { component.WeekdayShort };
 
-    #[inline]
     fn group_and_width(self) -> (Group, usize) {
         (Group::Date, 3)
     }
@@ -58,7 +59,6 @@ impl Modifier for modifier::WeekdayShort {
 }
 
 /// Appends the weekday's English name.
-#[inline]
 pub fn fmt_weekday_long<S: Sink>(
     output: &mut S,
     weekday: Weekday,
@@ -85,12 +85,10 @@ pub fn fmt_weekday_long<S: Sink>(
 impl Modifier for modifier::WeekdayLong {
     ghost component_of = { component.WeekdayLong };
 
-    #[inline]
     fn group_and_width(self) -> (Group, usize) {
         (Group::Date, 9)
     }
 
-    #[inline(always)]
     fn write_supplied<S: Sink, V: ComponentProvider>(
         self,
         output: &mut S,
@@ -103,7 +101,6 @@ impl Modifier for modifier::WeekdayLong {
 }
 
 /// Appends the days from Sunday, 0 to 6, or 1 to 7 where Sunday is 1.
-#[inline]
 pub fn fmt_weekday_sunday<S: Sink>(
     output: &mut S,
     weekday: Weekday,
@@ -126,12 +123,10 @@ pub fn fmt_weekday_sunday<S: Sink>(
 impl Modifier for modifier::WeekdaySunday {
     ghost component_of = { component.WeekdaySunday };
 
-    #[inline]
     fn group_and_width(self) -> (Group, usize) {
         (Group::Date, 1)
     }
 
-    #[inline(always)]
     fn write_supplied<S: Sink, V: ComponentProvider>(
         self,
         output: &mut S,
@@ -144,7 +139,6 @@ impl Modifier for modifier::WeekdaySunday {
 }
 
 /// Appends the days from Monday, 0 to 6, or 1 to 7 where Monday is 1.
-#[inline]
 pub fn fmt_weekday_monday<S: Sink>(
     output: &mut S,
     weekday: Weekday,
@@ -167,7 +161,6 @@ pub fn fmt_weekday_monday<S: Sink>(
 impl Modifier for modifier::WeekdayMonday {
     ghost component_of = { component.WeekdayMonday };
 
-    #[inline]
     fn group_and_width(self) -> (Group, usize) {
         (Group::Date, 1)
     }
@@ -185,7 +178,6 @@ impl Modifier for modifier::WeekdayMonday {
 }
 
 /// Appends the week of the week calendar, 1 to 53 (ISO 8601-1:2019), padded to two places as `modifier` says.
-#[inline]
 pub fn fmt_week_number_iso<S: Sink>(
     output: &mut S,
     week: IsoWeekNumber,
@@ -202,12 +194,10 @@ pub fn fmt_week_number_iso<S: Sink>(
 impl Modifier for modifier::WeekNumberIso {
     ghost component_of = { component.WeekNumberIso };
 
-    #[inline]
     fn group_and_width(self) -> (Group, usize) {
         (Group::Date, 2)
     }
 
-    #[inline(always)]
     fn write_supplied<S: Sink, V: ComponentProvider>(
         self,
         output: &mut S,
@@ -221,7 +211,6 @@ impl Modifier for modifier::WeekNumberIso {
 
 /// Appends the week of the year, 0 to 53, where week 1 begins on the first Sunday, padded to two places as
 /// `modifier` says.
-#[inline]
 pub fn fmt_week_number_sunday<S: Sink>(
     output: &mut S,
     week: SundayBasedWeek,
@@ -238,12 +227,10 @@ pub fn fmt_week_number_sunday<S: Sink>(
 impl Modifier for modifier::WeekNumberSunday {
     ghost component_of = { component.WeekNumberSunday };
 
-    #[inline]
     fn group_and_width(self) -> (Group, usize) {
         (Group::Date, 2)
     }
 
-    #[inline(always)]
     fn write_supplied<S: Sink, V: ComponentProvider>(
         self,
         output: &mut S,
@@ -257,7 +244,6 @@ impl Modifier for modifier::WeekNumberSunday {
 
 /// Appends the week of the year, 0 to 53, where week 1 begins on the first Monday, padded to two places as
 /// `modifier` says.
-#[inline]
 pub fn fmt_week_number_monday<S: Sink>(
     output: &mut S,
     week: MondayBasedWeek,
@@ -274,12 +260,10 @@ pub fn fmt_week_number_monday<S: Sink>(
 impl Modifier for modifier::WeekNumberMonday {
     ghost component_of = { component.WeekNumberMonday };
 
-    #[inline]
     fn group_and_width(self) -> (Group, usize) {
         (Group::Date, 2)
     }
 
-    #[inline(always)]
     fn write_supplied<S: Sink, V: ComponentProvider>(
         self,
         output: &mut S,

@@ -1,6 +1,9 @@
 //! Whole years: their texts, maximum lengths and writers.
 //!
 //! The calendar year and the year of the week calendar have the same texts.
+//!
+//! Without `inline(always)` the compiler leaves calls of the functions that have it. `cold` and
+//! `inline(never)` keep long or rare bodies out of their callers.
 #![tactic(auto, using(crate::proofs::TextLemmas::signed_lengths))]
 
 ghost use Rattle.std.specs.Prelude.{◌≡◌, ◌<◌, ◌≤◌, MatchOption, length, unsigned_abs};
@@ -43,7 +46,6 @@ pub fn fmt_calendar_year_full_extended_range<S: Sink>(
 impl Modifier for modifier::CalendarYearFullExtendedRange {
     ghost component_of = { component.CalendarYearFullExtendedRange };
 
-    #[inline]
     fn group_and_width(self) -> (Group, usize) {
         (Group::Date, 7)
     }
@@ -62,7 +64,6 @@ impl Modifier for modifier::CalendarYearFullExtendedRange {
 
 /// Appends the year, -9,999 to 9,999, padded to four places as `modifier` says, after a sign if it is negative
 /// or `modifier` wants one.
-#[inline]
 pub fn fmt_calendar_year_full_standard_range<S: Sink>(
     output: &mut S,
     year: StandardYear,
@@ -81,7 +82,6 @@ pub fn fmt_calendar_year_full_standard_range<S: Sink>(
 impl Modifier for modifier::CalendarYearFullStandardRange {
     ghost component_of = { component.CalendarYearFullStandardRange };
 
-    #[inline]
     fn group_and_width(self) -> (Group, usize) {
         (Group::Date, 5)
     }
@@ -103,7 +103,6 @@ impl Modifier for modifier::CalendarYearFullStandardRange {
 
 /// Appends the week calendar's year, -999,999 to 999,999 (ISO 8601-1:2019), padded to four places as `modifier`
 /// says, after a sign if it is negative, above 9,999, or `modifier` wants one.
-#[inline]
 pub fn fmt_iso_year_full_extended_range<S: Sink>(
     output: &mut S,
     year: Year,
@@ -122,12 +121,10 @@ pub fn fmt_iso_year_full_extended_range<S: Sink>(
 impl Modifier for modifier::IsoYearFullExtendedRange {
     ghost component_of = { component.IsoYearFullExtendedRange };
 
-    #[inline]
     fn group_and_width(self) -> (Group, usize) {
         (Group::Date, 7)
     }
 
-    #[inline(always)]
     fn write_supplied<S: Sink, V: ComponentProvider>(
         self,
         output: &mut S,
@@ -141,7 +138,6 @@ impl Modifier for modifier::IsoYearFullExtendedRange {
 
 /// Appends the week calendar's year, -9,999 to 9,999 (ISO 8601-1:2019), padded to four places as `modifier`
 /// says, after a sign if it is negative or `modifier` wants one.
-#[inline]
 pub fn fmt_iso_year_full_standard_range<S: Sink>(
     output: &mut S,
     year: StandardYear,
@@ -160,12 +156,10 @@ pub fn fmt_iso_year_full_standard_range<S: Sink>(
 impl Modifier for modifier::IsoYearFullStandardRange {
     ghost component_of = { component.IsoYearFullStandardRange };
 
-    #[inline]
     fn group_and_width(self) -> (Group, usize) {
         (Group::Date, 5)
     }
 
-    #[inline(always)]
     fn write_supplied<S: Sink, V: ComponentProvider>(
         self,
         output: &mut S,
@@ -203,7 +197,6 @@ fn write_extended_year<S: Sink>(
 }
 
 // Any year, apart.
-#[inline]
 fn write_rare_year<S: Sink>(
     output: &mut S,
     year: Year,
@@ -273,7 +266,6 @@ fn write_year_digits<S: Sink>(output: &mut S, year: ru32<0, 999_999>, padding: P
 }
 
 // The year, if it has at most four digits.
-#[inline(always)]
 fn in_standard_range(year: Year) -> Option<StandardYear>
     ensures { MatchOption result (9_999 < unsigned_abs year)
         (λ standard. (standard ≡ year) × (unsigned_abs year ≤ 9_999)) }

@@ -290,7 +290,6 @@ impl Config {
     }
 
     // The function by which a text is written.
-    #[inline(always)]
     pub(super) fn way(&self) -> Way
         ensures way { result ≡ way_of self.now }
         ensures fits { FitsWay self.now result }
@@ -322,7 +321,6 @@ impl Config {
     }
 
     // What is left to choose with these decimals of the second.
-    #[inline(always)]
     fn usual(&self, decimal_digits: Option<ru8<1, 255>>) -> Usual
         ensures { result ≡ usual_of self.now decimal_digits }
     {

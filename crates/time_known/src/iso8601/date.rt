@@ -1,4 +1,6 @@
 //! The date of a text of ISO 8601-1:2019, section 5.2.
+//!
+//! Without `inline(always)` the compiler leaves calls of the functions that have it.
 ghost use Rattle.std.specs.Prelude.{◌≡◌, MatchOption, Ok, false, ◌+◌, ◌*◌, ◌++◌, length, unsigned_abs, true, IsTrue};
 ghost use Rattle.time_below.specs.Facts.{the_date};
 ghost use Rattle.time_digits.specs.Digits.{zero_padded};
@@ -111,7 +113,6 @@ fn put_short<S: Sink>(output: &mut S, year: ru16<0, 9_999>, rest: &RestOfDate, h
 }
 
 // Puts the value's date.
-#[inline(always)]
 #[tactic(auto, using(crate::proofs::LengthLemmas::joined_lengths))]
 pub(super) fn put_date<S: Sink, V: ComponentProvider>(
     output: &mut S,
@@ -137,7 +138,6 @@ pub(super) fn put_date<S: Sink, V: ComponentProvider>(
 }
 
 // Puts the sign and six digits of the year, or four digits of one that has no more.
-#[inline(always)]
 #[tactic(auto, using(crate::proofs::LengthLemmas::sign_lengths))]
 fn put_year<S: Sink>(output: &mut S, year: Year, is_six_digits: bool) -> Result<(), OutOfRange>
     requires room { Fits (S.buffer output.old) (year_width is_six_digits) }
@@ -183,7 +183,6 @@ fn put_rest<S: Sink>(output: &mut S, rest: &RestOfDate, has_dash: bool)
 }
 
 // A dash, if it is wanted.
-#[inline(always)]
 fn dash(is_wanted: bool) -> &'static str
     ensures { result.now ≡ dash is_wanted }
 {
@@ -211,7 +210,6 @@ pub(super) fn put_week<S: Sink>(
 }
 
 // A number of one digit.
-#[inline(always)]
 #[tactic(auto, using(crate::proofs::iso8601::LengthLemmas::one_digit))]
 fn digit(number: ru8<0, 9>) -> &'static str
     ensures text { result.now ≡ zero_padded 1 number }

@@ -1,4 +1,7 @@
 //! The parts of a value that a text is made of, one after another.
+//!
+//! Without `inline(always)` the compiler leaves calls of the functions that have it.
+//! `inline(never)` keeps long or rare bodies out of their callers.
 ghost use Rattle.std.specs.Prelude.{◌≡◌, ◌≢◌, ◌+◌, IfSome, IsTrue, MatchOption, Ok, OnOk, OnSome, false};
 ghost use Rattle.time_below.specs.Facts.{the_date, the_time};
 ghost use Rattle.time_fmt.specs.Outcome.{AppendsUpTo, join};
@@ -92,7 +95,6 @@ pub(super) fn date_of<V: ComponentProvider>(
 }
 
 /// Puts the parts of the value that the configuration formats, one after another, up to what has no place.
-#[inline(always)]
 pub fn put_parts<S: Sink, V: ComponentProvider>(
     output: &mut S,
     config: &Config,
@@ -186,7 +188,6 @@ fn write_each<V: ComponentProvider>(
 
 // Appends by the function that the configuration decided, where nothing of the value is refused. It may refuse what
 // the text refuses before any byte; else it appends nothing.
-#[inline(always)]
 fn write_by_way<V: ComponentProvider>(
     config: &Config,
     way: &Way,
@@ -215,7 +216,6 @@ fn write_by_way<V: ComponentProvider>(
 
 // Appends an unusual text by the function that the configuration decided, where nothing of the value is refused; else it
 // appends nothing.
-#[inline(always)]
 #[tactic(auto, using(crate::proofs::iso8601::PartsLemmas::some_parts))]
 fn write_unusual<V: ComponentProvider>(
     config: &Config,

@@ -1,4 +1,7 @@
 //! The time of day of a text of ISO 8601-1:2019, section 5.3.
+//!
+//! Without `inline(always)` the compiler leaves calls of the functions that have it.
+//! `inline(never)` keeps long or rare bodies out of their callers.
 #![tactic(auto, using(crate::proofs::LengthLemmas::joined_lengths))]
 
 ghost use Rattle.std.specs.Prelude.{◌≡◌, Ok, ◌+◌, ◌*◌, ◌<◌, ◌≤◌, ◌++◌, length, IsTrue};
@@ -79,7 +82,6 @@ pub(super) fn write_time<V: ComponentProvider>(
 
 // Puts the letter, where there is one, and the units. A time alone has a function of its own, since the compiler
 // inlines so large a one only where it is called once.
-#[inline(always)]
 pub(super) fn put_time<S: Sink, const IS_ALONE: bool>(
     output: &mut S,
     config: &Config,
@@ -99,7 +101,6 @@ pub(super) fn put_time<S: Sink, const IS_ALONE: bool>(
 
 // Puts the whole units down to the precision, and decimals of the last one. Those of a time alone are a function of their
 // own too.
-#[inline(always)]
 fn put_units<S: Sink, const IS_ALONE: bool>(output: &mut S, config: &Config, time: Time)
     requires room { Fits (S.buffer output.old)
         (units_width config.now.time_precision config.now) }
@@ -171,7 +172,6 @@ fn nanoseconds_of_minute(time: Time) -> u64
 }
 
 // Puts the decimal sign and the decimals of the rest over the unit, if any are wanted.
-#[inline(always)]
 #[tactic(auto, using(crate::proofs::iso8601::LengthLemmas::decimal_lengths))]
 fn put_decimals<S: Sink>(
     output: &mut S,
@@ -193,7 +193,6 @@ fn put_decimals<S: Sink>(
 }
 
 // Puts the first `digits` decimals of `rest / unit`, not rounded, by a call that borrows a sink that is taken out.
-#[inline]
 pub(super) fn put_long_division<S: Sink>(output: &mut S, rest: u64, unit: u64, digits: ru8<1, 255>)
     requires part { rest < unit }
     requires unit { unit ≤ NANOSECONDS_PER_HOUR }

@@ -1,4 +1,7 @@
 //! The texts of the usual configurations, in pieces that are inlined.
+//!
+//! Without `inline(always)` the compiler leaves calls of the functions that have it.
+//! `inline(never)` keeps long or rare bodies out of their callers.
 #![tactic(auto, using(crate::proofs::LengthLemmas::joined_lengths))]
 
 ghost use Rattle.std.specs.Prelude.{◌≡◌, ◌≤◌, ◌+◌, ◌*◌, ◌++◌, length, IfSome, OnOk, OnSome, MatchOption, Ok, Some, true};
@@ -42,7 +45,6 @@ use time_provide::ranges::{IsoWeekNumber, Nanoseconds};
 
 // Appends the text by these choices, or refuses the year before any byte. Of an offset with seconds, which the text
 // refuses after its first bytes, it appends nothing.
-#[inline(always)]
 pub(super) fn write_usual<V: ComponentProvider>(
     config: &Config,
     usual: &Usual,
@@ -121,7 +123,6 @@ impl Text for UsualText {
     ghost text = { λ t. usual_text (choices_of Calendar t.usual) t.usual.decimal_digits
         (shown t.fields).date t.fields.time t.fields.offset };
 
-    #[inline(always)]
     fn put_into<S: Sink>(&self, output: &mut S) {
         if self.usual.has_separators {
             put_usual(output, &self.usual, &self.fields, "-", ":");
@@ -148,7 +149,6 @@ impl Text for WeekText {
     ghost text = { λ t. usual_text (choices_of Week t.usual) t.usual.decimal_digits
         (by_week t.year t.week (days_from_monday t.weekday)) t.time t.offset };
 
-    #[inline(always)]
     fn put_into<S: Sink>(&self, output: &mut S) {
         if self.usual.has_separators {
             put_usual_week(output, self, "-", ":");

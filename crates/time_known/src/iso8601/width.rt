@@ -91,7 +91,6 @@ impl Config {
 
 impl Usual {
     /// The most bytes of a text by these choices: 20 to 281.
-    #[inline(always)]
     pub fn width(&self) -> usize
         ensures width { result ≡ iso8601_width (choices_of DateKind.Calendar self.now) }
         ensures most { result ≤ 281 }
