@@ -1,4 +1,5 @@
-//! Laws of the place of a time: the contract of each function is the law, and its body does nothing.
+//! Laws of the place of a time: the contract of each function is the law, and its body does
+//! nothing.
 ghost use Rattle.std.specs.Prelude.{◌≡◌, ◌↔◌, IsTrue};
 ghost use Rattle.time_below.specs.Clones.{AreSame};
 

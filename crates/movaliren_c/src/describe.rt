@@ -51,7 +51,8 @@ pub extern "C" fn movaliren_format_brackets_utc(
     answer_number(write_text::<Brackets, _>(text, timestamp_value(seconds, nanosecond), buffer))
 }
 
-/// The text of a moment by a description in brackets, at an offset of this many seconds east of UTC.
+/// The text of a moment by a description in brackets, at an offset of this many seconds east of
+/// UTC.
 #[unsafe(no_mangle)]
 pub extern "C" fn movaliren_format_brackets_local(
     text: &[u8],
@@ -94,8 +95,8 @@ pub extern "C" fn movaliren_format_strftime_utc(
     answer_number(write_text::<Strftime, _>(text, timestamp_value(seconds, nanosecond), buffer))
 }
 
-/// The text of a moment by a description in the syntax of strftime, at an offset of this many seconds
-/// east of UTC.
+/// The text of a moment by a description in the syntax of strftime, at an offset of this many
+/// seconds east of UTC.
 #[unsafe(no_mangle)]
 pub extern "C" fn movaliren_format_strftime_local(
     text: &[u8],
@@ -111,8 +112,8 @@ pub extern "C" fn movaliren_format_strftime_local(
     answer_number(write_text::<Strftime, _>(text, value, buffer))
 }
 
-/// Reads the items of a text into an array. If there are none, or they do not fit, the first item of the
-/// array is none.
+/// Reads the items of a text into an array. If there are none, or they do not fit, the first item
+/// of the array is none.
 fn describe<S: Syntax>(
     text: &[u8],
     items: &mut [Item],

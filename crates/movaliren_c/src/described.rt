@@ -2,12 +2,16 @@
 //!
 //! Without `inline(always)` the compiler leaves calls of the functions that have it. `cold` and
 //! `inline(never)` keep long or rare bodies out of their callers.
-ghost use Rattle.std.specs.Prelude.{◌≡◌, ◌≤◌, ◌<◌, ◌+◌, ◌∷◌, IfNone, IfOk, IfSome, IsFalse, IsTrue, MatchOption, Ok, [], length, slice_range};
+ghost use Rattle.std.specs.Prelude.{◌≡◌, ◌≤◌, ◌<◌, ◌+◌, ◌∷◌, IfNone, IfOk, IfSome, IsFalse, IsTrue};
+ghost use Rattle.std.specs.Prelude.{MatchOption, Ok, [], length, slice_range};
 ghost use Rattle.movaliren_c.specs.Answer.{Answers};
-ghost use Rattle.movaliren_c.specs.Items.{EndsFirst, EndsItem, EndsRun, IsDescribed, IsPut, IsShown, PutsOrLoses, as_one, item_tree, part_tree, reason_before, trees_of, width_answer};
+ghost use Rattle.movaliren_c.specs.Items.{EndsFirst, EndsItem, EndsRun, IsDescribed, IsPut};
+ghost use Rattle.movaliren_c.specs.Items.{IsShown, PutsOrLoses, as_one, item_tree, part_tree};
+ghost use Rattle.movaliren_c.specs.Items.{reason_before, trees_of, width_answer};
 ghost use Rattle.movaliren_c.specs.Utc.{local_value};
 ghost use Rattle.movaliren_c.specs.Value.{date_value, moment_value, timestamp_value};
-ghost use Rattle.time_below.specs.Facts.{Facts, facts_of_date, facts_of_offset_date_time, facts_of_timestamp};
+ghost use Rattle.time_below.specs.Facts.{Facts, facts_of_date, facts_of_offset_date_time};
+ghost use Rattle.time_below.specs.Facts.{facts_of_timestamp};
 ghost use Rattle.time_below.specs.Width.{component_width, tree_width};
 ghost use Rattle.time_fmt.specs.Description.{component_outcome, tree_outcome};
 ghost use Rattle.time_fmt.specs.Ends.{Ends};
@@ -123,10 +127,10 @@ pub extern "C" fn movaliren_items_max_length(items: &[Item], texts: &[u8]) -> is
     answer_number(width(items, texts))
 }
 
-/// Writes the text of the value by the description, if there are both. A date or a time of day alone is
-/// written straight to a buffer that has room for the longest such text. Any other text is written to an
-/// array first, so that the buffer is as it was where there is no text. A longer text is written again,
-/// once it is known that it is complete and fits.
+/// Writes the text of the value by the description, if there are both. A date or a time of day
+/// alone is written straight to a buffer that has room for the longest such text. Any other text is
+/// written to an array first, so that the buffer is as it was where there is no text. A longer text
+/// is written again, once it is known that it is complete and fits.
 #[inline(always)]
 pub fn write_described<V: FirstState>(
     items: &[Item],
@@ -170,8 +174,9 @@ pub fn first_reason(items: &[Item], texts: &[u8], reason: Reason) -> Reason
     }
 }
 
-/// Writes a date or a time of day to the start of a buffer, if five items are one, the value has it and the longest
-/// fits. Returns the number of bytes, if it was written. Nothing of it is refused, so that it needs no array.
+/// Writes a date or a time of day to the start of a buffer, if five items are one, the value has it
+/// and the longest fits. Returns the number of bytes, if it was written. Nothing of it is refused,
+/// so that it needs no array.
 #[inline(never)]
 fn write_alone<B: Before, V: FirstState>(
     items: &[Item],
@@ -195,8 +200,8 @@ fn write_alone<B: Before, V: FirstState>(
     }
 }
 
-/// Writes the text of the items to the start of a buffer, or as much of it as fits, as `write_items` does, for
-/// a text that is longer than the array.
+/// Writes the text of the items to the start of a buffer, or as much of it as fits, as
+/// `write_items` does, for a text that is longer than the array.
 #[cold]
 #[inline(never)]
 pub fn write_long<B: Before, V: FirstState>(
@@ -211,8 +216,9 @@ pub fn write_long<B: Before, V: FirstState>(
     write_items::<B, V, false>(items, texts, value, room)
 }
 
-/// Writes the text of the items to the start of a buffer, or as much of it as fits, by the loop that is chosen
-/// for them. Returns the number of bytes of the whole text, up to the greatest `usize`.
+/// Writes the text of the items to the start of a buffer, or as much of it as fits, by the loop
+/// that is chosen for them. Returns the number of bytes of the whole text, up to the greatest
+/// `usize`.
 fn write_chosen<B: Before, V: FirstState>(
     items: &[Item],
     texts: &[u8],
@@ -229,8 +235,8 @@ fn write_chosen<B: Before, V: FirstState>(
     }
 }
 
-/// Writes the text of the items to the start of a buffer, or as much of it as fits. Returns the number of
-/// bytes of the whole text, up to the greatest `usize`.
+/// Writes the text of the items to the start of a buffer, or as much of it as fits. Returns the
+/// number of bytes of the whole text, up to the greatest `usize`.
 #[inline(never)]
 fn write_items<B: Before, V: FirstState, const HAS_RUNS: bool>(
     items: &[Item],
@@ -284,9 +290,9 @@ fn put_items<S: Sink, V: FirstState, const HAS_RUNS: bool>(
     Ok(lost)
 }
 
-/// Writes the date or the time of day at the front of the items, if the loop looks for them, there is one, the value
-/// has it and its text fits. Returns whether it was written. It becomes part of the loop. Where that looks for them,
-/// each other item costs more.
+/// Writes the date or the time of day at the front of the items, if the loop looks for them, there
+/// is one, the value has it and its text fits. Returns whether it was written. It becomes part of
+/// the loop. Where that looks for them, each other item costs more.
 #[inline(always)]
 fn write_run<S: Sink, V: ComponentProvider, const HAS_RUNS: bool>(
     items: &[Item],
@@ -310,7 +316,8 @@ fn write_run<S: Sink, V: ComponentProvider, const HAS_RUNS: bool>(
     }
 }
 
-/// Writes a date or a time of day, if the value has it and its text fits. Returns whether it was written.
+/// Writes a date or a time of day, if the value has it and its text fits. Returns whether it was
+/// written.
 #[inline(always)]
 fn write_parts<S: Sink, V: ComponentProvider>(
     run: Run,
@@ -348,9 +355,9 @@ fn write_parts<S: Sink, V: ComponentProvider>(
     }
 }
 
-/// Writes an item as most texts have it, if any text of it fits, and returns its refusal, if it is refused.
-/// Of any other writes nothing, and returns `None`. It becomes part of the loop, where the choices are
-/// constants.
+/// Writes an item as most texts have it, if any text of it fits, and returns its refusal, if it is
+/// refused. Of any other writes nothing, and returns `None`. It becomes part of the loop, where the
+/// choices are constants.
 #[inline(always)]
 #[tactic(auto, using(crate::proofs::DescribedLemmas::component_fits), unfolding(crate::specs::Items::component_of, crate::specs::Items::date_component, crate::specs::Items::year_component, crate::specs::Items::time_component))]
 fn write_usual<S: Sink, V: ComponentProvider>(
@@ -412,8 +419,8 @@ fn write_apart<M: Modifier, S: Sink, V: ComponentProvider>(
     answer
 }
 
-/// Writes a literal if it and two bytes fit, or else nothing. Most have one or two bytes, for which one test tells that
-/// there is room.
+/// Writes a literal if it and two bytes fit, or else nothing. Most have one or two bytes, for which
+/// one test tells that there is room.
 fn write_usual_text<S: Sink>(
     item: &Item,
     texts: &[u8],

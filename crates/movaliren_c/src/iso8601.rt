@@ -92,8 +92,8 @@ pub extern "C" fn movaliren_iso8601_utc(seconds: i64, nanosecond: u32, buffer: &
     answer_at(&texts_of(Iso8601, InUtc), seconds, nanosecond, buffer)
 }
 
-/// The text of ISO 8601 of a moment by the default configuration, at an offset of this many seconds east
-/// of UTC.
+/// The text of ISO 8601 of a moment by the default configuration, at an offset of this many seconds
+/// east of UTC.
 #[unsafe(no_mangle)]
 pub extern "C" fn movaliren_iso8601_local(
     seconds: i64,
@@ -122,8 +122,8 @@ pub extern "C" fn movaliren_iso8601_batch(
     write_lines(&texts_of(Iso8601, ByParts), moments, end, buffer)
 }
 
-/// The texts of ISO 8601 of the moments in UTC by the default configuration, one after another, each
-/// ended by this byte.
+/// The texts of ISO 8601 of the moments in UTC by the default configuration, one after another,
+/// each ended by this byte.
 #[unsafe(no_mangle)]
 pub extern "C" fn movaliren_iso8601_utc_batch(
     moments: &[UtcMoment],
@@ -198,8 +198,8 @@ pub extern "C" fn movaliren_iso8601_with_utc(
     answer_at(&iso8601_by(config, InUtc), seconds, nanosecond, buffer)
 }
 
-/// The text of ISO 8601 of a moment by a configuration, whose numbers are tested before the moment, at an
-/// offset of this many seconds east of UTC.
+/// The text of ISO 8601 of a moment by a configuration, whose numbers are tested before the moment,
+/// at an offset of this many seconds east of UTC.
 #[unsafe(no_mangle)]
 pub extern "C" fn movaliren_iso8601_with_local(
     config: &Iso8601Config,
@@ -274,7 +274,8 @@ impl<S: Source> Iso8601By<S> {
     }
 }
 
-/// Writes the text of the value to an array first, part by part, since one may be refused after others.
+/// Writes the text of the value to an array first, part by part, since one may be refused after
+/// others.
 #[inline(never)]
 fn write_parts(config: &Config, value: &OffsetDateTime, room: &mut [u8]) -> Result<usize, Reason>
     ensures { IsWritten result (iso8601_of config.now value.now) room.old room.new }

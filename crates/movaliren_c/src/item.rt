@@ -4,14 +4,17 @@
 ghost use Rattle.std.specs.Prelude.{◌≡◌, Err, IfNone, IfSome, Ok};
 ghost use Rattle.movaliren_c.specs.declared.reason.Reason.TheVariants.{BadItem};
 ghost use Rattle.time_below.specs.Tree.{byte_literal};
-ghost use Rattle.movaliren_c.specs.Items.{padding_at, digits_at, date_component, year_component, time_component, component_at, component_of, item_tree, part_tree, tree_of};
+ghost use Rattle.movaliren_c.specs.Items.{padding_at, digits_at, date_component, year_component};
+ghost use Rattle.movaliren_c.specs.Items.{time_component, component_at, component_of, item_tree};
+ghost use Rattle.movaliren_c.specs.Items.{part_tree, tree_of};
 
 use crate::reason::{Reason, flag_at};
 use std::slice;
 use time_below::format_description::modifier::{Padding, SubsecondDigits};
 use time_below::format_description::{Component, Layer, Node, modifier};
 
-/// An item of a description: kind 255 is `len` bytes of the texts from `start` on, kind 254 the byte in
+/// An item of a description: kind 255 is `len` bytes of the texts from `start` on, kind 254 the
+/// byte in
 /// `byte`, any other a component with its choices.
 #[repr(C)]
 #[derive(Clone, Copy)]
@@ -151,8 +154,8 @@ fn time_component(
     }
 }
 
-/// The component of a number, with its padding, flag and decimals. In one match of all of them each item
-/// costs four instructions more.
+/// The component of a number, with its padding, flag and decimals. In one match of all of them each
+/// item costs four instructions more.
 #[inline(always)]
 fn component_at(
     kind: u32,

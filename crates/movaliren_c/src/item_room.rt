@@ -1,7 +1,8 @@
 //! Items at the start of an array.
 //!
 //! Without `inline(always)` the compiler leaves calls of the functions that have it.
-ghost use Rattle.std.specs.Prelude.{◌≡◌, ◌+◌, ◌<◌, ◌≤◌, ◌∷◌, [], List, ℕ, Option, None, length, min, nat_le, slice_set};
+ghost use Rattle.std.specs.Prelude.{◌≡◌, ◌+◌, ◌<◌, ◌≤◌, ◌∷◌, [], List, ℕ, Option, None, length};
+ghost use Rattle.std.specs.Prelude.{min, nat_le, slice_set};
 ghost use Rattle.movaliren_c.specs.Described.{DescribeNothing, HoldsIn, HoldsListsIn, IsItem};
 ghost use Rattle.movaliren_c.specs.Flat.{closed_at, flat, or_at};
 ghost use Rattle.time_below.specs.Tree.{Tree};
@@ -14,8 +15,8 @@ use std::alloc::AllocError;
 use time_below::format_description::Component;
 use time_describe::{Items, Nest};
 
-/// Items at the start of an array. Those that do not fit are counted alone. Those of lists that are not the
-/// first in their brackets are left out.
+/// Items at the start of an array. Those that do not fit are counted alone. Those of lists that are
+/// not the first in their brackets are left out.
 #[derive(Drop)]
 pub struct ItemRoom<'a> {
     array: &'a mut [Item],
@@ -100,7 +101,8 @@ fn closed_at(hidden_at: Option<usize>, depth: usize) -> Option<usize>
     }
 }
 
-/// One item more than so many, up to the greatest `usize`. Where there is room for it, no sum is tested.
+/// One item more than so many, up to the greatest `usize`. Where there is room for it, no sum is
+/// tested.
 fn one_more(count: usize, room: usize) -> usize
     ensures { result ≡ min (count + 1) 0xffff_ffff_ffff_ffff }
 {

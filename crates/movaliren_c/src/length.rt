@@ -5,7 +5,8 @@ ghost use Rattle.movaliren_c.specs.Items.{described, trees_of};
 ghost use Rattle.movaliren_c.specs.Length.{IsLength};
 ghost use Rattle.movaliren_c.specs.Utc.{local_value};
 ghost use Rattle.movaliren_c.specs.Value.{date_value, moment_value, timestamp_value};
-ghost use Rattle.time_below.specs.Facts.{facts_of_date, facts_of_offset_date_time, facts_of_timestamp};
+ghost use Rattle.time_below.specs.Facts.{facts_of_date, facts_of_offset_date_time};
+ghost use Rattle.time_below.specs.Facts.{facts_of_timestamp};
 
 use crate::described::{GREATEST_WIDTH, SHORT, first_reason, write_long};
 use crate::item::Item;
@@ -71,7 +72,8 @@ pub extern "C" fn movaliren_items_format_date_length(
     answer_number(text_length(items, texts, date_value(year, month, day)))
 }
 
-/// The number of bytes of the text of the value by the description, up to the greatest `isize`, if there are both.
+/// The number of bytes of the text of the value by the description, up to the greatest `isize`, if
+/// there are both.
 fn text_length<V: FirstState>(
     items: &[Item],
     texts: &[u8],

@@ -28,8 +28,8 @@ pub trait FirstState: ComponentProvider<State: Drop> + Drop {
         ensures { Self.agrees result self.now };
 }
 
-/// A local date and time with its offset, by the parts that a caller gives, and its date. The month and the day of the
-/// parts are zeros where they are not known.
+/// A local date and time with its offset, by the parts that a caller gives, and its date. The month
+/// and the day of the parts are zeros where they are not known.
 #[derive(Drop)]
 pub struct LocalParts {
     date: Date,

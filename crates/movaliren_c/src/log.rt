@@ -1,7 +1,8 @@
 //! Times of log lines: what the texts of one second have in common is kept by the caller.
 //!
 //! `cold` and `inline(never)` keep long or rare bodies out of their callers.
-ghost use Rattle.std.specs.Prelude.{◌≡◌, ◌<◌, ◌≤◌, ◌+◌, ◌++◌, ◌⊎◌, IfOk, IsTrue, codes, drop, length, take};
+ghost use Rattle.std.specs.Prelude.{◌≡◌, ◌<◌, ◌≤◌, ◌+◌, ◌++◌, ◌⊎◌, IfOk, IsTrue, codes, drop};
+ghost use Rattle.std.specs.Prelude.{length, take};
 ghost use Rattle.movaliren_c.specs.Answer.{IsAnswer, IsWritten};
 ghost use Rattle.movaliren_c.specs.Chosen.{iso8601_by};
 ghost use Rattle.movaliren_c.specs.Log.{IsKept, Remembers, head_of, log_config};
@@ -43,8 +44,8 @@ pub struct LogCache {
     pub zone_len: u8,
 }
 
-/// The text of ISO 8601 of a moment by the default configuration with this many decimals, at an offset of
-/// this many seconds east of UTC. What is kept serves the moments of its second.
+/// The text of ISO 8601 of a moment by the default configuration with this many decimals, at an
+/// offset of this many seconds east of UTC. What is kept serves the moments of its second.
 #[unsafe(no_mangle)]
 pub extern "C" fn movaliren_log_time(
     cache: &mut LogCache,
@@ -65,8 +66,8 @@ pub extern "C" fn movaliren_log_time(
     log_anew(cache, decimals, seconds, nanosecond, offset, buffer)
 }
 
-/// The same by the configuration. First the second is kept, if it has texts. It is a call, so that a text by what is kept
-/// saves no registers.
+/// The same by the configuration. First the second is kept, if it has texts. It is a call, so that
+/// a text by what is kept saves no registers.
 #[cold]
 #[inline(never)]
 fn log_anew(
@@ -145,7 +146,8 @@ fn write_kept(
     Ok(count)
 }
 
-/// Overwrites the bytes of the buffer from a place on by the first three, six or nine decimals of a second.
+/// Overwrites the bytes of the buffer from a place on by the first three, six or nine decimals of a
+/// second.
 fn write_decimals(room: &mut [u8], at: usize, nanosecond: Nanoseconds, decimals: u8)
     requires few { decimals ≡ 3 ⊎ decimals ≡ 6 ⊎ decimals ≡ 9 }
     requires room { at + decimals ≤ length room.old }

@@ -1,7 +1,8 @@
 //! The items of components and literals.
 //!
 //! Without `inline(always)` the compiler leaves calls of the functions that have it.
-ghost use Rattle.std.specs.Prelude.{◌≡◌, ◌≤◌, ◌+◌, ◌∷◌, [], ℕ, List, MatchOption, Ok, false, length, slice_range};
+ghost use Rattle.std.specs.Prelude.{◌≡◌, ◌≤◌, ◌+◌, ◌∷◌, [], ℕ, List, MatchOption, Ok, false};
+ghost use Rattle.std.specs.Prelude.{length, slice_range};
 ghost use Rattle.movaliren_c.specs.Described.{IsItem, IsItemOf, is_shown};
 ghost use Rattle.movaliren_c.specs.Items.{component_at, component_of, digits_at, padding_at};
 ghost use Rattle.time_below.specs.Tree.{of_component};

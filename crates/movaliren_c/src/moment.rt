@@ -5,7 +5,8 @@
 ghost use Rattle.std.specs.Prelude.{◌≡◌, ◌≤◌, IsTrue, unsigned_abs};
 ghost use Rattle.movaliren_c.specs.Known.{offset_of_parts, time_of_parts};
 ghost use Rattle.movaliren_c.specs.Utc.{utc_value};
-ghost use Rattle.movaliren_c.specs.Value.{date_value, is_alike, is_offset_part, moment_value, offset_value, time_value, timestamp_value};
+ghost use Rattle.movaliren_c.specs.Value.{date_value, is_alike, is_offset_part, moment_value};
+ghost use Rattle.movaliren_c.specs.Value.{offset_value, time_value, timestamp_value};
 ghost use Rattle.time_below.specs.Moment.{utc_date_and_time};
 ghost use Rattle.time_below.specs.Offset.{HasNoOtherSign, IsOffset};
 
@@ -97,8 +98,8 @@ fn time_value(moment: &Moment) -> Result<Time, Reason>
     Ok(Time::from_valid_hms_nano(moment.hour, moment.minute, moment.second, moment.nanosecond))
 }
 
-/// The offset of the parts, or the first of them that is outside its range or has the opposite sign of
-/// one before it.
+/// The offset of the parts, or the first of them that is outside its range or has the opposite sign
+/// of one before it.
 fn offset_value(moment: &Moment) -> Result<UtcOffset, Reason>
     ensures { result ≡ offset_value moment.now }
 {
@@ -111,8 +112,8 @@ fn offset_value(moment: &Moment) -> Result<UtcOffset, Reason>
     tested_offset(moment)
 }
 
-/// Whether three parts are in their ranges and have one sign at most. Two tests for all three cost less than one for
-/// each two, and one where all are zero, as in UTC.
+/// Whether three parts are in their ranges and have one sign at most. Two tests for all three cost
+/// less than one for each two, and one where all are zero, as in UTC.
 fn are_offset_parts(hours: i8, minutes: i8, seconds: i8) -> bool
     ensures { IsTrue result → IsOffset (record { hours = hours; minutes = minutes; seconds = seconds }) }
 {
@@ -149,7 +150,8 @@ fn tested_offset(moment: &Moment) -> Result<UtcOffset, Reason>
     Ok(UtcOffset::from_valid_hms(hours, minutes, seconds))
 }
 
-/// Whether a part is at most so far from zero, and has not the opposite sign of one of two parts before it.
+/// Whether a part is at most so far from zero, and has not the opposite sign of one of two parts
+/// before it.
 fn is_offset_part(greatest: u8, first: i8, second: i8, part: i8) -> bool
     ensures value { result ≡ is_offset_part greatest first second part }
     ensures range { IsTrue result → unsigned_abs part ≤ greatest }
@@ -197,7 +199,8 @@ pub fn timestamp_value(seconds: i64, nanosecond: u32) -> Result<Timestamp, Reaso
     }
 }
 
-/// The date and time in UTC of a moment. Without this step a text in UTC costs 41 to 81 instructions more.
+/// The date and time in UTC of a moment. Without this step a text in UTC costs 41 to 81
+/// instructions more.
 pub fn in_utc(moment: Timestamp) -> UtcDateTime
     ensures { result ≡ utc_date_and_time moment }
 {

@@ -69,8 +69,8 @@ impl<F: Format, S: Source> Writer for Texts<F, S> {
 }
 
 impl<F: Format, S: Source> Texts<F, S> {
-    /// Puts the text of the value at the start of a buffer that holds every text. Each format and source
-    /// has one call of a function of its own, so that the compiler can inline it.
+    /// Puts the text of the value at the start of a buffer that holds every text. Each format and
+    /// source has one call of a function of its own, so that the compiler can inline it.
     fn put(&self, value: &OffsetDateTime, room: &mut [u8]) -> Result<usize, Reason>
         requires room { F.WIDTH ≤ length room.old }
         ensures { IsWritten result (F.outcome self.now.format value.now) room.old room.new }

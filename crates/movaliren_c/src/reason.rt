@@ -29,7 +29,8 @@ pub enum Reason {
     OffsetHours = 8,
     /// The minutes of the offset are outside -59 to 59, or of another sign than its hours.
     OffsetMinutes = 9,
-    /// The seconds of the offset are outside -59 to 59, or of another sign than its hours or minutes.
+    /// The seconds of the offset are outside -59 to 59, or of another sign than its hours or
+    /// minutes.
     OffsetSeconds = 10,
     /// The seconds of the moment are outside those of the years -999,999 to 999,999.
     MomentSeconds = 11,

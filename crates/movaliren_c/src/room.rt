@@ -22,8 +22,8 @@ pub fn copy_text(text: &[u8], room: &mut [u8]) -> Result<usize, Reason>
     Ok(count)
 }
 
-/// Copies the text to the start of a buffer that has room for it. A text of eight to thirty-two bytes, as most have,
-/// needs no call.
+/// Copies the text to the start of a buffer that has room for it. A text of eight to thirty-two
+/// bytes, as most have, needs no call.
 #[inline(always)]
 fn copy_over(text: &[u8], room: &mut [u8])
     requires { length text.now ≤ length room.old }
@@ -36,8 +36,8 @@ fn copy_over(text: &[u8], room: &mut [u8])
     }
 }
 
-/// Copies the first bytes of a text and the last ones to the start of a buffer, so many of each. They may overlap, and
-/// are all of the text.
+/// Copies the first bytes of a text and the last ones to the start of a buffer, so many of each.
+/// They may overlap, and are all of the text.
 #[tactic(auto, using(crate::proofs::RoomLemmas::ends_copied))]
 fn copy_ends(text: &[u8], count: usize, room: &mut [u8])
     requires least { count ≤ length text.now }

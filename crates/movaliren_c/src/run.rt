@@ -1,6 +1,7 @@
 //! Dates and times of day at the front of a list of items.
 ghost use Rattle.std.specs.Prelude.{◌≡◌, ◌≤◌, ◌<◌, ◌^◌, ◌∷◌, [], ℕ, List, IfSome, Ok, drop, length};
-ghost use Rattle.movaliren_c.specs.Items.{first_part, item_tree, run_before, second_part, third_part, trees_of};
+ghost use Rattle.movaliren_c.specs.Items.{first_part, item_tree, run_before, second_part};
+ghost use Rattle.movaliren_c.specs.Items.{third_part, trees_of};
 ghost use Rattle.movaliren_c.specs.Value.{with_value};
 ghost use Rattle.time_below.specs.Tree.{byte_literal, of_component};
 
@@ -17,7 +18,8 @@ pub enum Run {
     Time,
 }
 
-/// Whether one of the first two items begins a date or a time of day, as in most descriptions that have one.
+/// Whether one of the first two items begins a date or a time of day, as in most descriptions that
+/// have one.
 pub fn begins_with_run(items: &[Item]) -> bool {
     match items {
         [first, second, ..] => is_first_of_run(first) || is_first_of_run(second),
@@ -30,8 +32,8 @@ fn is_first_of_run(item: &Item) -> bool {
     item.kind == 13 || item.kind == 14 || item.kind == 24
 }
 
-/// The date or the time of day that the first five items are, if they are one, and the bytes between its
-/// parts.
+/// The date or the time of day that the first five items are, if they are one, and the bytes
+/// between its parts.
 pub fn run_of(items: &[Item], texts: &[u8]) -> Option<(Run, (u8, u8))>
     ensures five { IfSome result (λ _. 5 ≤ length items.now) }
     ensures begin { IfSome result (λ found. trees_of texts.now items.now
@@ -67,7 +69,8 @@ fn run_between(first: &Item, second: &Item, third: &Item) -> Option<Run>
     }
 }
 
-/// The kind of an item, and above it its choices and its byte. The compiler reads the five as one number.
+/// The kind of an item, and above it its choices and its byte. The compiler reads the five as one
+/// number.
 pub fn head_of(item: &Item) -> u64
     ensures kind { result < 2 ^ 32 → item.now.kind ≡ result }
     ensures padding { result < 2 ^ 32 → item.now.padding ≡ 0 }

@@ -1,6 +1,7 @@
 //! The syntaxes of descriptions, and what is wrong in a text.
 ghost use Rattle.std.specs.Prelude.{◌≡◌, ℕ, List, None, Err, OnOk, IfErr, Result};
-ghost use Rattle.movaliren_c.specs.Described.{IsHeld, bracket_items, bracket_number, fault_at, many, strftime_items, strftime_number};
+ghost use Rattle.movaliren_c.specs.Described.{IsHeld, bracket_items, bracket_number, fault_at};
+ghost use Rattle.movaliren_c.specs.Described.{many, strftime_items, strftime_number};
 ghost use Rattle.movaliren_c.specs.declared.syntax.ParseError.{ParseError};
 ghost use Rattle.time_below.specs.Tree.{Tree};
 

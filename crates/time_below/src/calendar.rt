@@ -1,13 +1,14 @@
 //! The lengths of years and months, and the weeks of days.
 ghost use Rattle.std.specs.Prelude.{◌≡◌, ◌+◌, ◌-◌, ◌*◌, ◌/◌, ◌%◌, ◌<◌, ◌≤◌, if◌then◌else◌};
 ghost use Rattle.std.specs.Int.{IsInRange};
-ghost use Rattle.time_below.specs.Calendar.{is_leap_year, days_in_year, days_in_month, days_of_months, last_begun};
+ghost use Rattle.time_below.specs.Calendar.{is_leap_year, days_in_year, days_in_month};
+ghost use Rattle.time_below.specs.Calendar.{days_of_months, last_begun};
 
 // The days before each month of a common year.
 const CUMULATIVE_DAYS: [u16; 12] = [0, 31, 59, 90, 120, 151, 181, 212, 243, 273, 304, 334];
 
-/// Whether 4 divides the year, and 100 does not or 400 does. Three years of four are told by the first test.
-/// Where 4 divides the year, 100 does if 25 does, and 400 does if 25 and 16 do.
+/// Whether 4 divides the year, and 100 does not or 400 does. Three years of four are told by the
+/// first test. Where 4 divides the year, 100 does if 25 does, and 400 does if 25 and 16 do.
 pub fn is_leap_year(year: i32) -> bool
     ensures { result ≡ is_leap_year year }
 {
@@ -77,7 +78,8 @@ pub fn month_and_day(is_leap: bool, ordinal: u16) -> (u8, u8)
     (month + 2, day)
 }
 
-// The rest by seven, which the first three bits of a product are: the factor is a seventh of 2^32, rounded up.
+// The rest by seven, which the first three bits of a product are: the factor is a seventh of 2^32,
+// rounded up.
 #[tactic(auto, using(crate::proofs::ProductLemmas::rest_facts))]
 pub fn rest_by_seven(number: u32) -> u8
     requires { number < 100_000_000 }

@@ -12,7 +12,8 @@ pub struct ComponentRange {
 }
 
 impl ComponentRange {
-    ghost use Rattle.time_below.specs.ComponentRange.{range_refusal, conditional_range, unconditional_range};
+    ghost use Rattle.time_below.specs.ComponentRange.{range_refusal, conditional_range};
+    ghost use Rattle.time_below.specs.ComponentRange.{unconditional_range};
 
     /// A component that is outside the range that the other components leave it.
     pub fn conditional(name: &'static str) -> ComponentRange

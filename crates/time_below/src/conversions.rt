@@ -1,7 +1,8 @@
 //! Conversions between moments, dates and times in UTC, and local ones.
 ghost use Rattle.std.specs.Prelude.{◌≡◌};
 ghost use Rattle.time_below.specs.InUtc.{IsInUtcOf, IsMomentOf};
-ghost use Rattle.time_below.specs.Moment.{IsMoment, in_utc, local_moment, moment_of, utc_date_and_time};
+ghost use Rattle.time_below.specs.Moment.{IsMoment, in_utc, local_moment, moment_of};
+ghost use Rattle.time_below.specs.Moment.{utc_date_and_time};
 
 use crate::component_range::ComponentRange;
 use crate::offset_date_time::OffsetDateTime;
@@ -73,8 +74,8 @@ impl TryFrom<OffsetDateTime> for Timestamp {
     }
 }
 
-/// The date and time in UTC. A local date and time whose year in UTC is outside -999,999 to 999,999 is
-/// refused as the component `year`.
+/// The date and time in UTC. A local date and time whose year in UTC is outside -999,999 to 999,999
+/// is refused as the component `year`.
 impl TryFrom<OffsetDateTime> for UtcDateTime {
     type Error = ComponentRange;
 

@@ -1,8 +1,14 @@
 //! The dates of the calendar.
-ghost use Rattle.std.specs.Prelude.{◌≡◌, ◌↔◌, ◌+◌, ◌<◌, ◌≤◌, ◌%◌, ◌^◌, nat_le, IsTrue, IsOk, IfOk, IfErr, codes, if◌then◌else◌, pos, ◌+ℤ◌, ◌-ℤ◌, ◌*ℤ◌, unsigned_abs};
+ghost use Rattle.std.specs.Prelude.{◌≡◌, ◌↔◌, ◌+◌, ◌<◌, ◌≤◌, ◌%◌, ◌^◌, nat_le, IsTrue, IsOk, IfOk};
+ghost use Rattle.std.specs.Prelude.{IfErr, codes, if◌then◌else◌, pos, ◌+ℤ◌, ◌-ℤ◌, ◌*ℤ◌};
+ghost use Rattle.std.specs.Prelude.{unsigned_abs};
 ghost use Rattle.std.specs.Int.{IsInRange};
-ghost use Rattle.time_below.specs.Calendar.{greatest_year, IsYear, IsDate, IsDayOfMonth, month_of, day_of, date_of, day_number, date_at, weekday_of, thursday_of, iso_year_of, iso_week_of, monday_based_week_of, sunday_based_week_of};
-ghost use Rattle.time_below.specs.ComponentRange.{range_refusal, conditional_range, unconditional_range};
+ghost use Rattle.time_below.specs.Calendar.{greatest_year, IsYear, IsDate, IsDayOfMonth, month_of};
+ghost use Rattle.time_below.specs.Calendar.{day_of, date_of, day_number, date_at, weekday_of};
+ghost use Rattle.time_below.specs.Calendar.{thursday_of, iso_year_of, iso_week_of};
+ghost use Rattle.time_below.specs.Calendar.{monday_based_week_of, sunday_based_week_of};
+ghost use Rattle.time_below.specs.ComponentRange.{range_refusal, conditional_range};
+ghost use Rattle.time_below.specs.ComponentRange.{unconditional_range};
 ghost use Rattle.time_below.specs.Moment.{day_seconds, unix_day};
 ghost use Rattle.time_below.specs.Month.{month_number};
 ghost use Rattle.time_below.specs.Weekday.{days_from_monday};
@@ -90,8 +96,8 @@ impl Date {
         Ok(Date::from_valid_calendar_date(year, month, day))
     }
 
-    /// The date of a year, a month and a day that `from_calendar_date` takes, as the caller knows. Nothing
-    /// is tested.
+    /// The date of a year, a month and a day that `from_calendar_date` takes, as the caller knows.
+    /// Nothing is tested.
     #[tactic(auto, using(crate::proofs::MonthLemmas::month_within))]
     pub fn from_valid_calendar_date(year: i32, month: Month, day: u8) -> Date
         requires year { IsYear year }
@@ -218,9 +224,9 @@ impl Date {
         (self.year, Month::from_number(month), day)
     }
 
-    // A number whose rest by seven is the weekday: a year of 365 days is 52 weeks and a day. A hundred
-    // years earlier leap days are a quarter of the years, less three quarters of the centuries, and no
-    // day is left over.
+    // A number whose rest by seven is the weekday: a year of 365 days is 52 weeks and a day. A
+    // hundred years earlier leap days are a quarter of the years, less three quarters of the
+    // centuries, and no day is left over.
     #[tactic(auto, using(crate::proofs::CalendarLemmas::weekday_by_years))]
     fn place_in_weeks(self) -> u32
         ensures value { result % 7 ≡ weekday_of self }

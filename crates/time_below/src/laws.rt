@@ -1,16 +1,25 @@
-//! Laws of equality, of clones and conversions, of the calendar and of offsets: what their definitions come to.
-//! Each body is empty.
-ghost use Rattle.std.specs.Prelude.{◌≡◌, ◌↔◌, ◌+◌, ◌%◌, ◌<◌, ℕ, ℤ, pos, ◌+ℤ◌, unsigned_abs, IsTrue, fold};
+//! Laws of equality, of clones and conversions, of the calendar and of offsets: what their
+//! definitions come to. Each body is empty.
+ghost use Rattle.std.specs.Prelude.{◌≡◌, ◌↔◌, ◌+◌, ◌%◌, ◌<◌, ℕ, ℤ, pos, ◌+ℤ◌, unsigned_abs, IsTrue};
+ghost use Rattle.std.specs.Prelude.{fold};
 ghost use Rattle.std.specs.Int.{IsInRange};
-ghost use Rattle.time_below.specs.Calendar.{OrdinalDate, IsDate, IsYear, IsDayNumber, IsDayOfMonth, day_number, date_at, next_day, month_of, day_of, date_of, weekday_of, iso_year_of, iso_week_of, days_of_name, monday_based_week_of, sunday_based_week_of};
+ghost use Rattle.time_below.specs.Calendar.{OrdinalDate, IsDate, IsYear, IsDayNumber, IsDayOfMonth};
+ghost use Rattle.time_below.specs.Calendar.{day_number, date_at, next_day, month_of, day_of};
+ghost use Rattle.time_below.specs.Calendar.{date_of, weekday_of, iso_year_of, iso_week_of};
+ghost use Rattle.time_below.specs.Calendar.{days_of_name, monday_based_week_of};
+ghost use Rattle.time_below.specs.Calendar.{sunday_based_week_of};
 ghost use Rattle.time_below.specs.ComponentRange.{range_refusal};
 ghost use Rattle.time_below.specs.Conversion.{current_component};
 ghost use Rattle.time_below.specs.Metadata.{of_both, of_nothing};
 ghost use Rattle.time_below.specs.Month.{IsMadeOf, month_number};
 ghost use Rattle.time_below.specs.Tree.{of_component, v3_tree};
 ghost use Rattle.time_below.specs.TimeOfDay.{IsTimeOfDay};
-ghost use Rattle.time_below.specs.Offset.{Offset, IsOffset, Settles, settled, offset_of_seconds, offset_seconds};
-ghost use Rattle.time_below.specs.Moment.{Moment, DateAndTime, OffsetDateAndTime, IsMoment, IsTimestampSecond, IsNearTimestampSecond, utc_date, utc_time, utc_date_and_time, unix_seconds, moved, local_at, local_unix_seconds, nanoseconds};
+ghost use Rattle.time_below.specs.Offset.{Offset, IsOffset, Settles, settled, offset_of_seconds};
+ghost use Rattle.time_below.specs.Offset.{offset_seconds};
+ghost use Rattle.time_below.specs.Moment.{Moment, DateAndTime, OffsetDateAndTime, IsMoment};
+ghost use Rattle.time_below.specs.Moment.{IsTimestampSecond, IsNearTimestampSecond, utc_date};
+ghost use Rattle.time_below.specs.Moment.{utc_time, utc_date_and_time, unix_seconds, moved};
+ghost use Rattle.time_below.specs.Moment.{local_at, local_unix_seconds, nanoseconds};
 
 pub mod choices;
 pub mod clones;

@@ -1,6 +1,9 @@
 //! Moments by their seconds since 1970 and a nanosecond, for each type that holds them.
 ghost use Rattle.std.specs.Prelude.{◌≡◌, ◌↔◌, ◌<◌, ◌^◌, ◌+ℤ◌, IsSome, IfSome, unsigned_abs};
-ghost use Rattle.time_below.specs.Moment.{IsMoment, IsNearMoment, IsNearTimestampSecond, IsTimestampSecond, IsTimestampNanosecond, local_at, local_moment, milliseconds, nanoseconds as nanoseconds_of};
+ghost use Rattle.time_below.specs.Moment.{IsMoment, IsNearMoment, IsNearTimestampSecond};
+ghost use Rattle.time_below.specs.Moment.{IsTimestampSecond, IsTimestampNanosecond, local_at};
+ghost use Rattle.time_below.specs.Moment.{local_moment, milliseconds};
+ghost use Rattle.time_below.specs.Moment.{nanoseconds as nanoseconds_of};
 ghost use Rattle.time_below.specs.Offset.{offset_seconds};
 
 use crate::offset_date_time::OffsetDateTime;
@@ -38,8 +41,8 @@ pub fn nanoseconds(seconds: i64, nanosecond: u32) -> i128
     SECOND * seconds as i128 + nanosecond as i128
 }
 
-// The whole seconds rounded down, and the nanosecond counted forward from there, of the nanoseconds since
-// 1970 that a `Timestamp` may have.
+// The whole seconds rounded down, and the nanosecond counted forward from there, of the nanoseconds
+// since 1970 that a `Timestamp` may have.
 #[tactic(auto, using(crate::proofs::MomentLemmas::nanoseconds_split))]
 pub(crate) fn split(nanoseconds: i128) -> (i64, u32)
     requires { IsTimestampNanosecond nanoseconds }
@@ -64,8 +67,8 @@ fn clock_seconds(seconds: i64, offset: UtcOffset) -> i64
     seconds + offset.whole_seconds() as i64
 }
 
-// The date and time of a moment by clocks at this offset, and the offset, where their year is in range. The
-// moment is given as for `milliseconds`.
+// The date and time of a moment by clocks at this offset, and the offset, where their year is in
+// range. The moment is given as for `milliseconds`.
 #[tactic(auto, using(crate::proofs::MomentLemmas::laws_of_moments))]
 pub(crate) fn checked_at_offset(
     seconds: i64,

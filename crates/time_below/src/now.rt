@@ -12,8 +12,8 @@ use std::convert::TryFrom;
 use std::io;
 use std::time::{Clock, SystemTime};
 
-/// The moment of a reading of the system's clock, which is from 1970 on. A moment past the year 999,999
-/// is refused as the component `year`.
+/// The moment of a reading of the system's clock, which is from 1970 on. A moment past the year
+/// 999,999 is refused as the component `year`.
 impl TryFrom<SystemTime> for Timestamp {
     type Error = ComponentRange;
 
@@ -31,8 +31,9 @@ impl TryFrom<SystemTime> for Timestamp {
 }
 
 impl Timestamp {
-    /// The moment that the clock shows, which is from 1970 on. Returns the error of a clock that cannot be
-    /// read, as one that is set before 1970, and `InvalidData` for one past the year 999,999.
+    /// The moment that the clock shows, which is from 1970 on. Returns the error of a clock that
+    /// cannot be read, as one that is set before 1970, and `InvalidData` for one past the year
+    /// 999,999.
     pub fn now(clock: &impl Clock) -> io::Result<Timestamp>
         ensures since_1970 { IfOk result (λ m. pos 0 ≤ℤ m.seconds) }
         ensures range { IfOk result (λ m. IsMoment m) }

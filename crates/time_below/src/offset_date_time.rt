@@ -80,8 +80,8 @@ impl OffsetDateTime {
         self.offset
     }
 
-    /// The whole seconds since 1970-01-01T00:00:00 UTC, rounded down, less than 26 hours outside the range
-    /// of `Timestamp`.
+    /// The whole seconds since 1970-01-01T00:00:00 UTC, rounded down, less than 26 hours outside
+    /// the range of `Timestamp`.
     pub fn unix_timestamp(self) -> i64
         ensures value { result ≡ local_unix_seconds self }
         ensures range { IsNearTimestampSecond result }

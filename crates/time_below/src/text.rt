@@ -9,7 +9,8 @@ use std::fmt::{Display, InlineText};
 // More bytes than the longest text of a value has.
 const ROOM: usize = 64;
 
-// Writes a text, which is padded to the width of the formatter and cut to its precision, as a `str` is.
+// Writes a text, which is padded to the width of the formatter and cut to its precision, as a `str`
+// is.
 pub(crate) fn pad<W: fmt::Write, D: Display + Drop>(
     f: &mut fmt::Formatter<W>,
     text: D,
@@ -42,8 +43,8 @@ impl Display for TwoDigits {
     }
 }
 
-// A nanosecond, which is written as the decimals of a second: up to the last that is not zero, but at
-// least one.
+// A nanosecond, which is written as the decimals of a second: up to the last that is not zero, but
+// at least one.
 #[derive(Clone, Copy)]
 pub(crate) struct Decimals(pub(crate) u32);
 

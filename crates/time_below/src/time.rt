@@ -1,6 +1,7 @@
 //! The time of day.
 ghost use Rattle.std.specs.Prelude.{◌≡◌, ◌↔◌, ◌*◌, ◌/◌, ◌<◌, IsOk, IfOk, IfErr, codes};
-ghost use Rattle.time_below.specs.TimeOfDay.{TimeOfDay, IsTimeOfDay, first_outside, time_of, time_at, seconds_from_midnight};
+ghost use Rattle.time_below.specs.TimeOfDay.{TimeOfDay, IsTimeOfDay, first_outside, time_of};
+ghost use Rattle.time_below.specs.TimeOfDay.{time_at, seconds_from_midnight};
 ghost use Rattle.time_below.specs.ComponentRange.{range_refusal, unconditional_range};
 
 mod replace;
@@ -54,8 +55,8 @@ impl Time {
         nanosecond: 999_999_999,
     };
 
-    /// The time of an hour 0 to 23, a minute 0 to 59 and a second 0 to 59, with nanosecond 0. Refuses
-    /// the first part that is outside its range, in this order.
+    /// The time of an hour 0 to 23, a minute 0 to 59 and a second 0 to 59, with nanosecond 0.
+    /// Refuses the first part that is outside its range, in this order.
     pub fn from_hms(hour: u8, minute: u8, second: u8) -> Result<Time, ComponentRange>
         ensures accepted { IsOk result ↔ IsTimeOfDay (time_of hour minute second 0) }
         ensures value { IfOk result (λ t. t ≡ time_of hour minute second 0) }
@@ -135,7 +136,8 @@ impl Time {
         Ok(Time::from_valid_hms_nano(hour, minute, second, nanosecond))
     }
 
-    /// The time of parts that are in the ranges of `from_hms_nano`, as the caller knows. Nothing is tested.
+    /// The time of parts that are in the ranges of `from_hms_nano`, as the caller knows. Nothing is
+    /// tested.
     pub fn from_valid_hms_nano(hour: u8, minute: u8, second: u8, nanosecond: u32) -> Time
         requires { IsTimeOfDay (time_of hour minute second nanosecond) }
         ensures { result ≡ time_of hour minute second nanosecond }

@@ -1,6 +1,9 @@
 //! Moments counted in seconds.
-ghost use Rattle.std.specs.Prelude.{◌≡◌, ◌↔◌, ◌<◌, ◌^◌, IsOk, IfOk, IfErr, IsSome, IfSome, codes, pos, ◌+ℤ◌, unsigned_abs};
-ghost use Rattle.time_below.specs.Moment.{IsMoment, IsTimestampSecond, IsTimestampNanosecond, utc_date, utc_time, local_at, local_unix_seconds, milliseconds, nanoseconds as nanoseconds_of};
+ghost use Rattle.std.specs.Prelude.{◌≡◌, ◌↔◌, ◌<◌, ◌^◌, IsOk, IfOk, IfErr, IsSome, IfSome, codes};
+ghost use Rattle.std.specs.Prelude.{pos, ◌+ℤ◌, unsigned_abs};
+ghost use Rattle.time_below.specs.Moment.{IsMoment, IsTimestampSecond, IsTimestampNanosecond};
+ghost use Rattle.time_below.specs.Moment.{utc_date, utc_time, local_at, local_unix_seconds};
+ghost use Rattle.time_below.specs.Moment.{milliseconds, nanoseconds as nanoseconds_of};
 ghost use Rattle.time_below.specs.Offset.{offset_seconds};
 ghost use Rattle.time_below.specs.ComponentRange.{range_refusal, unconditional_range};
 
@@ -146,8 +149,8 @@ impl Timestamp {
         )
     }
 
-    /// The date and time of the moment by clocks at this offset, and the offset, whose year there is in
-    /// range, as the caller knows.
+    /// The date and time of the moment by clocks at this offset, and the offset, whose year there
+    /// is in range, as the caller knows.
     pub fn to_offset(self, offset: UtcOffset) -> OffsetDateTime
         requires { IsTimestampSecond (self.seconds +ℤ offset_seconds offset) }
         ensures value { result ≡ local_at self offset }
@@ -159,8 +162,8 @@ impl Timestamp {
         }
     }
 
-    /// The date and time of the moment by clocks at this offset, and the offset. Returns `None` where their
-    /// year is outside -999,999 to 999,999.
+    /// The date and time of the moment by clocks at this offset, and the offset. Returns `None`
+    /// where their year is outside -999,999 to 999,999.
     pub fn checked_to_offset(self, offset: UtcOffset) -> Option<OffsetDateTime>
         ensures accepted { IsSome result ↔ IsTimestampSecond (self.seconds +ℤ offset_seconds offset) }
         ensures value { IfSome result (λ t. t ≡ local_at self offset) }

@@ -1,7 +1,10 @@
 //! Dates with a time of day in UTC.
-ghost use Rattle.std.specs.Prelude.{◌≡◌, ◌↔◌, ◌<◌, ◌^◌, ◌+ℤ◌, IsSome, IfSome, IsOk, IfOk, IfErr, codes, unsigned_abs};
+ghost use Rattle.std.specs.Prelude.{◌≡◌, ◌↔◌, ◌<◌, ◌^◌, ◌+ℤ◌, IsSome, IfSome, IsOk, IfOk, IfErr};
+ghost use Rattle.std.specs.Prelude.{codes, unsigned_abs};
 ghost use Rattle.time_below.specs.ComponentRange.{range_refusal, unconditional_range};
-ghost use Rattle.time_below.specs.Moment.{IsTimestampSecond, IsTimestampNanosecond, at_second, local_at, local_moment, moment_of, nanoseconds, unix_seconds, utc_date_and_time};
+ghost use Rattle.time_below.specs.Moment.{IsTimestampSecond, IsTimestampNanosecond, at_second};
+ghost use Rattle.time_below.specs.Moment.{local_at, local_moment, moment_of, nanoseconds};
+ghost use Rattle.time_below.specs.Moment.{unix_seconds, utc_date_and_time};
 ghost use Rattle.time_below.specs.Offset.{offset_seconds};
 
 mod parts;
@@ -91,8 +94,8 @@ impl UtcDateTime {
         moment::nanoseconds(self.unix_timestamp(), self.time.nanosecond())
     }
 
-    /// The date and time in UTC at which this second since 1970-01-01T00:00:00 UTC begins. Refuses a
-    /// second outside the range of `Timestamp` as `timestamp`.
+    /// The date and time in UTC at which this second since 1970-01-01T00:00:00 UTC begins. Refuses
+    /// a second outside the range of `Timestamp` as `timestamp`.
     pub fn from_unix_timestamp(timestamp: i64) -> Result<UtcDateTime, ComponentRange>
         ensures accepted { IsOk result ↔ IsTimestampSecond timestamp }
         ensures value { IfOk result (λ t. t ≡ utc_date_and_time (at_second timestamp)) }
@@ -145,8 +148,8 @@ impl UtcDateTime {
         }
     }
 
-    /// The same moment by clocks at this offset. Returns `None` where their year is outside -999,999 to
-    /// 999,999.
+    /// The same moment by clocks at this offset. Returns `None` where their year is outside
+    /// -999,999 to 999,999.
     pub fn checked_to_offset(self, offset: UtcOffset) -> Option<OffsetDateTime>
         ensures accepted { IsSome result
             ↔ IsTimestampSecond (unix_seconds self +ℤ offset_seconds offset) }

@@ -1,6 +1,9 @@
 //! Offsets from UTC.
-ghost use Rattle.std.specs.Prelude.{◌≡◌, ◌↔◌, ◌+◌, ◌*◌, ◌<◌, ◌≤◌, pos, ◌+ℤ◌, ◌*ℤ◌, unsigned_abs, nat_le, IsTrue, IsOk, IfOk, IfErr, codes, if◌then◌else◌};
-ghost use Rattle.time_below.specs.Offset.{AreOffsetParts, IsOffset, is_negative, is_positive, is_utc, settled, signed, signed_like, offset_minutes, offset_of_seconds, offset_seconds, utc};
+ghost use Rattle.std.specs.Prelude.{◌≡◌, ◌↔◌, ◌+◌, ◌*◌, ◌<◌, ◌≤◌, pos, ◌+ℤ◌, ◌*ℤ◌, unsigned_abs};
+ghost use Rattle.std.specs.Prelude.{nat_le, IsTrue, IsOk, IfOk, IfErr, codes, if◌then◌else◌};
+ghost use Rattle.time_below.specs.Offset.{AreOffsetParts, IsOffset, is_negative, is_positive};
+ghost use Rattle.time_below.specs.Offset.{is_utc, settled, signed, signed_like, offset_minutes};
+ghost use Rattle.time_below.specs.Offset.{offset_of_seconds, offset_seconds, utc};
 ghost use Rattle.time_below.specs.ComponentRange.{range_refusal, unconditional_range};
 
 mod text;
@@ -77,8 +80,8 @@ impl UtcOffset {
     };
 
     /// The offset of hours -25 to 25, minutes -59 to 59 and seconds -59 to 59. Refuses the first
-    /// part that is outside its range, in this order. If signs differ, the later parts take the sign of
-    /// the first part that is not zero.
+    /// part that is outside its range, in this order. If signs differ, the later parts take the
+    /// sign of the first part that is not zero.
     pub fn from_hms(hours: i8, minutes: i8, seconds: i8) -> Result<UtcOffset, ComponentRange>
         ensures accepted { IsOk result ↔ AreOffsetParts hours minutes seconds }
         ensures value { IfOk result (λ o. o ≡ settled hours minutes seconds) }
@@ -100,8 +103,8 @@ impl UtcOffset {
         Ok(UtcOffset::from_ranged_hms(hours, minutes, seconds))
     }
 
-    /// The offset of parts that are in the ranges of `from_hms`, as the caller knows. Nothing is tested.
-    /// If signs differ, the later parts take the sign of the first part that is not zero.
+    /// The offset of parts that are in the ranges of `from_hms`, as the caller knows. Nothing is
+    /// tested. If signs differ, the later parts take the sign of the first part that is not zero.
     pub fn from_ranged_hms(hours: i8, minutes: i8, seconds: i8) -> UtcOffset
         requires { AreOffsetParts hours minutes seconds }
         ensures { result ≡ settled hours minutes seconds }
@@ -114,8 +117,8 @@ impl UtcOffset {
         }
     }
 
-    /// The offset of parts that are in the ranges of `from_hms` and have one sign at most, as the caller
-    /// knows. Nothing is tested.
+    /// The offset of parts that are in the ranges of `from_hms` and have one sign at most, as the
+    /// caller knows. Nothing is tested.
     pub fn from_valid_hms(hours: i8, minutes: i8, seconds: i8) -> UtcOffset
         requires { IsOffset (record { hours = hours; minutes = minutes; seconds = seconds }) }
         ensures { result ≡ record { hours = hours; minutes = minutes; seconds = seconds } }
@@ -127,7 +130,8 @@ impl UtcOffset {
         }
     }
 
-    /// The offset of -93,599 to 93,599 seconds, which is 25:59:59 either way. Refuses any other number as
+    /// The offset of -93,599 to 93,599 seconds, which is 25:59:59 either way. Refuses any other
+    /// number as
     /// `seconds`.
     pub fn from_whole_seconds(seconds: i32) -> Result<UtcOffset, ComponentRange>
         ensures accepted { IsOk result ↔ unsigned_abs seconds < 93_600 }

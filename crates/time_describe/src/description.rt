@@ -25,8 +25,8 @@ pub enum InvalidDescription {
     /// An allocation failed.
     #[error("memory could not be reserved")]
     OutOfMemory,
-    /// The text is no description: what is wrong first, and the index of its byte. Too many items are told
-    /// before a fault at an earlier byte.
+    /// The text is no description: what is wrong first, and the index of its byte. Too many items
+    /// are told before a fault at an earlier byte.
     #[error("{reason} at byte {index}")]
     Invalid {
         /// What is wrong.
@@ -84,8 +84,8 @@ fn put_within_limit<I: Items>(items: &mut I, text: &[u8]) -> Result<(), Failure>
     }
 }
 
-/// Adds the items that a text describes, in the syntax of `parse_owned`, to a list that has none. After
-/// an error the list may hold the items before the fault.
+/// Adds the items that a text describes, in the syntax of `parse_owned`, to a list that has none.
+/// After an error the list may hold the items before the fault.
 pub fn describe<I: Items>(items: &mut I, text: &[u8]) -> Result<(), InvalidDescription>
     requires { I.Holds text.now [] items.old [] }
     ensures found { OnOk result (IsFound (described text.now) (I.Holds text.now [] items.new)) }

@@ -10,8 +10,8 @@ use thiserror::Error;
 /// error has.
 #[derive(Clone, Copy, Debug, PartialEq, Eq, Error)]
 pub enum Reason {
-    /// A bracket is not closed, or that of a component has another one or a backslash in it: the opening
-    /// bracket.
+    /// A bracket is not closed, or that of a component has another one or a backslash in it: the
+    /// opening bracket.
     #[error("unclosed bracket")]
     UnclosedBracket,
     /// No backslash and no bracket follows a backslash: that backslash.
@@ -35,8 +35,8 @@ pub enum Reason {
     /// An `optional` has no list of items: the closing bracket.
     #[error("missing list of items")]
     MissingItems,
-    /// A byte other than whitespace and a bracket stands where only lists of items may, or an `optional`
-    /// has another list: that byte, or the bracket of the list.
+    /// A byte other than whitespace and a bracket stands where only lists of items may, or an
+    /// `optional` has another list: that byte, or the bracket of the list.
     #[error("unexpected text")]
     UnexpectedByte,
     /// A list of items is the 33rd in one another: its opening bracket.

@@ -1,5 +1,6 @@
 //! Where the items of a text go.
-ghost use Rattle.std.specs.Prelude.{◌≡◌, ◌+◌, ◌≤◌, ◌∷◌, ◌++◌, [], ℕ, List, Bool, Option, length, min, slice_range, IsTrue, IfErr, OnOk};
+ghost use Rattle.std.specs.Prelude.{◌≡◌, ◌+◌, ◌≤◌, ◌∷◌, ◌++◌, [], ℕ, List, Bool, Option, length};
+ghost use Rattle.std.specs.Prelude.{min, slice_range, IsTrue, IfErr, OnOk};
 ghost use base.Fml.{GName};
 ghost use Rattle.time_below.specs.Tree.{Tree, trees, of_component, all_of};
 ghost use Rattle.time_describe.specs.Items.{Adds, are_leaves, is_nil};
@@ -14,7 +15,8 @@ use time_below::format_description::Component;
 
 /// Items that are added at the end of a list, and lists of them in one another.
 pub trait Items {
-    /// Whether it holds these items of a text, in these open lists, of which the first is the innermost.
+    /// Whether it holds these items of a text, in these open lists, of which the first is the
+    /// innermost.
     ghost Holds: { List ℕ → List Frame → Self → List Tree → Type 0 };
 
     /// Whether it holds these lists of items, in brackets behind these items, in these open lists.
@@ -48,7 +50,8 @@ pub trait Items {
         ensures refusal { IfErr result (λ _. IsTrue can_refuse) }
         ensures lender { lender self.new ≡ lender self.old };
 
-    /// How many items there are, up to the greatest `usize`, where they are literals and components alone.
+    /// How many items there are, up to the greatest `usize`, where they are literals and components
+    /// alone.
     fn len(&self) -> usize
         ensures { (text : List ℕ) (all : List Tree)
             → IsTrue (are_leaves all) → Holds text [] self.now all → result ≡ min (length all) 0xffff_ffff_ffff_ffff };

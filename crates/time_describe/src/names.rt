@@ -1,6 +1,10 @@
 //! The names that stand in brackets: components, and what modifiers choose of them.
 ghost use Rattle.std.specs.Prelude.{◌≡◌};
-ghost use Rattle.time_describe.specs.Names.{named, padding_modified, year_modified, month_modified, weekday_modified, week_number_modified, hour_modified, period_modified, subsecond_modified, offset_hour_modified, unix_timestamp_modified, ignore_modified, end_modified, modified};
+ghost use Rattle.time_describe.specs.Names.{named, padding_modified, year_modified, month_modified};
+ghost use Rattle.time_describe.specs.Names.{weekday_modified, week_number_modified, hour_modified};
+ghost use Rattle.time_describe.specs.Names.{period_modified, subsecond_modified};
+ghost use Rattle.time_describe.specs.Names.{offset_hour_modified, unix_timestamp_modified};
+ghost use Rattle.time_describe.specs.Names.{ignore_modified, end_modified, modified};
 
 use crate::fault::Reason;
 use crate::values::{

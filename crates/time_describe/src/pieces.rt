@@ -1,10 +1,12 @@
 //! What is at the front of a text: literals, and what brackets hold.
-ghost use Rattle.std.specs.Prelude.{◌≡◌, ◌==◌, ◌∷◌, ◌≤◌, [], length, drop, not, IfOk, MatchOption, position};
+ghost use Rattle.std.specs.Prelude.{◌≡◌, ◌==◌, ◌∷◌, ◌≤◌, [], length, drop, not, IfOk, MatchOption};
+ghost use Rattle.std.specs.Prelude.{position};
 ghost use Rattle.std.specs.Char.{is_ascii_whitespace};
 ghost use Rattle.std.specs.List.{position_or_len, prefix_len, before_first, after_first};
 ghost use Rattle.time_describe.specs.Outcome.{IsEnd};
 ghost use Rattle.time_describe.specs.Pieces.{InBrackets, ends_literal};
-ghost use Rattle.time_describe.specs.Reading.{is_special, is_escapable, ends_word, at_fault, with_word, is_whole, finished, nest_of};
+ghost use Rattle.time_describe.specs.Reading.{is_special, is_escapable, ends_word, at_fault};
+ghost use Rattle.time_describe.specs.Reading.{with_word, is_whole, finished, nest_of};
 
 use crate::fault::{Fault, Reason};
 use crate::names::{modified, named};

@@ -1,16 +1,20 @@
 //! Descriptions from a text in the syntax of strftime, as `%Y-%m-%d`, in the C locale.
 //!
-//! The conversions are those of POSIX.1-2017 but `%Z` and those with `E` or `O`, and of GNU `%k`, `%l`, `%N`,
-//! `%P`, `%s` and `%:z`. A number takes one flag: `-` for no padding, `_` for spaces, `0` for zeros. A year has at
-//! least four digits, unless a flag says otherwise.
+//! The conversions are those of POSIX.1-2017 but `%Z` and those with `E` or `O`, and of GNU `%k`,
+//! `%l`, `%N`,
+//! `%P`, `%s` and `%:z`. A number takes one flag: `-` for no padding, `_` for spaces, `0` for
+//! zeros. A year has at least four digits, unless a flag says otherwise.
 //!
 //! `inline(never)` keeps long or rare bodies out of their callers.
-ghost use Rattle.std.specs.Prelude.{◌≡◌, ◌+◌, ◌<◌, ◌≤◌, ℕ, List, [], length, drop, slice_range, Ok, IfOk, IfErr, OnOk, IsTrue, IsFalse};
+ghost use Rattle.std.specs.Prelude.{◌≡◌, ◌+◌, ◌<◌, ◌≤◌, ℕ, List, [], length, drop, slice_range, Ok};
+ghost use Rattle.std.specs.Prelude.{IfOk, IfErr, OnOk, IsTrue, IsFalse};
 ghost use Rattle.time_below.specs.Tree.{Tree, owned_tree};
 ghost use Rattle.time_describe.specs.Conversions.{composed, offset};
 ghost use Rattle.time_describe.specs.Items.{Adds, are_leaves};
 ghost use Rattle.time_describe.specs.Strftime.{described, first_part, read};
-ghost use Rattle.time_describe.specs.StrftimeOutcome.{AddsFront, AddsLetter, items_of_part, tree_of, Fails, GoesOn, IsFound, IsWithin, MayRefuse, Says, SaysFault};
+ghost use Rattle.time_describe.specs.StrftimeOutcome.{AddsFront, AddsLetter, items_of_part};
+ghost use Rattle.time_describe.specs.StrftimeOutcome.{tree_of, Fails, GoesOn, IsFound, IsWithin};
+ghost use Rattle.time_describe.specs.StrftimeOutcome.{MayRefuse, Says, SaysFault};
 
 use crate::counted::Counted;
 use crate::items::Items;
@@ -116,7 +120,8 @@ fn put_part<I: Items>(
     Ok(())
 }
 
-/// Adds the component that a letter stands for, if it stands for one alone. Returns whether it does.
+/// Adds the component that a letter stands for, if it stands for one alone. Returns whether it
+/// does.
 fn put_letter<I: Items>(items: &mut I, letter: u8) -> Result<bool, AllocError>
     ensures put { IfOk result (λ is_put. (text : List ℕ)
         → AddsLetter (I.Holds text []) items.old items.new letter is_put) }
@@ -130,8 +135,8 @@ fn put_letter<I: Items>(items: &mut I, letter: u8) -> Result<bool, AllocError>
     Ok(true)
 }
 
-/// Adds the component that a letter stands for, if most texts have it. Returns whether they have. The compiler makes
-/// the item of each letter, which stands here as a constant.
+/// Adds the component that a letter stands for, if most texts have it. Returns whether they have.
+/// The compiler makes the item of each letter, which stands here as a constant.
 fn put_usual<I: Items>(items: &mut I, letter: u8) -> Result<bool, AllocError>
     ensures put { IfOk result (λ is_put. (text : List ℕ)
         → AddsLetter (I.Holds text []) items.old items.new letter is_put) }
@@ -233,8 +238,8 @@ fn put_all<I: Items>(items: &mut I, text: &[u8]) -> Result<(), Failure>
 /// Adds the items that a text in the syntax of strftime describes to a list that has none.
 ///
 /// Each run of bytes other than `%` is one literal. Each conversion is the items that
-/// `specs/Conversions.antt` lists for it. There are at most 65,536 items. After an error the list may
-/// hold the items before the fault.
+/// `specs/Conversions.antt` lists for it. There are at most 65,536 items. After an error the list
+/// may hold the items before the fault.
 pub fn describe_strftime<I: Items>(items: &mut I, text: &[u8]) -> Result<(), InvalidStrftime>
     requires { I.Holds text.now [] items.old [] }
     ensures found { OnOk result (IsFound (described text.now) (I.Holds text.now [] items.new)) }

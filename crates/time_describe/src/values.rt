@@ -1,6 +1,11 @@
 //! The values that modifiers of a component have.
 ghost use Rattle.std.specs.Prelude.{◌≡◌};
-ghost use Rattle.time_describe.specs.Values.{is_name, padding_named, month_repr_named, weekday_repr_named, week_number_repr_named, year_repr_named, year_range_named, precision_named, digits_named, bool_named, clock_named, case_named, sign_named, base_named, trailing_input_named, with_digit, whole_number, count_named};
+ghost use Rattle.time_describe.specs.Values.{is_name, padding_named, month_repr_named};
+ghost use Rattle.time_describe.specs.Values.{weekday_repr_named, week_number_repr_named};
+ghost use Rattle.time_describe.specs.Values.{year_repr_named, year_range_named, precision_named};
+ghost use Rattle.time_describe.specs.Values.{digits_named, bool_named, clock_named, case_named};
+ghost use Rattle.time_describe.specs.Values.{sign_named, base_named, trailing_input_named};
+ghost use Rattle.time_describe.specs.Values.{with_digit, whole_number, count_named};
 
 use time_below::format_description::modifier::{
     MonthRepr, Padding, SubsecondDigits, TrailingInput, UnixTimestampPrecision, WeekNumberRepr,

@@ -1,7 +1,8 @@
 //! How many digits a number has.
 ghost use Rattle.std.specs.Prelude.{◌≡◌, ℕ, length, decimal};
 
-/// A number whose decimal digits are counted. Signed numbers are left out: their sign is written first.
+/// A number whose decimal digits are counted. Signed numbers are left out: their sign is written
+/// first.
 pub trait DigitCount {
     /// The number.
     ghost number: { Self → ℕ };

@@ -1,6 +1,7 @@
 //! Facts about the definitions that the contracts of this crate speak of, and about its constants.
 //! Nothing here is run.
-ghost use Rattle.std.specs.Prelude.{◌≡◌, ◌↔◌, ℕ, IsTrue, ◌+◌, ◌*◌, ◌/◌, ◌%◌, ◌^◌, ◌<◌, ◌≤◌, [], ◌∷◌, ◌++◌, length, take, drop, decimal};
+ghost use Rattle.std.specs.Prelude.{◌≡◌, ◌↔◌, ℕ, IsTrue, ◌+◌, ◌*◌, ◌/◌, ◌%◌, ◌^◌, ◌<◌, ◌≤◌, []};
+ghost use Rattle.std.specs.Prelude.{◌∷◌, ◌++◌, length, take, drop, decimal};
 ghost use Rattle.time_digits.specs.Digits.{zero_padded, space_padded};
 ghost use Rattle.time_digits.specs.Fraction.{IsOnlyTrimmedFraction};
 ghost use Rattle.time_digits.specs.Shown.{shown, shown_end};
@@ -27,8 +28,8 @@ pub fn trimmed_fraction_is_shortest()
 {}
 
 /// The product of a number and 5243, shifted right by 19 bits, which divides it by 2 ^ 19, is the
-/// quotient of the number by 100, for each number from 0 to 43,698 and not for the next one. These are
-/// the two constants of `div_100`.
+/// quotient of the number by 100, for each number from 0 to 43,698 and not for the next one. These
+/// are the two constants of `div_100`.
 #[tactic(auto, using(crate::proofs::DivisionLemmas::quotient_by_5243))]
 pub fn quotient_by_5243()
     ensures up_to { (n : ℕ) → n ≤ 43_698 → n * 5243 / 2 ^ 19 ≡ n / 100 }

@@ -1,8 +1,8 @@
 //! Numbers with bounds, and the decimal texts of numbers, for the formatting of dates and times.
 //!
-//! No function here allocates. `new` and `narrow` of a number with bounds return `None` for a number outside
-//! of them, and nothing else is refused. A small number's text is borrowed from a constant
-//! table, a larger one comes in pieces of such texts, and a long one is in an array.
+//! No function here allocates. `new` and `narrow` of a number with bounds return `None` for a
+//! number outside of them, and nothing else is refused. A small number's text is borrowed from a
+//! constant table, a larger one comes in pieces of such texts, and a long one is in an array.
 #![tactic(auto)]
 
 pub mod digit_count;

@@ -2,7 +2,8 @@
 //!
 //! A text in several pieces is read by joining them, the first piece first. The bounds of a number
 //! are in its type; no call here tests them again.
-ghost use Rattle.std.specs.Prelude.{◌≡◌, ◌+◌, ◌-◌, ◌/◌, ◌%◌, ◌≤◌, [], ◌∷◌, ◌++◌, length, take, drop, min, decimal, unsigned_abs};
+ghost use Rattle.std.specs.Prelude.{◌≡◌, ◌+◌, ◌-◌, ◌/◌, ◌%◌, ◌≤◌, [], ◌∷◌, ◌++◌, length, take};
+ghost use Rattle.std.specs.Prelude.{drop, min, decimal, unsigned_abs};
 ghost use Rattle.std.specs.Int.{w64, to_le_bytes};
 ghost use Rattle.std.specs.Str.Parse.{AllDigits};
 ghost use Rattle.time_digits.specs.Digits.{fixed, zero_padded, space_padded};
@@ -90,7 +91,8 @@ pub fn two_digits_zero_padded(n: ru8<0, 99>) -> &'static str
     piece_of(ZERO_PADDED_PAIRS, 2 * n.get() as usize, 2)
 }
 
-/// The magnitude of `n` in two places, with a zero in front where it is below 10. It is read from a table by
+/// The magnitude of `n` in two places, with a zero in front where it is below 10. It is read from a
+/// table by
 /// `n` itself, so that no sign is taken away first.
 #[tactic(auto, using(crate::proofs::MagnitudeLemmas::magnitude_facts))]
 pub fn magnitude_zero_padded(n: ri8<59>) -> &'static str

@@ -50,7 +50,8 @@ pub struct StackTrailingStr<const N: usize> {
 impl<const N: usize> StackTrailingStr<N> {
     ghost use Rattle.time_digits.specs.Shown.{shown_end};
 
-    /// The text of the bytes from `start` on, which are ASCII, as the caller knows. Nothing is tested.
+    /// The text of the bytes from `start` on, which are ASCII, as the caller knows. Nothing is
+    /// tested.
     pub fn new(bytes: [u8; N], start: usize) -> Self
         requires within { start ≤ N }
         requires ascii { IsAscii (drop start bytes) }

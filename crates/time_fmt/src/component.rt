@@ -28,8 +28,9 @@ macro_rules! each {
     };
 }
 
-/// Appends the text of a component that is met often, whose writer becomes part of the loop over a list.
-/// Returns its refusal, if it is refused. Of any other component writes nothing and returns `None`.
+/// Appends the text of a component that is met often, whose writer becomes part of the loop over a
+/// list. Returns its refusal, if it is refused. Of any other component writes nothing and returns
+/// `None`.
 #[inline(always)]
 pub fn write_often<S: Sink, V: ComponentProvider>(
     component: Component,
@@ -49,8 +50,8 @@ pub fn write_often<S: Sink, V: ComponentProvider>(
     ], part => write_part(part, output, value, state), _ => None)
 }
 
-/// Appends the text of a component that is not deprecated. Returns its refusal, if it is refused. Of one
-/// that is deprecated writes nothing and returns `None`.
+/// Appends the text of a component that is not deprecated. Returns its refusal, if it is refused.
+/// Of one that is deprecated writes nothing and returns `None`.
 #[inline(always)]
 pub(crate) fn write_current<S: Sink, V: ComponentProvider>(
     component: Component,
@@ -82,8 +83,8 @@ pub(crate) fn write_current<S: Sink, V: ComponentProvider>(
     )
 }
 
-// Appends the text of a component that is not deprecated, by a call that is not inlined, as of one that is
-// seldom met. Returns its refusal, if it is refused.
+// Appends the text of a component that is not deprecated, by a call that is not inlined, as of one
+// that is seldom met. Returns its refusal, if it is refused.
 #[cold]
 #[inline(never)]
 fn write_rare<M: Modifier, S: Sink, V: ComponentProvider>(
@@ -101,8 +102,8 @@ fn write_rare<M: Modifier, S: Sink, V: ComponentProvider>(
     write_part(part, output, value, state)
 }
 
-/// Appends the text of any component, of a deprecated one that of the current one in its place. Returns
-/// its refusal, if it is refused.
+/// Appends the text of any component, of a deprecated one that of the current one in its place.
+/// Returns its refusal, if it is refused.
 pub fn end_component<S: Sink, V: ComponentProvider>(
     component: Component,
     output: &mut S,

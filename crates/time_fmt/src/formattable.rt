@@ -1,7 +1,9 @@
 //! Descriptions of a text.
 //!
 //! `cold` and `inline(never)` keep long or rare bodies out of their callers.
-ghost use Rattle.std.specs.Prelude.{◌≡◌, ◌≢◌, ℕ, List, ◌+◌, ◌<◌, ◌≤◌, None, IsOk, is_err, OnOk, IfOk, IfErr, IfSome, IsSome, IsSomeAnd, IsTrue, [], IsUtf8, string_bytes, vec_len, vec_capacity};
+ghost use Rattle.std.specs.Prelude.{◌≡◌, ◌≢◌, ℕ, List, ◌+◌, ◌<◌, ◌≤◌, None, IsOk, is_err, OnOk};
+ghost use Rattle.std.specs.Prelude.{IfOk, IfErr, IfSome, IsSome, IsSomeAnd, IsTrue, [], IsUtf8};
+ghost use Rattle.std.specs.Prelude.{string_bytes, vec_len, vec_capacity};
 ghost use Rattle.time_below.specs.Facts.{Facts};
 ghost use Rattle.time_fmt.specs.Outcome.{Outcome, Names, Appends, Adds, is_out_of_memory};
 ghost use Rattle.time_fmt.specs.Guarantee.{IsTextIf};
@@ -29,13 +31,14 @@ pub use trees::v3_write_into;
 
 /// A description, by which any value is formatted.
 ///
-/// The state that its methods take is a default one, or what earlier calls for the same value left in it.
+/// The state that its methods take is a default one, or what earlier calls for the same value left
+/// in it.
 pub trait Formattable: ComputeMetadata {
     /// What is written for a value with these components.
     ghost outcome_of: { Self → Facts → Outcome };
 
-    /// What a completed text says of a value with these components, where the description is a format
-    /// with a grammar; of others nothing is said.
+    /// What a completed text says of a value with these components, where the description is a
+    /// format with a grammar; of others nothing is said.
     ghost reads_as: { Self → Facts → List ℕ → Type 0 } = { λ _ _ _. Unit {0} };
 
     /// Appends the text of the value. The output needs spare capacity for the maximum length, which
@@ -109,8 +112,9 @@ pub trait Formattable: ComputeMetadata {
         self.write_into(output, value, state)
     }
 
-    /// The text of the value, after one reservation, or the refusal that ends it. Bytes that are no UTF-8,
-    /// which only byte literals make, are read as a whole with U+FFFD for what is no character.
+    /// The text of the value, after one reservation, or the refusal that ends it. Bytes that are no
+    /// UTF-8, which only byte literals make, are read as a whole with U+FFFD for what is no
+    /// character.
     ///
     /// The result is `OutOfMemory` if an allocation fails, for the text or for reading bytes that
     /// are no UTF-8, or if the maximum length has reached the greatest `usize`.
@@ -172,8 +176,8 @@ pub fn make_room(output: &mut Vec<u8>, width: usize) -> Result<(), AllocError>
     grow(output, width)
 }
 
-/// Reserves spare capacity for this many bytes, of which some are missing. A call of its own keeps the
-/// fast path free of what this one needs.
+/// Reserves spare capacity for this many bytes, of which some are missing. A call of its own keeps
+/// the fast path free of what this one needs.
 #[cold]
 #[inline(never)]
 fn grow(output: &mut Vec<u8>, width: usize) -> Result<(), AllocError>
@@ -187,7 +191,8 @@ fn grow(output: &mut Vec<u8>, width: usize) -> Result<(), AllocError>
     output.reserve_exact(width.max(capacity.saturating_add(capacity - len)))
 }
 
-/// An empty vector with room for so many bytes, if they are fewer than the greatest `usize` and are there.
+/// An empty vector with room for so many bytes, if they are fewer than the greatest `usize` and are
+/// there.
 fn with_room(alloc: Global, width: usize) -> Option<Vec<u8>>
     ensures items { IfSome result (λ v. v.items ≡ []) }
     ensures len { IfSome result (λ v. vec_len v ≡ 0) }

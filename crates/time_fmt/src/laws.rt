@@ -4,7 +4,9 @@ ghost use Rattle.time_below.specs.Tree.{all_of, borrowed_tree, owned_tree, v3_tr
 ghost use Rattle.time_below.specs.Width.{component_width};
 ghost use Rattle.time_fmt.specs.Ends.{refusal_of};
 ghost use Rattle.time_fmt.specs.Errors.{format_in, range_in};
-ghost use Rattle.time_fmt.specs.Laws.{Means, EqualTreesHaveEqualOutcomes, FirstIsItsFirstItem, ListIsItsItemsInOrder, OutcomesAreAMonoid, MetadataIsACommutativeMonoid};
+ghost use Rattle.time_fmt.specs.Laws.{Means, EqualTreesHaveEqualOutcomes, FirstIsItsFirstItem};
+ghost use Rattle.time_fmt.specs.Laws.{ListIsItsItemsInOrder, OutcomesAreAMonoid};
+ghost use Rattle.time_fmt.specs.Laws.{MetadataIsACommutativeMonoid};
 ghost use Rattle.time_fmt.specs.Longest.{ReachesWidth};
 ghost use Rattle.time_fmt.specs.Outcome.{Names};
 ghost use Rattle.time_fmt.specs.Sink.{vec_buffer};
@@ -106,8 +108,8 @@ pub fn metadata_is_a_commutative_monoid()
     ensures { MetadataIsACommutativeMonoid }
 {}
 
-/// An error becomes the variant that holds it, and is given back by that variant alone. A refusal of the
-/// engine becomes the error of its name.
+/// An error becomes the variant that holds it, and is given back by that variant alone. A refusal
+/// of the engine becomes the error of its name.
 pub fn errors_hold_what_they_are_made_of(
     range: &ComponentRange,
     format: &Format,
@@ -122,8 +124,8 @@ pub fn errors_hold_what_they_are_made_of(
         ↔ Names format.now (refusal_of refused) }
 {}
 
-/// What is given back is the range in an error, or the error of a format in an outer one; of each other
-/// variant it is `DifferentVariant`.
+/// What is given back is the range in an error, or the error of a format in an outer one; of each
+/// other variant it is `DifferentVariant`.
 pub fn errors_give_back_what_they_hold(
     format: &Format,
     error: &Error,

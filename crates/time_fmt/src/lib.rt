@@ -1,5 +1,5 @@
-//! The formatter: the text of a value by a description, appended to a vector of bytes or written to the start of a
-//! slice.
+//! The formatter: the text of a value by a description, appended to a vector of bytes or written to
+//! the start of a slice.
 #![tactic(auto)]
 
 mod component;

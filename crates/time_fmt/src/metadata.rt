@@ -18,8 +18,8 @@ pub trait ComputeMetadata {
     /// is said.
     ghost reaches_width: { Self → Type 0 } = { λ _. Unit {0} };
 
-    /// A number of bytes that no text exceeds, or the greatest `usize` if that is less, and whether the text
-    /// is sure to be UTF-8.
+    /// A number of bytes that no text exceeds, or the greatest `usize` if that is less, and whether
+    /// the text is sure to be UTF-8.
     fn compute_metadata(&self) -> Metadata
         ensures width { result.max_bytes_needed ≡ min (width_of self.now) usize.MAX }
         ensures text { result.guaranteed_utf8 ≡ is_guaranteed self.now }

@@ -7,7 +7,8 @@ ghost use Rattle.time_below.specs.Conversion.{is_current};
 ghost use Rattle.time_below.specs.declared.format_description.component.Component.{Component};
 ghost use Rattle.time_below.specs.Group.{group_of};
 ghost use Rattle.time_below.specs.Width.{component_width};
-ghost use Rattle.time_fmt.specs.Description.{component_outcome, supplied_outcome, has_group, is_supplied};
+ghost use Rattle.time_fmt.specs.Description.{component_outcome, supplied_outcome, has_group};
+ghost use Rattle.time_fmt.specs.Description.{is_supplied};
 ghost use Rattle.time_fmt.specs.Ends.{Ends};
 ghost use Rattle.time_fmt.specs.Sink.{Fits, Ready};
 
@@ -25,8 +26,8 @@ pub trait Modifier: Copy {
     /// The component with these choices.
     ghost component_of: { Self → Component };
 
-    /// The part of a value that the component is taken from, and the most bytes of its text, over all
-    /// values. The component is not deprecated.
+    /// The part of a value that the component is taken from, and the most bytes of its text, over
+    /// all values. The component is not deprecated.
     fn group_and_width(self) -> (Group, usize)
         ensures group { result.0 ≡ group_of (component_of self) }
         ensures width { result.1 ≡ component_width (component_of self) }
@@ -51,8 +52,8 @@ pub trait Modifier: Copy {
         ensures agrees { V.agrees state.new value.now };
 }
 
-/// Appends the text of any component that is not deprecated, by its choices. Returns its refusal, if it is
-/// refused.
+/// Appends the text of any component that is not deprecated, by its choices. Returns its refusal,
+/// if it is refused.
 #[inline(always)]
 pub fn write_part<M: Modifier, S: Sink, V: ComponentProvider>(
     part: M,

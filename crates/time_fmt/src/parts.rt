@@ -1,8 +1,8 @@
 //! Descriptions that are known at compile time, by their parts in order.
 //!
-//! A description that is in the program's text needs no list of items: `text!` makes one of its parts,
-//! and the compiler one function of that, with the outcome of the list of the same items. One import has
-//! all that it takes:
+//! A description that is in the program's text needs no list of items: `text!` makes one of its
+//! parts, and the compiler one function of that, with the outcome of the list of the same items.
+//! One import has all that it takes:
 //!
 //! ```text
 //! use time_fmt::parts::*;
@@ -10,8 +10,8 @@
 //! text!(YEAR, b"-", MONTH, b"-", DAY).format_into(line, date, &mut DateState::default())
 //! ```
 //!
-//! The constants are components by the choices that `time` takes where none are named: zeros before a
-//! number, a sign only where it is needed, letters as they are. Each line has the text of
+//! The constants are components by the choices that `time` takes where none are named: zeros before
+//! a number, a sign only where it is needed, letters as they are. Each line has the text of
 //! 1997-11-12 9:55:06.123456789 -06:30 as its example. Other choices are written out, as
 //! `Day { padding: Padding::None }` of `time_below::format_description::modifier`.
 
@@ -24,9 +24,9 @@ pub use time_provide::DateState;
 /// A description of its parts in order, as `text!(YEAR, b"-", MONTH)`.
 ///
 /// A text in bytes, as `b"-"`, is a [`Literal`]. Any other part is a description: the choices of a
-/// component, a well-known format, a tree, or another `text!`. The parts are put together in pairs, four by
-/// four, so that pairs are few deep: at a call of a method there may be 32 parts. (With more, the
-/// compiler's search for the impl ends: write a longer text by two calls.)
+/// component, a well-known format, a tree, or another `text!`. The parts are put together in pairs,
+/// four by four, so that pairs are few deep: at a call of a method there may be 32 parts. (With
+/// more, the compiler's search for the impl ends: write a longer text by two calls.)
 #[macro_export]
 macro_rules! text {
     (@[] [$a:expr]) => { $a };

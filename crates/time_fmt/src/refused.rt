@@ -7,8 +7,8 @@ ghost use Rattle.time_fmt.specs.Outcome.{Names};
 use crate::error::Format;
 use time_below::ComponentRange;
 
-/// Why a component has no text. A `Result<(), Refused>` is returned in registers, where one with the
-/// library's error lies in memory.
+/// Why a component has no text. A `Result<(), Refused>` is returned in registers, where one with
+/// the library's error lies in memory.
 #[derive(Clone, Copy)]
 pub enum Refused {
     /// A component is of a group that the value does not supply.

@@ -1,8 +1,9 @@
 //! The start of a buffer, as a sink.
 //!
-//! What the buffer held before is a ghost member of a type parameter. So the sink's own invariants say that
-//! what follows the text is as it was, and no writer has to.
-ghost use Rattle.std.specs.Prelude.{◌≡◌, ◌<◌, ◌≤◌, ◌+◌, ◌++◌, ℕ, List, [], Some, length, take, drop};
+//! What the buffer held before is a ghost member of a type parameter. So the sink's own invariants
+//! say that what follows the text is as it was, and no writer has to.
+ghost use Rattle.std.specs.Prelude.{◌≡◌, ◌<◌, ◌≤◌, ◌+◌, ◌++◌, ℕ, List, [], Some, length, take};
+ghost use Rattle.std.specs.Prelude.{drop};
 ghost use Rattle.time_fmt.specs.Sink.{Buffer};
 
 use crate::sink::Sink;

@@ -14,8 +14,9 @@ use time_below::Month;
 use time_digits::ru8;
 use time_provide::ComponentProvider;
 
-/// Appends the year of a value in at least four digits, after a sign if it is negative or above 9,999, and the
-/// month and the day in two digits each, with a byte before each of these two. Returns the number of bytes.
+/// Appends the year of a value in at least four digits, after a sign if it is negative or above
+/// 9,999, and the month and the day in two digits each, with a byte before each of these two.
+/// Returns the number of bytes.
 #[inline(always)]
 pub fn write_date<S: Sink, V: ComponentProvider>(
     between: (u8, u8),
@@ -47,8 +48,8 @@ fn number_of(month: Month) -> ru8<0, 99>
     ru8::within(u8::from(month))
 }
 
-/// Appends the hour, the minute and the second of a value in two digits each, with a byte before each of the
-/// last two. Returns the number of bytes.
+/// Appends the hour, the minute and the second of a value in two digits each, with a byte before
+/// each of the last two. Returns the number of bytes.
 pub fn write_time<S: Sink, V: ComponentProvider>(
     between: (u8, u8),
     output: &mut S,

@@ -1,7 +1,7 @@
 //! Sinks of bytes, which hold no more than they have capacity for. No writer makes one grow.
 //!
-//! Writers and the engine are generic over them. `Formattable` appends to vectors alone, since a format
-//! may be one of its impls, and a pair takes the vector out by what is known of vectors.
+//! Writers and the engine are generic over them. `Formattable` appends to vectors alone, since a
+//! format may be one of its impls, and a pair takes the vector out by what is known of vectors.
 ghost use Rattle.std.specs.Prelude.{◌≡◌, ◌+◌, ◌≤◌, ◌++◌, ◌∷◌, [], take, vec_len, vec_capacity};
 ghost use Rattle.time_fmt.specs.Sink.{Buffer, Fits, vec_buffer};
 
@@ -33,8 +33,8 @@ pub trait Sink: Sized {
         }
     }
 
-    /// How many more bytes it can hold. A writer that adds counts asks for it, since nothing else bounds
-    /// their sum.
+    /// How many more bytes it can hold. A writer that adds counts asks for it, since nothing else
+    /// bounds their sum.
     fn room(&self) -> usize
         ensures { (buffer self.now).len + result ≡ (buffer self.now).block.capacity };
 

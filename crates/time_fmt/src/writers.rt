@@ -1,5 +1,5 @@
-//! Texts appended to a sink with room for them. No writer allocates. Each returns the number of bytes that it
-//! has appended.
+//! Texts appended to a sink with room for them. No writer allocates. Each returns the number of
+//! bytes that it has appended.
 //!
 //! The impl of [`Modifier`](crate::Modifier) for a component is beside its writer.
 mod century;

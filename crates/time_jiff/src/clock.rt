@@ -12,10 +12,12 @@ use jiff_core::Timestamp as Instant;
 use jiff_tz::TimeZone;
 use time_below::{Timestamp, UtcOffset};
 
-/// The first second for which zones are asked, -9999-01-02T01:59:59Z. Moments before it have its offset.
+/// The first second for which zones are asked, -9999-01-02T01:59:59Z. Moments before it have its
+/// offset.
 const FIRST: i64 = -377_705_023_201;
 
-/// The last second for which zones are asked, 9999-12-30T22:00:00Z. Moments after it have its offset.
+/// The last second for which zones are asked, 9999-12-30T22:00:00Z. Moments after it have its
+/// offset.
 const LAST: i64 = 253_402_207_200;
 
 /// The nearest second for which zones are asked.
@@ -116,7 +118,8 @@ impl<'a> ZoneClock<'a> {
         }
     }
 
-    /// Asks the zone at this second. This is a call, so that a moment without a change has no memory for the answer.
+    /// Asks the zone at this second. This is a call, so that a moment without a change has no
+    /// memory for the answer.
     #[cold]
     #[inline(never)]
     fn ask(&mut self, second: i64)

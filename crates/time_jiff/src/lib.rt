@@ -1,5 +1,5 @@
-//! Values of the kit's `jiff` as values of Movaliren, and back: the same moments, offsets, dates and
-//! times.
+//! Values of the kit's `jiff` as values of Movaliren, and back: the same moments, offsets, dates
+//! and times.
 #![tactic(auto)]
 
 mod clock;
@@ -58,8 +58,8 @@ fn jiff_instant(nanoseconds: i128) -> Result<jiff::Timestamp, Error>
     }
 }
 
-/// The moment, if `jiff` has it: from -9999-01-02T01:59:59Z to 9999-12-30T22:00:00.999999999Z. Any other
-/// is refused by its Unix seconds.
+/// The moment, if `jiff` has it: from -9999-01-02T01:59:59Z to 9999-12-30T22:00:00.999999999Z. Any
+/// other is refused by its Unix seconds.
 pub fn jiff_timestamp(moment: time_below::Timestamp) -> Result<jiff::Timestamp, Error>
     ensures succeeds { IsOk result ↔ IsTimestampNanos (nanoseconds_of moment) }
     ensures value { IfOk result (λ t. t.nanosecond ≡ nanoseconds_of moment) }
@@ -163,8 +163,8 @@ pub fn jiff_date(date: Date) -> Result<jiff::civil::Date, Error>
     }
 }
 
-/// The date and the time of day for `jiff`, if it has the year: -9999 to 9999. Others are refused by
-/// their year.
+/// The date and the time of day for `jiff`, if it has the year: -9999 to 9999. Others are refused
+/// by their year.
 pub fn jiff_date_time(shown: PlainDateTime) -> Result<jiff::civil::DateTime, Error>
     ensures succeeds { IsOk result ↔ IsYear shown.date.year }
     ensures time { IfOk result (λ t. same_time t.time ≡ shown.time) }
@@ -213,7 +213,8 @@ fn in_fixed_zone(instant: jiff::Timestamp, moment: OffsetDateTime) -> jiff::Zone
 }
 
 /// The moment in the zone that always has its offset, if `jiff` has the moment: from
-/// -9999-01-02T01:59:59Z to 9999-12-30T22:00:00.999999999Z. Any other is refused by its Unix seconds.
+/// -9999-01-02T01:59:59Z to 9999-12-30T22:00:00.999999999Z. Any other is refused by its Unix
+/// seconds.
 pub fn jiff_zoned(moment: OffsetDateTime) -> Result<jiff::Zoned<'static>, Error>
     ensures succeeds { IsOk result ↔ IsTimestampNanos (local_nanoseconds moment) }
     ensures moment { IfOk result (λ z. zoned_nanos z ≡ local_nanoseconds moment) }

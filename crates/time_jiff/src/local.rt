@@ -30,9 +30,11 @@ pub trait NowLocal: Sized {
 }
 
 impl NowLocal for OffsetDateTime {
-    /// The date and time that the clock shows now in the zone, with the offset of the zone at that moment.
+    /// The date and time that the clock shows now in the zone, with the offset of the zone at that
+    /// moment.
     ///
-    /// A clock that cannot be read is an error of its kind. One that shows a moment outside the range of
+    /// A clock that cannot be read is an error of its kind. One that shows a moment outside the
+    /// range of
     /// `jiff`, which ends at 9999-12-30T22:00:00.999999999Z, is refused by a range of `jiff`.
     fn now_local<C: Clock>(clock: &C, zone: &TimeZone<'_>) -> Result<OffsetDateTime, Error>
         ensures since_1970 { IfOk result (λ t. pos 0 ≤ℤ local_nanoseconds t) }
@@ -66,8 +68,9 @@ impl LocalOffset for UtcOffset {
         }
     }
 
-    /// The offset that the zone has at the moment, if `jiff` has the moment: from -9999-01-02T01:59:59Z to
-    /// 9999-12-30T22:00:00.999999999Z. Any other is refused by its Unix seconds.
+    /// The offset that the zone has at the moment, if `jiff` has the moment: from
+    /// -9999-01-02T01:59:59Z to 9999-12-30T22:00:00.999999999Z. Any other is refused by its Unix
+    /// seconds.
     fn local_offset_at(moment: OffsetDateTime, zone: &TimeZone<'_>) -> Result<UtcOffset, Error>
         ensures succeeds { IsOk result ↔ IsTimestampNanos (local_nanoseconds moment) }
         ensures offset { IfOk result (HasOffsetAt (plain_zone zone.now) (local_nanoseconds moment)) }

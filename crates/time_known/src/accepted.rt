@@ -33,9 +33,9 @@ impl OutOfRange {
     }
 }
 
-/// The year as a number of four digits, if it is from the first to 9,999, and the offset has at most
-/// this many hours and no seconds. Else the first of them that is refused. No offset has more than 25
-/// hours, so that where these are the most they are not tested.
+/// The year as a number of four digits, if it is from the first to 9,999, and the offset has at
+/// most this many hours and no seconds. Else the first of them that is refused. No offset has more
+/// than 25 hours, so that where these are the most they are not tested.
 pub fn accepted_year(
     first: u16,
     greatest_hour: u8,

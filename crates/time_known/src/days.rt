@@ -13,8 +13,8 @@ use time_digits::tables::piece_of;
 use time_digits::{ru8, ru16, two_digits_zero_padded};
 use time_provide::ranges::{Day, Ordinal, Year};
 
-// Two digits of the month and two of the day, a space and the month's name, of each day of a leap year:
-// eight bytes a day. A common year has all of these but 29 February.
+// Two digits of the month and two of the day, a space and the month's name, of each day of a leap
+// year: eight bytes a day. A common year has all of these but 29 February.
 const DAYS: &str = "\
 0101 Jan0102 Jan0103 Jan0104 Jan0105 Jan0106 Jan0107 Jan0108 Jan\
 0109 Jan0110 Jan0111 Jan0112 Jan0113 Jan0114 Jan0115 Jan0116 Jan\

@@ -27,8 +27,8 @@ pub struct Fields {
     pub offset: UtcOffset,
 }
 
-/// Returns the fields of a value whose year is from the first to 9,999, and whose offset has at most this
-/// many hours and no seconds. Else returns the first of these that has no place.
+/// Returns the fields of a value whose year is from the first to 9,999, and whose offset has at
+/// most this many hours and no seconds. Else returns the first of these that has no place.
 pub fn accepted_fields<V: ComponentProvider>(
     first: u16,
     greatest_hour: u8,

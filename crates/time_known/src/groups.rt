@@ -1,8 +1,8 @@
 //! Which groups of a value a text is made of.
 use time_provide::ComponentProvider;
 
-// The groups of a value that a text is made of: a format that needs one refuses each value that does
-// not supply it, ahead of all other refusals.
+// The groups of a value that a text is made of: a format that needs one refuses each value that
+// does not supply it, ahead of all other refusals.
 #[derive(Clone, Copy)]
 pub(crate) struct Groups {
     pub(crate) date: bool,

@@ -10,7 +10,8 @@ ghost use Rattle.time_fmt.specs.Sink.{Fits, Puts};
 ghost use Rattle.time_known.specs.Days.{month_and_day};
 ghost use Rattle.time_known.specs.Fields.{shown};
 ghost use Rattle.time_known.specs.Sink.{PutsUpTo};
-ghost use Rattle.time_known.specs.WellKnown.{clock_text, offset_hours_text, offset_text, signed_offset_text, date_text, month_and_day_text};
+ghost use Rattle.time_known.specs.WellKnown.{clock_text, offset_hours_text, offset_text};
+ghost use Rattle.time_known.specs.WellKnown.{signed_offset_text, date_text, month_and_day_text};
 
 use crate::days::CalendarDay;
 use crate::fields::Fields;
@@ -112,7 +113,8 @@ pub fn put_offset_hours<S: Sink>(output: &mut S, offset: UtcOffset)
     write(output, offset_hours(offset));
 }
 
-/// Puts the sign of the whole offset, and its hours and its minutes, and the separator between them.
+/// Puts the sign of the whole offset, and its hours and its minutes, and the separator between
+/// them.
 #[inline(always)]
 pub fn put_signed_offset<S: Sink>(output: &mut S, offset: UtcOffset, separator: &str)
     requires room { Fits (S.buffer output.old) (5 + length separator.now) }
@@ -125,7 +127,8 @@ pub fn put_signed_offset<S: Sink>(output: &mut S, offset: UtcOffset, separator: 
     write(output, offset_minutes(offset));
 }
 
-/// Puts `Z` for UTC, else the sign of the whole offset, its hours and its minutes, and the separator between them.
+/// Puts `Z` for UTC, else the sign of the whole offset, its hours and its minutes, and the
+/// separator between them.
 #[inline(always)]
 pub fn put_offset<S: Sink>(output: &mut S, offset: UtcOffset, separator: &str)
     requires room { Fits (S.buffer output.old) (5 + length separator.now) }

@@ -23,9 +23,9 @@ use time_provide::ComponentProvider;
 
 /// The format of RFC 3339, section 5.6, as `1985-04-12T23:20:50.52Z`, of at most 35 bytes.
 ///
-/// It needs a date, a time of day and an offset. A year outside 0 to 9,999 is refused, then an offset
-/// of more than 23 hours, then one with seconds, each before any byte. A fraction of a second is
-/// written where there is one, by as many digits as it needs, and UTC by `Z`.
+/// It needs a date, a time of day and an offset. A year outside 0 to 9,999 is refused, then an
+/// offset of more than 23 hours, then one with seconds, each before any byte. A fraction of a
+/// second is written where there is one, by as many digits as it needs, and UTC by `Z`.
 #[derive(Debug, Clone, Copy, PartialEq, Eq)]
 pub struct Rfc3339;
 

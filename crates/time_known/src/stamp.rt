@@ -1,8 +1,10 @@
 //! Stamps: texts of moments whose bytes are in the order of the moments.
-ghost use Rattle.std.specs.Prelude.{◌≡◌, ◌≢◌, ◌↔◌, ◌++◌, ◌+◌, codes, IsOk, IfOk, IfErr, OnErr, vec_len, vec_capacity};
+ghost use Rattle.std.specs.Prelude.{◌≡◌, ◌≢◌, ◌↔◌, ◌++◌, ◌+◌, codes, IsOk, IfOk, IfErr, OnErr};
+ghost use Rattle.std.specs.Prelude.{vec_len, vec_capacity};
 ghost use Rattle.time_fmt.specs.Outcome.{Names, invalid_component, is_out_of_memory};
 ghost use Rattle.time_fmt.specs.Room.{HasRoom, Reserves};
-ghost use Rattle.time_known.specs.Stamps.{HasStamp, IsStampYear, stamp_length, stamp_text, stamp_width};
+ghost use Rattle.time_known.specs.Stamps.{HasStamp, IsStampYear, stamp_length, stamp_text};
+ghost use Rattle.time_known.specs.Stamps.{stamp_width};
 
 use crate::Iso8601;
 use std::default::Default;
@@ -10,8 +12,8 @@ use time_below::UtcDateTime;
 use time_fmt::{Format, Formattable};
 use time_provide::DateState;
 
-/// Appends the stamp of a date and time in UTC, as `1997-11-12T15:55:06.000000000Z`: its text by the
-/// default configuration of ISO 8601. Stamps sort by their bytes as their moments do.
+/// Appends the stamp of a date and time in UTC, as `1997-11-12T15:55:06.000000000Z`: its text by
+/// the default configuration of ISO 8601. Stamps sort by their bytes as their moments do.
 ///
 /// Returns 30, the number of bytes appended. A year outside 0 to 9,999 is refused as the component
 /// `year`, and nothing is appended. Reserves once if the spare capacity is below the 35 bytes of

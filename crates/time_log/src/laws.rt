@@ -1,4 +1,5 @@
-//! Laws of the texts: the contract of each function is the law, over the definitions alone. Each body is empty.
+//! Laws of the texts: the contract of each function is the law, over the definitions alone. Each
+//! body is empty.
 ghost use Rattle.std.specs.Prelude.{◌≡◌, ◌↔◌, IsTrue};
 ghost use Rattle.time_below.specs.Clones.{AreSame};
 ghost use Rattle.time_known.specs.Laws.{IsValue};
@@ -9,8 +10,8 @@ ghost use Rattle.time_log.specs.LogText.{IsFourDigits, IsLogOffset, cut, digits_
 use crate::decimals::Decimals;
 use crate::log_time::LogTime;
 
-/// The text of a value is one of RFC 3339, and spells the value, cut to the decimals. This holds for each
-/// local date and time whose year has four digits, at each offset that is not refused.
+/// The text of a value is one of RFC 3339, and spells the value, cut to the decimals. This holds
+/// for each local date and time whose year has four digits, at each offset that is not refused.
 #[tactic(auto, using(crate::proofs::SpelledLemmas::spelled))]
 pub fn texts_are_spelled(decimals: Decimals)
     ensures { (v : OffsetDateAndTime) → IsValue v → IsFourDigits v.date.year → IsLogOffset v.offset

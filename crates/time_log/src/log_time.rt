@@ -1,5 +1,7 @@
 //! The times of the lines of one log.
-ghost use Rattle.std.specs.Prelude.{◌≡◌, ◌≢◌, ◌↔◌, ◌+◌, ◌<◌, ◌≤◌, ◌++◌, ◌+ℤ◌, pos, codes, nat_le, unsigned_abs, IfSome, IsSome, IsOk, is_err, IfOk, IfErr, OnErr, if◌then◌else◌, vec_len, vec_capacity};
+ghost use Rattle.std.specs.Prelude.{◌≡◌, ◌≢◌, ◌↔◌, ◌+◌, ◌<◌, ◌≤◌, ◌++◌, ◌+ℤ◌, pos, codes, nat_le};
+ghost use Rattle.std.specs.Prelude.{unsigned_abs, IfSome, IsSome, IsOk, is_err, IfOk, IfErr, OnErr};
+ghost use Rattle.std.specs.Prelude.{if◌then◌else◌, vec_len, vec_capacity};
 ghost use Rattle.time_below.specs.Offset.{offset_seconds, utc};
 ghost use Rattle.time_digits.specs.Shown.{shown};
 ghost use Rattle.time_fmt.specs.Outcome.{Names, invalid_component};
@@ -161,8 +163,8 @@ impl LogTime {
         Ok(self.length)
     }
 
-    /// The text of a moment, which [`append`](LogTime::append) would append, in memory of its own. There is none
-    /// where the year at the offset is outside 0 to 9,999. Nothing is allocated.
+    /// The text of a moment, which [`append`](LogTime::append) would append, in memory of its own.
+    /// There is none where the year at the offset is outside 0 to 9,999. Nothing is allocated.
     pub fn text(&mut self, moment: Timestamp) -> Option<StackStr<35>>
         ensures same { self.new ≡ self.old }
         ensures text { IfSome result (λ t. shown t ≡ log_text self.old moment) }

@@ -1,5 +1,6 @@
 //! The text of a moment, from what is cached.
-ghost use Rattle.std.specs.Prelude.{◌≡◌, ◌≤◌, ◌+◌, ◌++◌, IsAscii, codes, if◌then◌else◌, length, take};
+ghost use Rattle.std.specs.Prelude.{◌≡◌, ◌≤◌, ◌+◌, ◌++◌, IsAscii, codes, if◌then◌else◌, length};
+ghost use Rattle.std.specs.Prelude.{take};
 ghost use Rattle.time_digits.specs.Shown.{shown};
 ghost use Rattle.time_fmt.specs.Decimals.{decimals as decimals_of};
 ghost use Rattle.time_fmt.specs.Room.{HasRoom};
@@ -39,8 +40,8 @@ pub(crate) fn append_text(
     put_back(output, taken);
 }
 
-/// Appends the bytes, whose number the compiler knows. They are read before any is written, so that they
-/// become a few stores.
+/// Appends the bytes, whose number the compiler knows. They are read before any is written, so that
+/// they become a few stores.
 pub(crate) fn push_each<const N: usize>(output: &mut Vec<u8>, bytes: [u8; N])
     requires long { length bytes ≡ N }
     requires room { HasRoom output.old N }

@@ -40,8 +40,8 @@ pub(crate) fn add_nodes<T: Node>(
     Ok(())
 }
 
-/// Adds a text or a component, and nothing of any other node. It becomes part of the loop over a list, so
-/// that no item of these needs a call there.
+/// Adds a text or a component, and nothing of any other node. It becomes part of the loop over a
+/// list, so that no item of these needs a call there.
 fn add_leaf<T: Node>(
     alloc: Global,
     steps: &mut Vec<Step>,

@@ -8,8 +8,9 @@ use crate::plan::Plan;
 use time_below::format_description::{BorrowedFormatItem, FormatDescriptionV3, OwnedFormatItem};
 use time_fmt::{BorrowedItems, Formattable, OwnedItems};
 
-/// A plan with the outcome of a description's tree, as `Plan::of` and `Plan::of_items` make it, gives for
-/// every value what the description gives: an item, a version 3 description or a list, borrowed or owned.
+/// A plan with the outcome of a description's tree, as `Plan::of` and `Plan::of_items` make it,
+/// gives for every value what the description gives: an item, a version 3 description or a list,
+/// borrowed or owned.
 pub fn plans_give_what_they_were_made_of(
     plan: &Plan,
     borrowed: &BorrowedFormatItem<'_>,

@@ -20,8 +20,9 @@ use time_provide::ComponentProvider;
 
 /// A description that was made of a tree once, with its width kept.
 ///
-/// It has the tree's outcome for every value, its width and its guarantee of UTF-8. Dates and times cost
-/// less than half of what they cost by the tree, so a plan pays where it writes more than a few texts.
+/// It has the tree's outcome for every value, its width and its guarantee of UTF-8. Dates and times
+/// cost less than half of what they cost by the tree, so a plan pays where it writes more than a
+/// few texts.
 #[derive(Drop)]
 pub struct Plan {
     steps: Vec<Step>,

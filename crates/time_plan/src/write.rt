@@ -60,8 +60,8 @@ pub fn write_steps<S: Sink, V: ComponentProvider>(
     Ok(())
 }
 
-/// Writes a step that is met often, and returns its refusal, if it is refused. Of any other it writes
-/// nothing, and returns `None`. It becomes part of the loop.
+/// Writes a step that is met often, and returns its refusal, if it is refused. Of any other it
+/// writes nothing, and returns `None`. It becomes part of the loop.
 fn write_step<S: Sink, V: ComponentProvider>(
     step: &Step,
     output: &mut S,
@@ -84,8 +84,8 @@ fn write_step<S: Sink, V: ComponentProvider>(
     }
 }
 
-/// Writes what a step shows, if that is met often, and returns its refusal, if it is refused. Of any other
-/// component it writes nothing, and returns `None`.
+/// Writes what a step shows, if that is met often, and returns its refusal, if it is refused. Of
+/// any other component it writes nothing, and returns `None`.
 fn write_shown<S: Sink, V: ComponentProvider>(
     shown: &Shown,
     output: &mut S,
@@ -179,8 +179,8 @@ pub fn end_shown<S: Sink, V: ComponentProvider>(
     }
 }
 
-/// Writes the literal behind a component, and returns the number of bytes. For more than two bytes the sink
-/// is taken out once more.
+/// Writes the literal behind a component, and returns the number of bytes. For more than two bytes
+/// the sink is taken out once more.
 #[inline(always)]
 fn write_literal<S: Sink>(output: &mut S, literal: &Literal) -> usize
     requires room { Fits (S.buffer output.old) (length (literal_bytes literal.now)) }

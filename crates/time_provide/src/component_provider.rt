@@ -4,14 +4,16 @@
 ghost use Rattle.std.specs.Prelude.{◌≡◌, ◌≤◌, ◌<◌, Bool, IsTrue, unsigned_abs};
 ghost use Rattle.std.specs.Int.{IsInRange};
 ghost use Rattle.time_below.specs.Calendar.{IsDate};
-ghost use Rattle.time_below.specs.Facts.{Facts, date_facts, the_date, the_time, the_offset, the_moment};
+ghost use Rattle.time_below.specs.Facts.{Facts, date_facts, the_date, the_time, the_offset};
+ghost use Rattle.time_below.specs.Facts.{the_moment};
 ghost use Rattle.time_below.specs.Moment.{Moment, IsNearMoment, milliseconds};
 ghost use Rattle.time_below.specs.Month.{month_number};
 ghost use Rattle.time_below.specs.Offset.{Offset, IsOffset, is_negative, is_utc};
 ghost use Rattle.time_below.specs.TimeOfDay.{TimeOfDay, IsTimeOfDay, period_of};
 ghost use Rattle.time_below.specs.Weekday.{days_from_monday};
 ghost use Rattle.time_provide.specs.Laws.{States, Supplies};
-ghost use Rattle.time_provide.specs.Real.{AgreesOnDate, AgreesOnTime, AgreesOnOffset, AgreesOnMoment};
+ghost use Rattle.time_provide.specs.Real.{AgreesOnDate, AgreesOnTime, AgreesOnOffset};
+ghost use Rattle.time_provide.specs.Real.{AgreesOnMoment};
 
 use crate::kept::Kept;
 use crate::ranges::{
@@ -43,12 +45,14 @@ pub trait ComponentProvider {
 
     ghost SUPPLIES_DATE: { Bool };
 
-    /// Whether the value has a date, which `supplied_date` and the methods from `day` to `iso_year` return.
+    /// Whether the value has a date, which `supplied_date` and the methods from `day` to `iso_year`
+    /// return.
     const SUPPLIES_DATE: bool;
 
     ghost SUPPLIES_TIME: { Bool };
 
-    /// Whether the value has a time of day, which `supplied_time`, `nanosecond` and the methods from
+    /// Whether the value has a time of day, which `supplied_time`, `nanosecond` and the methods
+    /// from
     /// `hour` to `second` return.
     const SUPPLIES_TIME: bool;
 
@@ -97,7 +101,8 @@ pub trait ComponentProvider {
         ensures value { the_offset (facts self.now) ≡ result }
         ensures real { IsOffset result };
 
-    /// The seconds since 1970-01-01T00:00:00 UTC, rounded down, and the nanosecond counted forward from there.
+    /// The seconds since 1970-01-01T00:00:00 UTC, rounded down, and the nanosecond counted forward
+    /// from there.
     fn supplied_moment(&self) -> (i64, u32)
         requires supplied { IsTrue SUPPLIES_TIMESTAMP }
         ensures seconds { (the_moment (facts self.now)).seconds ≡ result.0 }
@@ -112,7 +117,8 @@ pub trait ComponentProvider {
     ghost states: { (value : Self) → States Self.State.holds Self.State.grows keeps
         (λ state. agrees state value) (the_date (facts value)) };
 
-    // A fresh state agrees with every value. Callers with a value of any type search for this law, so it stands alone.
+    // A fresh state agrees with every value. Callers with a value of any type search for this law,
+    // so it stands alone.
     ghost fresh: { (state : Self.State) (value : Self) → Self.State.is_default state
         → agrees state value };
 

@@ -1,8 +1,11 @@
-//! What values supply, what their states hold, and which states are equal: the contract of each function is the law, and its body
-//! does nothing.
+//! What values supply, what their states hold, and which states are equal: the contract of each
+//! function is the law, and its body does nothing.
 ghost use Rattle.std.specs.Prelude.{◌≡◌, ◌↔◌, IsTrue};
 ghost use Rattle.time_below.specs.Calendar.{OrdinalDate};
-ghost use Rattle.time_below.specs.Facts.{date_facts, facts_of_date, facts_of_time, facts_of_plain_date_time, facts_of_offset, facts_of_utc_date_time, facts_of_offset_date_time, facts_of_timestamp};
+ghost use Rattle.time_below.specs.Facts.{date_facts, facts_of_date, facts_of_time};
+ghost use Rattle.time_below.specs.Facts.{facts_of_plain_date_time, facts_of_offset};
+ghost use Rattle.time_below.specs.Facts.{facts_of_utc_date_time, facts_of_offset_date_time};
+ghost use Rattle.time_below.specs.Facts.{facts_of_timestamp};
 ghost use Rattle.time_below.specs.Moment.{Moment, DateAndTime, OffsetDateAndTime};
 ghost use Rattle.time_below.specs.Offset.{Offset};
 ghost use Rattle.time_below.specs.TimeOfDay.{TimeOfDay};

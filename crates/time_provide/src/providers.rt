@@ -1,7 +1,10 @@
 //! The values that supply components, by their groups.
 ghost use Rattle.std.proofs.Common.{rules};
 ghost use Rattle.std.specs.Prelude.{◌≡◌, true, false, pos};
-ghost use Rattle.time_below.specs.Facts.{date_facts, facts_of_date, facts_of_time, facts_of_plain_date_time, facts_of_offset, facts_of_utc_date_time, facts_of_offset_date_time, facts_of_timestamp};
+ghost use Rattle.time_below.specs.Facts.{date_facts, facts_of_date, facts_of_time};
+ghost use Rattle.time_below.specs.Facts.{facts_of_plain_date_time, facts_of_offset};
+ghost use Rattle.time_below.specs.Facts.{facts_of_utc_date_time, facts_of_offset_date_time};
+ghost use Rattle.time_below.specs.Facts.{facts_of_timestamp};
 ghost use Rattle.time_below.specs.Offset.{utc};
 ghost use Rattle.time_provide.specs.Agreement.{Agrees, AgreesWithMoment, Keeps, KeepsOfMoment};
 ghost use Rattle.time_provide.specs.Laws.{kept_itself, kept_on};

@@ -1,6 +1,7 @@
 //! Types of moments.
 ghost use Rattle.std.specs.Prelude.{◌≡◌, ◌↔◌, ⊤, IfSome, IsSome};
-ghost use Rattle.time_below.specs.Moment.{IsTimestampSecond, OffsetDateAndTime, local_unix_seconds, utc_date_and_time};
+ghost use Rattle.time_below.specs.Moment.{IsTimestampSecond, OffsetDateAndTime, local_unix_seconds};
+ghost use Rattle.time_below.specs.Moment.{utc_date_and_time};
 ghost use Rattle.time_serde.specs.Moments.{in_utc, instant_of};
 
 use time_below::{OffsetDateTime, Timestamp, UtcDateTime, UtcOffset};

@@ -35,10 +35,11 @@ fn text_of(local: &OffsetDateTime) -> Result<Rfc3339Text, OutOfRange>
     }
 }
 
-/// Writes the moment as a text of RFC 3339, section 5.6, of at most 35 bytes. Only the serializer allocates.
+/// Writes the moment as a text of RFC 3339, section 5.6, of at most 35 bytes. Only the serializer
+/// allocates.
 ///
-/// A year outside 0 to 9,999, an offset of more than 23 hours or one with seconds is an error of the
-/// serializer, whose message names the component.
+/// A year outside 0 to 9,999, an offset of more than 23 hours or one with seconds is an error of
+/// the serializer, whose message names the component.
 pub fn serialize<T: Moment, S: Serializer>(moment: &T, out: &mut S) -> Result<(), S::Error>
     ensures { OnOk result (WritesText (rfc3339_of (T.local moment.now))
         (S.written out.old) (S.written out.new)) }

@@ -1,4 +1,5 @@
-//! Texts that are written without an allocation, and read without one where they stand in the input.
+//! Texts that are written without an allocation, and read without one where they stand in the
+//! input.
 ghost use Rattle.std.specs.Prelude.{◌≡◌, ◌≤◌, ◌++◌, IfOk, IsUtf8, OnOk, drop, length};
 ghost use Rattle.std.specs.Cow.{cow_str_bytes};
 ghost use Rattle.serde.specs.Event.{Logs, text as text_event};
@@ -51,7 +52,8 @@ pub(crate) fn write_text<T: Text, S: Serializer>(text: &T, out: &mut S) -> Resul
     }
 }
 
-/// Reads a text, which is copied only where it does not stand in the input as it reads, as with an escape.
+/// Reads a text, which is copied only where it does not stand in the input as it reads, as with an
+/// escape.
 pub(crate) fn read_text<'de, F: Format>(
     alloc: Global,
     from: &mut Deserializer<'de, '_, F>,

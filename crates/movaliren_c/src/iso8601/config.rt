@@ -1,6 +1,7 @@
 //! Configurations of ISO 8601 in the interface.
 ghost use Rattle.std.specs.Prelude.{◌≡◌, IfSome, IsTrue, Ok};
-ghost use Rattle.movaliren_c.specs.Chosen.{components_at, date_kind_at, decimals_at, precision_at, offset_precision_at, sign_at, choices_at, separated};
+ghost use Rattle.movaliren_c.specs.Chosen.{components_at, date_kind_at, decimals_at, precision_at};
+ghost use Rattle.movaliren_c.specs.Chosen.{offset_precision_at, sign_at, choices_at, separated};
 
 use crate::reason::{Reason, flag_at};
 use std::default::Default;

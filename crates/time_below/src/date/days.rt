@@ -1,6 +1,9 @@
 //! Days by their number, and days near a date.
-ghost use Rattle.std.specs.Prelude.{◌≡◌, ◌↔◌, ◌+◌, ◌-◌, ◌*◌, ◌^◌, ◌<◌, IsNone, IsOk, IfOk, IfErr, IfSome, codes, pos, ◌+ℤ◌, ◌-ℤ◌, unsigned_abs, ◌≤◌};
-ghost use Rattle.time_below.specs.Calendar.{IsDayNumber, first_date, last_date, next_day, day_number, date_at, julian_day_of, days_to_next, days_from_last};
+ghost use Rattle.std.specs.Prelude.{◌≡◌, ◌↔◌, ◌+◌, ◌-◌, ◌*◌, ◌^◌, ◌<◌, IsNone, IsOk, IfOk, IfErr};
+ghost use Rattle.std.specs.Prelude.{IfSome, codes, pos, ◌+ℤ◌, ◌-ℤ◌, unsigned_abs, ◌≤◌};
+ghost use Rattle.time_below.specs.Calendar.{IsDayNumber, first_date, last_date, next_day};
+ghost use Rattle.time_below.specs.Calendar.{day_number, date_at, julian_day_of, days_to_next};
+ghost use Rattle.time_below.specs.Calendar.{days_from_last};
 ghost use Rattle.time_below.specs.ComponentRange.{range_refusal, unconditional_range};
 ghost use Rattle.time_below.specs.Weekday.{days_from_monday};
 

@@ -1,7 +1,10 @@
 //! Dates with another year, month or day.
-ghost use Rattle.std.specs.Prelude.{◌≡◌, ◌↔◌, nat_le, IsOk, IfOk, IfErr, codes, if◌then◌else◌, unsigned_abs};
-ghost use Rattle.time_below.specs.Calendar.{greatest_year, IsYear, IsDate, IsDayOfMonth, month_of, day_of, date_of};
-ghost use Rattle.time_below.specs.ComponentRange.{range_refusal, conditional_range, unconditional_range};
+ghost use Rattle.std.specs.Prelude.{◌≡◌, ◌↔◌, nat_le, IsOk, IfOk, IfErr, codes, if◌then◌else◌};
+ghost use Rattle.std.specs.Prelude.{unsigned_abs};
+ghost use Rattle.time_below.specs.Calendar.{greatest_year, IsYear, IsDate, IsDayOfMonth, month_of};
+ghost use Rattle.time_below.specs.Calendar.{day_of, date_of};
+ghost use Rattle.time_below.specs.ComponentRange.{range_refusal, conditional_range};
+ghost use Rattle.time_below.specs.ComponentRange.{unconditional_range};
 ghost use Rattle.time_below.specs.Month.{month_number};
 
 use super::Date;

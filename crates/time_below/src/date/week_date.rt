@@ -1,8 +1,11 @@
 //! Dates of the week calendar (ISO 8601-1:2019, 5.2.4).
-ghost use Rattle.std.specs.Prelude.{◌≡◌, ◌↔◌, ◌<◌, ◌≤◌, nat_le, ◌&&◌, IsOk, IfOk, IfErr, codes, if◌then◌else◌, pos, ◌+ℤ◌, unsigned_abs};
+ghost use Rattle.std.specs.Prelude.{◌≡◌, ◌↔◌, ◌<◌, ◌≤◌, nat_le, ◌&&◌, IsOk, IfOk, IfErr, codes};
+ghost use Rattle.std.specs.Prelude.{if◌then◌else◌, pos, ◌+ℤ◌, unsigned_abs};
 ghost use Rattle.std.specs.Int.{IsInRange};
-ghost use Rattle.time_below.specs.Calendar.{greatest_year, IsYear, IsDayNumber, date_at, weekday_of, iso_year_of, iso_week_of, days_before};
-ghost use Rattle.time_below.specs.ComponentRange.{range_refusal, conditional_range, unconditional_range};
+ghost use Rattle.time_below.specs.Calendar.{greatest_year, IsYear, IsDayNumber, date_at};
+ghost use Rattle.time_below.specs.Calendar.{weekday_of, iso_year_of, iso_week_of, days_before};
+ghost use Rattle.time_below.specs.ComponentRange.{range_refusal, conditional_range};
+ghost use Rattle.time_below.specs.ComponentRange.{unconditional_range};
 ghost use Rattle.time_below.specs.WeekDate.{weeks_in_year, first_monday, week_day_number};
 ghost use Rattle.time_below.specs.Weekday.{days_from_monday};
 

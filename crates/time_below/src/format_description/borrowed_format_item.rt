@@ -6,8 +6,8 @@ use crate::format_description::{Component, Layer, Node, component_bound};
 
 /// A description whose parts are borrowed.
 ///
-/// It is walked by recursion, so the stack bounds its depth. A test formats 1,000 levels of items in
-/// items; a level took at most 305 bytes of the stack when it was measured.
+/// It is walked by recursion, so the stack bounds its depth. A test formats 1,000 levels of items
+/// in items; a level took at most 305 bytes of the stack when it was measured.
 #[derive(Clone, Drop)]
 pub enum BorrowedFormatItem<'a> {
     /// Bytes, which need not be UTF-8.

@@ -4,7 +4,8 @@
 ghost use Rattle.std.specs.Prelude.{◌≡◌, ◌≤◌, IsTrue};
 ghost use Rattle.time_below.specs.Conversion.{current_component, is_current};
 ghost use Rattle.time_below.specs.Group.{group_of};
-ghost use Rattle.time_below.specs.Width.{component_width, subsecond_width, month_width, weekday_width, unix_timestamp_width, year_width};
+ghost use Rattle.time_below.specs.Width.{component_width, subsecond_width, month_width};
+ghost use Rattle.time_below.specs.Width.{weekday_width, unix_timestamp_width, year_width};
 
 use crate::format_description::conversion::{
     current_hour, current_month, current_unix_timestamp, current_week_number, current_weekday,
@@ -127,7 +128,8 @@ macro_rules! one_of {
     ($($name:ident)+) => { $(Component::$name(_))|+ };
 }
 
-// A match with the width of each component that has the same one for all choices. The other arms follow.
+// A match with the width of each component that has the same one for all choices. The other arms
+// follow.
 macro_rules! width_of {
     ($component:expr, $($other:pat => $width:expr),+ $(,)?) => {
         match $component {
@@ -194,8 +196,8 @@ impl Component {
     }
 }
 
-/// The most bytes of the component's text, over all values. For a deprecated `Year` of the standard range
-/// it is the width of the extended range.
+/// The most bytes of the component's text, over all values. For a deprecated `Year` of the standard
+/// range it is the width of the extended range.
 #[inline(always)]
 pub fn component_width(component: &Component) -> usize
     ensures { result ≡ component_width component.now }
@@ -210,7 +212,8 @@ pub fn component_width(component: &Component) -> usize
     )
 }
 
-/// A bound of the width, the same whatever the choices are, so that the compiler makes a table of it.
+/// A bound of the width, the same whatever the choices are, so that the compiler makes a table of
+/// it.
 pub fn component_bound(component: &Component) -> usize
     ensures { component_width component.now ≤ result }
 {

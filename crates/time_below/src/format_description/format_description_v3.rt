@@ -181,8 +181,8 @@ impl From<Component> for FormatDescriptionV3Inner<'_> {
 
 /// A description of the third version, with what is known of its text.
 ///
-/// It is walked by recursion, so the stack bounds its depth. A test formats 1,000 levels of items in
-/// items; a level took at most 305 bytes of the stack when it was measured.
+/// It is walked by recursion, so the stack bounds its depth. A test formats 1,000 levels of items
+/// in items; a level took at most 305 bytes of the stack when it was measured.
 #[derive(Drop)]
 pub struct FormatDescriptionV3<'a> {
     inner: FormatDescriptionV3Inner<'a>,

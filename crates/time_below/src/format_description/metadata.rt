@@ -131,8 +131,8 @@ pub fn metadata_of_node<T: Node>(node: &T) -> Metadata
     }
 }
 
-/// Whether the quick bounds of the items come to at most so many bytes, which are then enough for their
-/// text. It is `false` where an item has no such bound.
+/// Whether the quick bounds of the items come to at most so many bytes, which are then enough for
+/// their text. It is `false` where an item has no such bound.
 pub fn nodes_fit<T: Node>(nodes: &[T], room: usize) -> bool
     ensures { IsTrue result → trees_width (trees (map T.tree nodes.now)) ≤ room }
 {

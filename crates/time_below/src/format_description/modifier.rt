@@ -439,7 +439,7 @@ pub struct Year {
     pub range: YearRange,
     /// Whether the year is that of the week calendar.
     pub iso_week_based: bool,
-    /// Whether a plus is written wherever the year is not negative, and in the extended range not only above
-    /// 9,999.
+    /// Whether a plus is written wherever the year is not negative, and in the extended range not
+    /// only above 9,999.
     pub sign_is_mandatory: bool,
 }

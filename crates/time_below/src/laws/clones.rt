@@ -47,8 +47,8 @@ pub fn clones_of_refusals(range: ComponentRange, copy: ComponentRange)
         → range_refusal copy ≡ range_refusal range }
 {}
 
-/// A clone of a component has the same choices, one of a group or of what is known of a text is the same,
-/// and so is one of the layer at the head of a description.
+/// A clone of a component has the same choices, one of a group or of what is known of a text is the
+/// same, and so is one of the layer at the head of a description.
 pub fn clones_of_descriptions<T>(
     component: Component,
     other: Component,

@@ -2,7 +2,8 @@
 ghost use Rattle.std.specs.Prelude.{◌≡◌, ◌↔◌, ◌<◌, ℕ, ℤ, IsTrue};
 ghost use Rattle.std.specs.Ordering.{int_cmp};
 ghost use Rattle.std.specs.Int.{IsInRange};
-ghost use Rattle.time_below.specs.Calendar.{OrdinalDate, IsDate, IsYear, IsDayNumber, day_number, date_at, iso_year_of, iso_week_of, weekday_of};
+ghost use Rattle.time_below.specs.Calendar.{OrdinalDate, IsDate, IsYear, IsDayNumber, day_number};
+ghost use Rattle.time_below.specs.Calendar.{date_at, iso_year_of, iso_week_of, weekday_of};
 ghost use Rattle.time_below.specs.WeekDate.{weeks_in_year, week_day_number};
 
 use crate::date::Date;

@@ -4,7 +4,8 @@ ghost use Rattle.std.specs.declared.cmp.Ordering.TheVariants.{Less};
 ghost use Rattle.time_below.specs.Calendar.{IsDate};
 ghost use Rattle.time_below.specs.declared.component_range.ComponentRange.{ComponentRange};
 ghost use Rattle.time_below.specs.InUtc.{IsInUtcOf, IsMomentOf};
-ghost use Rattle.time_below.specs.Moment.{DateAndTime, Moment, OffsetDateAndTime, IsBefore, in_utc, local_moment, moment_of, utc_date_and_time};
+ghost use Rattle.time_below.specs.Moment.{DateAndTime, Moment, OffsetDateAndTime, IsBefore, in_utc};
+ghost use Rattle.time_below.specs.Moment.{local_moment, moment_of, utc_date_and_time};
 ghost use Rattle.time_below.specs.Shown.{IsMomentShown};
 ghost use Rattle.time_below.specs.TimeOfDay.{IsTimeOfDay};
 
@@ -15,8 +16,8 @@ use crate::utc_date_time::UtcDateTime;
 use std::convert::TryFrom;
 use std::time::SystemTime;
 
-/// Two moments are equal exactly if they have the same second and the same nanosecond, and the first is
-/// less exactly if it is before the second.
+/// Two moments are equal exactly if they have the same second and the same nanosecond, and the
+/// first is less exactly if it is before the second.
 pub fn timestamp_order(a: Timestamp, b: Timestamp)
     ensures equal { IsTrue (⟦<Timestamp as PartialEq>⟧.eq a b) ↔ (a ≡ b) }
     ensures less { ⟦<Timestamp as Ord>⟧.cmp a b ≡ Less ↔ IsBefore a b }
@@ -48,8 +49,8 @@ pub fn utc_date_time_order()
         → ⟦<UtcDateTime as Ord>⟧.cmp a b ≡ Less ↔ IsBefore (moment_of a) (moment_of b) }
 {}
 
-/// Two local dates and times are equal exactly if their moments are, and the first is less exactly if its
-/// moment is before that of the second.
+/// Two local dates and times are equal exactly if their moments are, and the first is less exactly
+/// if its moment is before that of the second.
 pub fn offset_date_time_order(a: OffsetDateTime, b: OffsetDateTime)
     ensures equal { IsTrue (⟦<OffsetDateTime as PartialEq>⟧.eq a b)
         ↔ (local_moment a ≡ local_moment b) }

@@ -7,8 +7,8 @@ ghost use Rattle.time_below.specs.TimeOfDay.{seconds_from_midnight};
 use crate::time::Time;
 use crate::utc_offset::UtcOffset;
 
-/// Two times are equal exactly if their values are. They compare by the seconds from midnight, and then
-/// by the nanosecond.
+/// Two times are equal exactly if their values are. They compare by the seconds from midnight, and
+/// then by the nanosecond.
 pub fn time_comparison(a: Time, b: Time)
     ensures equal { IsTrue (⟦<Time as PartialEq>⟧.eq a b) ↔ (a ≡ b) }
     ensures order { ⟦<Time as Ord>⟧.cmp a b
@@ -24,8 +24,8 @@ pub fn offset_comparison(a: UtcOffset, b: UtcOffset)
         ≡ Some (⟦<UtcOffset as Ord>⟧.cmp a b) }
 {}
 
-/// The hours of an offset are the whole offset in hours, and its hours and minutes that in minutes, both
-/// rounded toward zero.
+/// The hours of an offset are the whole offset in hours, and its hours and minutes that in minutes,
+/// both rounded toward zero.
 #[tactic(auto, using(crate::proofs::OffsetLemmas::minutes_of_seconds))]
 pub fn offsets_round_toward_zero()
     ensures hours { (o : Offset) → IsOffset o → int_div (offset_seconds o) (pos 3600) ≡ o.hours }

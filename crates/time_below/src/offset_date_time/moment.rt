@@ -1,7 +1,10 @@
 //! The moments of local dates and times: from Unix timestamps, to UTC and to another offset.
-ghost use Rattle.std.specs.Prelude.{◌≡◌, ◌↔◌, ◌<◌, ◌^◌, ◌+ℤ◌, IsSome, IfSome, IsOk, IfOk, IfErr, codes, unsigned_abs};
+ghost use Rattle.std.specs.Prelude.{◌≡◌, ◌↔◌, ◌<◌, ◌^◌, ◌+ℤ◌, IsSome, IfSome, IsOk, IfOk, IfErr};
+ghost use Rattle.std.specs.Prelude.{codes, unsigned_abs};
 ghost use Rattle.time_below.specs.ComponentRange.{range_refusal, unconditional_range};
-ghost use Rattle.time_below.specs.Moment.{IsTimestampSecond, IsTimestampNanosecond, at_second, in_utc, local_at, local_moment, local_unix_seconds, nanoseconds, utc_date_and_time};
+ghost use Rattle.time_below.specs.Moment.{IsTimestampSecond, IsTimestampNanosecond, at_second};
+ghost use Rattle.time_below.specs.Moment.{in_utc, local_at, local_moment, local_unix_seconds};
+ghost use Rattle.time_below.specs.Moment.{nanoseconds, utc_date_and_time};
 ghost use Rattle.time_below.specs.Offset.{offset_seconds, utc};
 
 use super::OffsetDateTime;
@@ -12,8 +15,8 @@ use crate::utc_date_time::UtcDateTime;
 use crate::utc_offset::UtcOffset;
 
 impl OffsetDateTime {
-    /// The moment at which this second since 1970-01-01T00:00:00 UTC begins, in UTC. Refuses a second
-    /// outside the range of `Timestamp` as `timestamp`.
+    /// The moment at which this second since 1970-01-01T00:00:00 UTC begins, in UTC. Refuses a
+    /// second outside the range of `Timestamp` as `timestamp`.
     pub fn from_unix_timestamp(timestamp: i64) -> Result<OffsetDateTime, ComponentRange>
         ensures accepted { IsOk result ↔ IsTimestampSecond timestamp }
         ensures value { IfOk result (λ t. t ≡ in_utc (utc_date_and_time (at_second timestamp))) }
@@ -26,8 +29,8 @@ impl OffsetDateTime {
         }
     }
 
-    /// The moment this many nanoseconds from 1970-01-01T00:00:00 UTC, in UTC. Refuses a number outside
-    /// the range of `Timestamp` as `timestamp`.
+    /// The moment this many nanoseconds from 1970-01-01T00:00:00 UTC, in UTC. Refuses a number
+    /// outside the range of `Timestamp` as `timestamp`.
     pub fn from_unix_timestamp_nanos(timestamp: i128) -> Result<OffsetDateTime, ComponentRange>
         ensures accepted { IsOk result ↔ IsTimestampNanosecond timestamp }
         ensures value { IfOk result (λ t. nanoseconds (local_moment t) ≡ timestamp) }
@@ -41,8 +44,8 @@ impl OffsetDateTime {
         }
     }
 
-    /// The nanoseconds since 1970-01-01T00:00:00 UTC, at most 23 digits, less than 26 hours outside the
-    /// range of `Timestamp`.
+    /// The nanoseconds since 1970-01-01T00:00:00 UTC, at most 23 digits, less than 26 hours outside
+    /// the range of `Timestamp`.
     pub fn unix_timestamp_nanos(self) -> i128
         ensures value { result ≡ nanoseconds (local_moment self) }
         ensures range { unsigned_abs result < 10 ^ 23 }
@@ -62,8 +65,8 @@ impl OffsetDateTime {
         }
     }
 
-    /// The same moment by clocks at this offset. Returns `None` where their year is outside -999,999 to
-    /// 999,999.
+    /// The same moment by clocks at this offset. Returns `None` where their year is outside
+    /// -999,999 to 999,999.
     pub fn checked_to_offset(self, offset: UtcOffset) -> Option<OffsetDateTime>
         ensures accepted { IsSome result
             ↔ IsTimestampSecond (local_unix_seconds self +ℤ offset_seconds offset) }

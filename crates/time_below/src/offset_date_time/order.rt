@@ -4,7 +4,8 @@ ghost use Rattle.std.proofs.Common.{rules};
 ghost use Rattle.std.specs.Cmp.{partial_order_from_own_ties};
 ghost use Rattle.std.specs.Cmp.Rules.{comparing, hashing};
 ghost use Rattle.std.specs.Hash as fed;
-ghost use Rattle.std.specs.Ordering.{on, int_eq, int_cmp, nat_cmp, eq_of_both, then_cmp, as_partial_cmp};
+ghost use Rattle.std.specs.Ordering.{on, int_eq, int_cmp, nat_cmp, eq_of_both, then_cmp};
+ghost use Rattle.std.specs.Ordering.{as_partial_cmp};
 ghost use Rattle.time_below.specs.Moment.{local_unix_seconds};
 
 use super::OffsetDateTime;

@@ -1,7 +1,9 @@
 //! The parts of a local date and time.
 ghost use Rattle.std.specs.Prelude.{◌≡◌, ◌*◌, ◌/◌, ◌<◌, ◌≤◌, ◌^◌, unsigned_abs};
 ghost use Rattle.std.specs.Int.{IsInRange};
-ghost use Rattle.time_below.specs.Calendar.{IsYear, month_of, day_of, julian_day_of, weekday_of, iso_year_of, iso_week_of, monday_based_week_of, sunday_based_week_of};
+ghost use Rattle.time_below.specs.Calendar.{IsYear, month_of, day_of, julian_day_of, weekday_of};
+ghost use Rattle.time_below.specs.Calendar.{iso_year_of, iso_week_of, monday_based_week_of};
+ghost use Rattle.time_below.specs.Calendar.{sunday_based_week_of};
 ghost use Rattle.time_below.specs.Month.{month_number};
 ghost use Rattle.time_below.specs.TimeOfDay.{IsTimeOfDay, time_of};
 ghost use Rattle.time_below.specs.Weekday.{days_from_monday};

@@ -1,8 +1,11 @@
-//! Local dates and times with another part. The offset stays, and so the moment changes. With another
-//! offset the date and the time stay.
-ghost use Rattle.std.specs.Prelude.{◌≡◌, ◌↔◌, ◌*◌, ◌<◌, nat_le, IsOk, IfOk, IfErr, codes, if◌then◌else◌, unsigned_abs};
-ghost use Rattle.time_below.specs.Calendar.{greatest_year, IsYear, IsDate, IsDayOfMonth, month_of, day_of, date_of};
-ghost use Rattle.time_below.specs.ComponentRange.{range_refusal, conditional_range, unconditional_range};
+//! Local dates and times with another part. The offset stays, and so the moment changes. With
+//! another offset the date and the time stay.
+ghost use Rattle.std.specs.Prelude.{◌≡◌, ◌↔◌, ◌*◌, ◌<◌, nat_le, IsOk, IfOk, IfErr, codes};
+ghost use Rattle.std.specs.Prelude.{if◌then◌else◌, unsigned_abs};
+ghost use Rattle.time_below.specs.Calendar.{greatest_year, IsYear, IsDate, IsDayOfMonth, month_of};
+ghost use Rattle.time_below.specs.Calendar.{day_of, date_of};
+ghost use Rattle.time_below.specs.ComponentRange.{range_refusal, conditional_range};
+ghost use Rattle.time_below.specs.ComponentRange.{unconditional_range};
 ghost use Rattle.time_below.specs.Month.{month_number};
 
 use super::OffsetDateTime;
@@ -35,7 +38,8 @@ impl OffsetDateTime {
         OffsetDateTime { time, ..self }
     }
 
-    /// Another offset at this date and time, which are then another moment. `to_offset` keeps the moment.
+    /// Another offset at this date and time, which are then another moment. `to_offset` keeps the
+    /// moment.
     pub fn replace_offset(self, offset: UtcOffset) -> OffsetDateTime
         ensures { result ≡ record self { offset = offset } }
     {
@@ -79,8 +83,8 @@ impl OffsetDateTime {
         }
     }
 
-    /// This year on another day of the year, 1 to 365, or 366 in a leap year. Refuses any other number
-    /// as `ordinal`.
+    /// This year on another day of the year, 1 to 365, or 366 in a leap year. Refuses any other
+    /// number as `ordinal`.
     pub fn replace_ordinal(self, ordinal: u16) -> Result<OffsetDateTime, ComponentRange>
         ensures accepted { IsOk result ↔ IsDate (record { year = self.date.year; ordinal = ordinal }) }
         ensures value { IfOk result (λ t. t ≡ record self { date = record { year = self.date.year; ordinal = ordinal } }) }

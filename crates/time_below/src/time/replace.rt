@@ -42,8 +42,8 @@ impl Time {
         Ok(Time { second, ..self })
     }
 
-    /// The time with this millisecond, 0 to 999, and nothing after it: the nanosecond becomes that of
-    /// the millisecond. Refuses any other as `millisecond`.
+    /// The time with this millisecond, 0 to 999, and nothing after it: the nanosecond becomes that
+    /// of the millisecond. Refuses any other as `millisecond`.
     pub fn replace_millisecond(self, millisecond: u16) -> Result<Time, ComponentRange>
         ensures accepted { IsOk result ↔ (millisecond < 1_000) }
         ensures value { IfOk result (λ t. t ≡ record self { nanosecond = millisecond * 1_000_000 }) }
@@ -59,8 +59,8 @@ impl Time {
         })
     }
 
-    /// The time with this microsecond, 0 to 999,999, and nothing after it: the nanosecond becomes that
-    /// of the microsecond. Refuses any other as `microsecond`.
+    /// The time with this microsecond, 0 to 999,999, and nothing after it: the nanosecond becomes
+    /// that of the microsecond. Refuses any other as `microsecond`.
     pub fn replace_microsecond(self, microsecond: u32) -> Result<Time, ComponentRange>
         ensures accepted { IsOk result ↔ (microsecond < 1_000_000) }
         ensures value { IfOk result (λ t. t ≡ record self { nanosecond = microsecond * 1_000 }) }

@@ -7,8 +7,8 @@ use crate::time::Time;
 use std::fmt;
 use std::fmt::{Debug, Display};
 
-/// The hour without a zero before it, two digits of the minute and of the second, and the decimals up to
-/// the last that is not zero, but at least one: `9:55:06.12`, `0:00:00.0`.
+/// The hour without a zero before it, two digits of the minute and of the second, and the decimals
+/// up to the last that is not zero, but at least one: `9:55:06.12`, `0:00:00.0`.
 impl Display for Time {
     ghost output = { λ t. Some (time_text t) };
 

@@ -1,7 +1,10 @@
 //! Dates and times in UTC with another part.
-ghost use Rattle.std.specs.Prelude.{◌≡◌, ◌↔◌, ◌*◌, ◌<◌, nat_le, IsOk, IfOk, IfErr, codes, if◌then◌else◌, unsigned_abs};
-ghost use Rattle.time_below.specs.Calendar.{greatest_year, IsYear, IsDate, IsDayOfMonth, month_of, day_of, date_of};
-ghost use Rattle.time_below.specs.ComponentRange.{range_refusal, conditional_range, unconditional_range};
+ghost use Rattle.std.specs.Prelude.{◌≡◌, ◌↔◌, ◌*◌, ◌<◌, nat_le, IsOk, IfOk, IfErr, codes};
+ghost use Rattle.std.specs.Prelude.{if◌then◌else◌, unsigned_abs};
+ghost use Rattle.time_below.specs.Calendar.{greatest_year, IsYear, IsDate, IsDayOfMonth, month_of};
+ghost use Rattle.time_below.specs.Calendar.{day_of, date_of};
+ghost use Rattle.time_below.specs.ComponentRange.{range_refusal, conditional_range};
+ghost use Rattle.time_below.specs.ComponentRange.{unconditional_range};
 ghost use Rattle.time_below.specs.Month.{month_number};
 
 use super::UtcDateTime;
@@ -62,8 +65,8 @@ impl UtcDateTime {
         }
     }
 
-    /// This year on another day of the year, 1 to 365, or 366 in a leap year. Refuses any other number
-    /// as `ordinal`.
+    /// This year on another day of the year, 1 to 365, or 366 in a leap year. Refuses any other
+    /// number as `ordinal`.
     pub fn replace_ordinal(self, ordinal: u16) -> Result<UtcDateTime, ComponentRange>
         ensures accepted { IsOk result ↔ IsDate (record { year = self.date.year; ordinal = ordinal }) }
         ensures value { IfOk result (λ t. t ≡ record self { date = record { year = self.date.year; ordinal = ordinal } }) }

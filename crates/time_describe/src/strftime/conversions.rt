@@ -3,7 +3,8 @@
 //! Without `inline(always)` the compiler leaves calls of the functions that have it.
 //! `inline(never)` keeps long or rare bodies out of their callers.
 ghost use Rattle.std.specs.Prelude.{◌≡◌, ◌∷◌, [], option_map};
-ghost use Rattle.time_describe.specs.Conversions.{flag_named, number, word, sign, composition, width, refusal};
+ghost use Rattle.time_describe.specs.Conversions.{flag_named, number, word, sign, composition};
+ghost use Rattle.time_describe.specs.Conversions.{width, refusal};
 
 use crate::strftime::fault::StrftimeReason;
 use time_below::format_description::modifier::{Padding, SubsecondDigits};

@@ -1,6 +1,7 @@
 //! Why a text is no description in the syntax of strftime.
 ghost use Rattle.std.specs.Prelude.{◌≡◌};
-ghost use Rattle.time_describe.specs.declared.strftime.fault.Failure.TheVariants.{OutOfMemory, Invalid};
+ghost use Rattle.time_describe.specs.declared.strftime.fault.Failure.TheVariants.{OutOfMemory};
+ghost use Rattle.time_describe.specs.declared.strftime.fault.Failure.TheVariants.{Invalid};
 
 use crate::literal::MOST_ITEMS;
 use std::alloc::AllocError;

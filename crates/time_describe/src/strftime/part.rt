@@ -2,10 +2,13 @@
 //!
 //! Without `inline(always)` the compiler leaves calls of the functions that have it.
 //! `inline(never)` keeps long or rare bodies out of their callers.
-ghost use Rattle.std.specs.Prelude.{◌≡◌, ◌≤◌, ◌<◌, ◌+◌, ℕ, List, length, IfOk, option_map, position};
+ghost use Rattle.std.specs.Prelude.{◌≡◌, ◌≤◌, ◌<◌, ◌+◌, ℕ, List, length, IfOk, option_map};
+ghost use Rattle.std.specs.Prelude.{position};
 ghost use Rattle.std.specs.List.{position_or_len};
-ghost use Rattle.time_describe.specs.Conversions.{component_of, is_offered, refusal_behind_flag, items_of};
-ghost use Rattle.time_describe.specs.Strftime.{is_percent, flagged, with_colon, with_width, conversion, first_part};
+ghost use Rattle.time_describe.specs.Conversions.{component_of, is_offered, refusal_behind_flag};
+ghost use Rattle.time_describe.specs.Conversions.{items_of};
+ghost use Rattle.time_describe.specs.Strftime.{is_percent, flagged, with_colon, with_width};
+ghost use Rattle.time_describe.specs.Strftime.{conversion, first_part};
 ghost use Rattle.time_describe.specs.StrftimeOutcome.{items_of_part, front_of};
 
 use super::conversions::{composition, flag_named, number, refusal, sign, width, word};
@@ -150,7 +153,8 @@ fn with_width<'a>(
     }
 }
 
-/// What is behind a `%`, and how many bytes belong to it. The usual conversions are added before without a call.
+/// What is behind a `%`, and how many bytes belong to it. The usual conversions are added before
+/// without a call.
 #[inline(never)]
 #[tactic(auto, unfolding(crate::specs::Strftime::conversion))]
 fn conversion<'a>(bytes: &'a [u8]) -> Result<(Part<'a>, usize), Fault>

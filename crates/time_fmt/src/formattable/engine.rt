@@ -61,8 +61,9 @@ pub(super) fn write_nodes<T: Node, S: Sink, V: ComponentProvider>(
     Ok(())
 }
 
-/// Writes a literal, or a component that is met often, and returns its refusal, if it is refused. Of any
-/// other node it writes nothing, and returns `None`. It becomes part of the loop over a list.
+/// Writes a literal, or a component that is met often, and returns its refusal, if it is refused.
+/// Of any other node it writes nothing, and returns `None`. It becomes part of the loop over a
+/// list.
 #[inline(always)]
 fn write_leaf<T: Node, S: Sink, V: ComponentProvider>(
     node: &T,
@@ -86,8 +87,8 @@ fn write_leaf<T: Node, S: Sink, V: ComponentProvider>(
     Some(Ok(()))
 }
 
-/// Writes a component that is not deprecated, and returns its refusal, if it is refused. Of any other node
-/// it writes nothing, and returns `None`.
+/// Writes a component that is not deprecated, and returns its refusal, if it is refused. Of any
+/// other node it writes nothing, and returns `None`.
 #[inline(always)]
 fn write_seldom<T: Node, S: Sink, V: ComponentProvider>(
     node: &T,
@@ -107,7 +108,8 @@ fn write_seldom<T: Node, S: Sink, V: ComponentProvider>(
     }
 }
 
-/// Writes an item of a list by a cold call, so that the loop asks last whether an item has items of its own.
+/// Writes an item of a list by a cold call, so that the loop asks last whether an item has items of
+/// its own.
 #[cycle(engine)]
 #[cold]
 #[inline(never)]
@@ -125,7 +127,8 @@ fn write_inner<T: Node, S: Sink, V: ComponentProvider>(
     write_node(node, output, value, state)
 }
 
-/// Appends the text of the node, up to the first component that is refused, and returns its refusal.
+/// Appends the text of the node, up to the first component that is refused, and returns its
+/// refusal.
 #[cycle(engine)]
 #[inline(never)]
 pub(super) fn write_node<T: Node, S: Sink, V: ComponentProvider>(

@@ -15,8 +15,8 @@ use time_provide::ComponentProvider;
 /// Writes the text of the nodes to the start of a buffer that has room for their maximum length.
 /// Allocates nothing.
 ///
-/// Returns the number of bytes, or the refusal that ends the text. After the text, or what precedes its
-/// refusal, the buffer is as it was.
+/// Returns the number of bytes, or the refusal that ends the text. After the text, or what precedes
+/// its refusal, the buffer is as it was.
 pub fn write_into_room<T: Node, V: ComponentProvider>(
     nodes: &[T],
     room: &mut [u8],

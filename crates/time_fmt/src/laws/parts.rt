@@ -1,5 +1,5 @@
-//! Laws of descriptions by their parts: what each kind of part means, and that a text of parts means the
-//! list of the items that the parts are.
+//! Laws of descriptions by their parts: what each kind of part means, and that a text of parts
+//! means the list of the items that the parts are.
 ghost use Rattle.std.specs.Char.{is_ascii};
 ghost use Rattle.std.specs.List.{list_all};
 ghost use Rattle.std.specs.Prelude.{◌≡◌, ◌+◌, ◌&&◌, length, true};
@@ -55,8 +55,8 @@ pub fn item_means_its_list()
     ensures { ItemMeansItsList }
 {}
 
-/// A text in ASCII has the guarantee of the item with this text. (Any other `Literal` has none, as an
-/// item of bytes has none.)
+/// A text in ASCII has the guarantee of the item with this text. (Any other `Literal` has none, as
+/// an item of bytes has none.)
 pub fn ascii_is_text()
     ensures { AsciiIsText }
 {}

@@ -3,7 +3,8 @@
 //! The calendar year and the year of the week calendar have the same texts.
 #![tactic(auto, using(crate::proofs::TextLemmas::signed_lengths))]
 
-ghost use Rattle.std.specs.Prelude.{◌≡◌, ◌<◌, ◌≤◌, ◌%◌, ◌++◌, MatchOption, decimal, int_lt, length, pos, true, unsigned_abs};
+ghost use Rattle.std.specs.Prelude.{◌≡◌, ◌<◌, ◌≤◌, ◌%◌, ◌++◌, MatchOption, decimal, int_lt, length};
+ghost use Rattle.std.specs.Prelude.{pos, true, unsigned_abs};
 ghost use Rattle.time_below.specs.declared.format_description.component.Component.TheVariants as component;
 ghost use Rattle.time_fmt.specs.Kind.{kind_text, extended_century, standard_century, century_of};
 ghost use Rattle.time_fmt.specs.Ends.{EndsWhole};
@@ -22,8 +23,8 @@ use time_digits::{ri8, ri16, ru8, ru16};
 use time_provide::ComponentProvider;
 use time_provide::ranges::{ExtendedCentury, LastTwo, StandardCentury, Year};
 
-/// Appends the century of a year, padded to two places as `modifier` says, after a sign if the year is
-/// negative, the century is above 99, or `modifier` wants one.
+/// Appends the century of a year, padded to two places as `modifier` says, after a sign if the year
+/// is negative, the century is above 99, or `modifier` wants one.
 pub fn fmt_calendar_year_century_extended_range<S: Sink>(
     output: &mut S,
     century: ExtendedCentury,
@@ -63,8 +64,8 @@ impl Modifier for modifier::CalendarYearCenturyExtendedRange {
     }
 }
 
-/// Appends the century of a year, padded to two places as `modifier` says, after a sign if the year is
-/// negative or `modifier` wants one.
+/// Appends the century of a year, padded to two places as `modifier` says, after a sign if the year
+/// is negative or `modifier` wants one.
 pub fn fmt_calendar_year_century_standard_range<S: Sink>(
     output: &mut S,
     century: StandardCentury,
@@ -106,8 +107,8 @@ impl Modifier for modifier::CalendarYearCenturyStandardRange {
     }
 }
 
-/// Appends the century of a year of the week calendar, padded to two places as `modifier` says, after a sign
-/// if the year is negative, the century is above 99, or `modifier` wants one.
+/// Appends the century of a year of the week calendar, padded to two places as `modifier` says,
+/// after a sign if the year is negative, the century is above 99, or `modifier` wants one.
 pub fn fmt_iso_year_century_extended_range<S: Sink>(
     output: &mut S,
     century: ExtendedCentury,
@@ -147,8 +148,8 @@ impl Modifier for modifier::IsoYearCenturyExtendedRange {
     }
 }
 
-/// Appends the century of a year of the week calendar, padded to two places as `modifier` says, after a sign
-/// if the year is negative or `modifier` wants one.
+/// Appends the century of a year of the week calendar, padded to two places as `modifier` says,
+/// after a sign if the year is negative or `modifier` wants one.
 pub fn fmt_iso_year_century_standard_range<S: Sink>(
     output: &mut S,
     century: StandardCentury,
@@ -223,7 +224,8 @@ impl Modifier for modifier::CalendarYearLastTwo {
     }
 }
 
-/// Appends the last two digits of the week calendar's year, 0 to 99, padded to two places as `modifier` says.
+/// Appends the last two digits of the week calendar's year, 0 to 99, padded to two places as
+/// `modifier` says.
 pub fn fmt_iso_year_last_two<S: Sink>(
     output: &mut S,
     last_two: LastTwo,

@@ -6,8 +6,8 @@ ghost use Rattle.time_fmt.specs.Sink.{Fits, Puts};
 use crate::sink::Sink;
 use time_digits::ru8;
 
-/// Appends the first 1 to 255 decimals of `rest / unit`, not rounded, and returns their number. The rest is
-/// below the unit, which is at most 3,600,000,000,000.
+/// Appends the first 1 to 255 decimals of `rest / unit`, not rounded, and returns their number. The
+/// rest is below the unit, which is at most 3,600,000,000,000.
 ///
 /// Both are counts of one smaller unit, as nanoseconds, of which an hour has the most.
 pub fn format_decimals<S: Sink>(output: &mut S, rest: u64, unit: u64, digits: ru8<1, 255>) -> usize

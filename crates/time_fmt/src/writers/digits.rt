@@ -177,8 +177,8 @@ pub fn format_six_digits_pad_zero<S: Sink>(output: &mut S, value: ru32<0, 999_99
     write_many(output, &six_digits_zero_padded(value))
 }
 
-/// Appends all digits of a number, and nothing before them. The last eight of nine to sixteen digits are
-/// appended as eight, so that the compiler knows their number.
+/// Appends all digits of a number, and nothing before them. The last eight of nine to sixteen
+/// digits are appended as eight, so that the compiler knows their number.
 pub fn format_u64_pad_none<S: Sink>(output: &mut S, value: u64) -> usize
     requires room { Fits (S.buffer output.old) (length (decimal value)) }
     ensures writes { Puts (S.buffer output.old) (S.buffer output.new) result (decimal value) }
@@ -194,8 +194,8 @@ pub fn format_u64_pad_none<S: Sink>(output: &mut S, value: u64) -> usize
     count + last
 }
 
-// Appends all digits of a number that has at most eight. Of five to eight the last four have a length
-// that is known.
+// Appends all digits of a number that has at most eight. Of five to eight the last four have a
+// length that is known.
 fn write_at_most_eight<S: Sink>(output: &mut S, value: u32) -> usize
     requires most { value < 100_000_000 }
     requires room { Fits (S.buffer output.old) (length (decimal value)) }

@@ -22,8 +22,8 @@ use time_digits::ri8;
 use time_provide::ComponentProvider;
 use time_provide::ranges::{OffsetHours, OffsetMinutes, OffsetSeconds};
 
-/// Appends the hour of the offset, 0 to 25, padded to two places as `modifier` says, after a sign if the whole
-/// offset is negative or `modifier` wants one.
+/// Appends the hour of the offset, 0 to 25, padded to two places as `modifier` says, after a sign
+/// if the whole offset is negative or `modifier` wants one.
 #[inline(always)]
 #[tactic(auto, using(crate::proofs::TextLemmas::signed_parts))]
 pub fn fmt_offset_hour<S: Sink>(
@@ -66,7 +66,8 @@ impl Modifier for modifier::OffsetHour {
     }
 }
 
-/// Appends the minute of the offset, 0 to 59, without a sign, padded to two places as `modifier` says.
+/// Appends the minute of the offset, 0 to 59, without a sign, padded to two places as `modifier`
+/// says.
 #[inline(always)]
 pub fn fmt_offset_minute<S: Sink>(
     output: &mut S,
@@ -102,7 +103,8 @@ impl Modifier for modifier::OffsetMinute {
     }
 }
 
-/// Appends the second of the offset, 0 to 59, without a sign, padded to two places as `modifier` says.
+/// Appends the second of the offset, 0 to 59, without a sign, padded to two places as `modifier`
+/// says.
 pub fn fmt_offset_second<S: Sink>(
     output: &mut S,
     second: OffsetSeconds,
@@ -136,8 +138,8 @@ impl Modifier for modifier::OffsetSecond {
     }
 }
 
-// Appends the magnitude of a part of an offset, padded to two places as `padding` says. Mostly it has zeros
-// in front, and then no sign is taken away.
+// Appends the magnitude of a part of an offset, padded to two places as `padding` says. Mostly it
+// has zeros in front, and then no sign is taken away.
 #[inline(always)]
 fn format_magnitude<S: Sink>(output: &mut S, part: ri8<59>, padding: Padding) -> usize
     requires room { Fits (S.buffer output.old) (length (padded_text padding 2 (unsigned_abs part))) }

@@ -2,7 +2,8 @@
 //!
 //! Without `inline(always)` the compiler leaves calls of the functions that have it.
 //! `inline(never)` keeps long or rare bodies out of their callers.
-ghost use Rattle.std.specs.Prelude.{◌≡◌, ◌+◌, ◌<◌, ◌≤◌, ◌++◌, length, take, [], if◌then◌else◌, vec_capacity};
+ghost use Rattle.std.specs.Prelude.{◌≡◌, ◌+◌, ◌<◌, ◌≤◌, ◌++◌, length, take, [], if◌then◌else◌};
+ghost use Rattle.std.specs.Prelude.{vec_capacity};
 ghost use Rattle.time_digits.specs.Digits.{joined};
 ghost use Rattle.time_fmt.specs.Sink.{Fits, Puts};
 
@@ -85,9 +86,9 @@ fn write_long_literal<S: Sink>(output: &mut S, bytes: &[u8]) -> usize
     bytes.len()
 }
 
-/// Appends the bytes, eight at a time. `extend_from_slice` has no clause that the capacity stays. The
-/// sink is taken out meanwhile, so that the compiler sees that its block does not move, and makes one
-/// store of eight.
+/// Appends the bytes, eight at a time. `extend_from_slice` has no clause that the capacity stays.
+/// The sink is taken out meanwhile, so that the compiler sees that its block does not move, and
+/// makes one store of eight.
 #[inline(never)]
 fn write_in_blocks<S: Sink>(output: &mut S, bytes: &[u8])
     requires room { Fits (S.buffer output.old) (length bytes.now) }
@@ -215,7 +216,8 @@ pub fn write_if<S: Sink>(output: &mut S, is_wanted: bool, text: &str) -> usize
     if is_wanted { write(output, text) } else { 0 }
 }
 
-/// Appends the first text if it is wanted, else the other, and returns the number of bytes appended.
+/// Appends the first text if it is wanted, else the other, and returns the number of bytes
+/// appended.
 pub fn write_if_else<S: Sink>(output: &mut S, is_wanted: bool, text: &str, other: &str) -> usize
     requires room { Fits (S.buffer output.old) (length (if is_wanted then text.now else other.now)) }
     ensures writes { Puts (S.buffer output.old) (S.buffer output.new) result

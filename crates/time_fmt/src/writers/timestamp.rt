@@ -14,7 +14,8 @@ use crate::writers::digits::{fmt_sign, format_u64_pad_none};
 use time_below::format_description::{Group, modifier};
 use time_provide::ComponentProvider;
 
-/// Appends all digits of the seconds since 1970-01-01T00:00:00 UTC, after a sign if they are negative or
+/// Appends all digits of the seconds since 1970-01-01T00:00:00 UTC, after a sign if they are
+/// negative or
 /// `modifier` wants one.
 pub fn fmt_unix_timestamp_second<S: Sink>(
     output: &mut S,
@@ -47,7 +48,8 @@ impl Modifier for modifier::UnixTimestampSecond {
     }
 }
 
-/// Appends all digits of the milliseconds since 1970-01-01T00:00:00 UTC, after a sign if they are negative or
+/// Appends all digits of the milliseconds since 1970-01-01T00:00:00 UTC, after a sign if they are
+/// negative or
 /// `modifier` wants one.
 pub fn fmt_unix_timestamp_millisecond<S: Sink>(
     output: &mut S,

@@ -177,7 +177,8 @@ impl Modifier for modifier::WeekdayMonday {
     }
 }
 
-/// Appends the week of the week calendar, 1 to 53 (ISO 8601-1:2019), padded to two places as `modifier` says.
+/// Appends the week of the week calendar, 1 to 53 (ISO 8601-1:2019), padded to two places as
+/// `modifier` says.
 pub fn fmt_week_number_iso<S: Sink>(
     output: &mut S,
     week: IsoWeekNumber,
@@ -209,7 +210,8 @@ impl Modifier for modifier::WeekNumberIso {
     }
 }
 
-/// Appends the week of the year, 0 to 53, where week 1 begins on the first Sunday, padded to two places as
+/// Appends the week of the year, 0 to 53, where week 1 begins on the first Sunday, padded to two
+/// places as
 /// `modifier` says.
 pub fn fmt_week_number_sunday<S: Sink>(
     output: &mut S,
@@ -242,7 +244,8 @@ impl Modifier for modifier::WeekNumberSunday {
     }
 }
 
-/// Appends the week of the year, 0 to 53, where week 1 begins on the first Monday, padded to two places as
+/// Appends the week of the year, 0 to 53, where week 1 begins on the first Monday, padded to two
+/// places as
 /// `modifier` says.
 pub fn fmt_week_number_monday<S: Sink>(
     output: &mut S,

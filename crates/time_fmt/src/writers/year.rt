@@ -25,8 +25,8 @@ use time_digits::{ri16, ru16, ru32};
 use time_provide::ComponentProvider;
 use time_provide::ranges::{StandardYear, Year};
 
-/// Appends the year, -999,999 to 999,999, padded to four places as `modifier` says, after a sign if it is
-/// negative, above 9,999, or `modifier` wants one.
+/// Appends the year, -999,999 to 999,999, padded to four places as `modifier` says, after a sign if
+/// it is negative, above 9,999, or `modifier` wants one.
 #[inline(always)]
 pub fn fmt_calendar_year_full_extended_range<S: Sink>(
     output: &mut S,
@@ -62,8 +62,8 @@ impl Modifier for modifier::CalendarYearFullExtendedRange {
     }
 }
 
-/// Appends the year, -9,999 to 9,999, padded to four places as `modifier` says, after a sign if it is negative
-/// or `modifier` wants one.
+/// Appends the year, -9,999 to 9,999, padded to four places as `modifier` says, after a sign if it
+/// is negative or `modifier` wants one.
 pub fn fmt_calendar_year_full_standard_range<S: Sink>(
     output: &mut S,
     year: StandardYear,
@@ -101,8 +101,8 @@ impl Modifier for modifier::CalendarYearFullStandardRange {
     }
 }
 
-/// Appends the week calendar's year, -999,999 to 999,999 (ISO 8601-1:2019), padded to four places as `modifier`
-/// says, after a sign if it is negative, above 9,999, or `modifier` wants one.
+/// Appends the week calendar's year, -999,999 to 999,999 (ISO 8601-1:2019), padded to four places
+/// as `modifier` says, after a sign if it is negative, above 9,999, or `modifier` wants one.
 pub fn fmt_iso_year_full_extended_range<S: Sink>(
     output: &mut S,
     year: Year,
@@ -136,8 +136,8 @@ impl Modifier for modifier::IsoYearFullExtendedRange {
     }
 }
 
-/// Appends the week calendar's year, -9,999 to 9,999 (ISO 8601-1:2019), padded to four places as `modifier`
-/// says, after a sign if it is negative or `modifier` wants one.
+/// Appends the week calendar's year, -9,999 to 9,999 (ISO 8601-1:2019), padded to four places as
+/// `modifier` says, after a sign if it is negative or `modifier` wants one.
 pub fn fmt_iso_year_full_standard_range<S: Sink>(
     output: &mut S,
     year: StandardYear,

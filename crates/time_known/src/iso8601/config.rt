@@ -1,6 +1,8 @@
 //! The choices of ISO 8601-1:2019 that a text is written by.
 ghost use Rattle.std.specs.Prelude.{◌≡◌, ◌↔◌, IsTrue};
-ghost use Rattle.time_known.specs.Config.{default_choices, separator, decimal_sign_text, has_time_letter, has_date, has_time, has_offset, groups_of};
+ghost use Rattle.time_known.specs.Config.{default_choices, separator, decimal_sign_text};
+ghost use Rattle.time_known.specs.Config.{has_time_letter, has_date, has_time, has_offset};
+ghost use Rattle.time_known.specs.Config.{groups_of};
 ghost use Rattle.time_known.specs.Ways.{FitsWay, usual_of, way_of};
 
 use crate::groups::Groups;
@@ -68,8 +70,8 @@ pub struct Config {
     decimal_sign: DecimalSign,
 }
 
-/// What is left to choose for a text of the date by month and day after four digits of the year, the time to
-/// the second or to decimals of it, and the offset to the minute.
+/// What is left to choose for a text of the date by month and day after four digits of the year,
+/// the time to the second or to decimals of it, and the offset to the minute.
 #[derive(Clone, Copy)]
 pub struct Usual {
     /// Whether there are separators.
@@ -85,12 +87,13 @@ pub struct Usual {
 pub(super) enum Way {
     /// All parts, with what is left to choose.
     Usual(Usual),
-    /// Any other text. Which one is asked only then, so that a usual text needs no jump through a table.
+    /// Any other text. Which one is asked only then, so that a usual text needs no jump through a
+    /// table.
     Unusual(Unusual),
 }
 
-/// The function by which an unusual text is written. Each of them but the last writes where nothing of the
-/// value is refused.
+/// The function by which an unusual text is written. Each of them but the last writes where nothing
+/// of the value is refused.
 #[derive(Clone, Copy)]
 pub(super) enum Unusual {
     /// All parts with the date by week and weekday, and with what else is left to choose.

@@ -1,7 +1,8 @@
 //! The date of a text of ISO 8601-1:2019, section 5.2.
 //!
 //! Without `inline(always)` the compiler leaves calls of the functions that have it.
-ghost use Rattle.std.specs.Prelude.{◌≡◌, MatchOption, Ok, false, ◌+◌, ◌*◌, ◌++◌, length, unsigned_abs, true, IsTrue};
+ghost use Rattle.std.specs.Prelude.{◌≡◌, MatchOption, Ok, false, ◌+◌, ◌*◌, ◌++◌, length};
+ghost use Rattle.std.specs.Prelude.{unsigned_abs, true, IsTrue};
 ghost use Rattle.time_below.specs.Facts.{the_date};
 ghost use Rattle.time_digits.specs.Digits.{zero_padded};
 ghost use Rattle.time_fmt.specs.Outcome.{AppendsUpTo};
@@ -189,8 +190,8 @@ fn dash(is_wanted: bool) -> &'static str
     if is_wanted { "-" } else { "" }
 }
 
-// Puts the letter `W` with two digits of the week, and the weekday, and the separator before each of
-// them.
+// Puts the letter `W` with two digits of the week, and the weekday, and the separator before each
+// of them.
 #[inline(always)]
 #[tactic(auto, using(crate::proofs::LengthLemmas::joined_lengths))]
 pub(super) fn put_week<S: Sink>(

@@ -49,8 +49,8 @@ pub fn format_offset<V: ComponentProvider>(
     }
 }
 
-// Puts `Z` for UTC where there is a time, else the sign, the hours and the minutes. Where the configuration has no
-// minutes, they are refused unless zero.
+// Puts `Z` for UTC where there is a time, else the sign, the hours and the minutes. Where the
+// configuration has no minutes, they are refused unless zero.
 #[tactic(auto, using(crate::proofs::LengthLemmas::joined_lengths))]
 pub(super) fn put_offset<S: Sink>(
     output: &mut S,

@@ -2,7 +2,8 @@
 //!
 //! Without `inline(always)` the compiler leaves calls of the functions that have it.
 //! `inline(never)` keeps long or rare bodies out of their callers.
-ghost use Rattle.std.specs.Prelude.{◌≡◌, ◌≢◌, ◌+◌, IfSome, IsTrue, MatchOption, Ok, OnOk, OnSome, false};
+ghost use Rattle.std.specs.Prelude.{◌≡◌, ◌≢◌, ◌+◌, IfSome, IsTrue, MatchOption, Ok, OnOk, OnSome};
+ghost use Rattle.std.specs.Prelude.{false};
 ghost use Rattle.time_below.specs.Facts.{the_date, the_time};
 ghost use Rattle.time_fmt.specs.Outcome.{AppendsUpTo, join};
 ghost use Rattle.time_fmt.specs.Room.{HasRoom};
@@ -94,7 +95,8 @@ pub(super) fn date_of<V: ComponentProvider>(
     }
 }
 
-/// Puts the parts of the value that the configuration formats, one after another, up to what has no place.
+/// Puts the parts of the value that the configuration formats, one after another, up to what has no
+/// place.
 pub fn put_parts<S: Sink, V: ComponentProvider>(
     output: &mut S,
     config: &Config,
@@ -129,7 +131,8 @@ pub fn put_parts<S: Sink, V: ComponentProvider>(
 }
 
 // Appends the parts that are formatted, of a value that supplies their groups. A configuration that
-// formats nothing is refused. The compiler keeps each return apart where this function is not inlined.
+// formats nothing is refused. The compiler keeps each return apart where this function is not
+// inlined.
 pub(super) fn write_parts<V: ComponentProvider>(
     config: &Config,
     way: &Way,
@@ -161,8 +164,8 @@ pub(super) fn write_parts<V: ComponentProvider>(
     }
 }
 
-// Appends the parts that are formatted, by any configuration that formats something. It is copied first, so that no
-// byte that is written may change it.
+// Appends the parts that are formatted, by any configuration that formats something. It is copied
+// first, so that no byte that is written may change it.
 #[inline(never)]
 fn write_each<V: ComponentProvider>(
     config: &Config,
@@ -186,8 +189,8 @@ fn write_each<V: ComponentProvider>(
     answer
 }
 
-// Appends by the function that the configuration decided, where nothing of the value is refused. It may refuse what
-// the text refuses before any byte; else it appends nothing.
+// Appends by the function that the configuration decided, where nothing of the value is refused. It
+// may refuse what the text refuses before any byte; else it appends nothing.
 fn write_by_way<V: ComponentProvider>(
     config: &Config,
     way: &Way,
@@ -214,8 +217,8 @@ fn write_by_way<V: ComponentProvider>(
     }
 }
 
-// Appends an unusual text by the function that the configuration decided, where nothing of the value is refused; else it
-// appends nothing.
+// Appends an unusual text by the function that the configuration decided, where nothing of the
+// value is refused; else it appends nothing.
 #[tactic(auto, using(crate::proofs::iso8601::PartsLemmas::some_parts))]
 fn write_unusual<V: ComponentProvider>(
     config: &Config,

@@ -12,7 +12,8 @@ ghost use Rattle.time_fmt.specs.Room.{HasRoom};
 ghost use Rattle.time_fmt.specs.Sink.{Fits, Puts};
 ghost use Rattle.time_provide.specs.Real.{AgreesOnTime};
 ghost use Rattle.time_known.specs.Config.{has_time_letter, separator};
-ghost use Rattle.time_known.specs.Iso8601.{iso_time, iso_time_text, decimal_part, units_text, nanoseconds_of_hour, nanoseconds_of_minute};
+ghost use Rattle.time_known.specs.Iso8601.{iso_time, iso_time_text, decimal_part, units_text};
+ghost use Rattle.time_known.specs.Iso8601.{nanoseconds_of_hour, nanoseconds_of_minute};
 ghost use Rattle.time_known.specs.Iso8601Width.{iso_time_width, decimal_part_width, units_width};
 ghost use Rattle.time_known.specs.Sink.{PutsUpTo};
 ghost use Rattle.time_known.specs.WellKnown.{clock_text};
@@ -54,7 +55,8 @@ pub fn format_time<V: ComponentProvider>(
     Ok(write_time(config, has_letter, output, value, state))
 }
 
-// Appends the time, by a call, in which its pieces are inlined. The caller may know whether it has a letter.
+// Appends the time, by a call, in which its pieces are inlined. The caller may know whether it has
+// a letter.
 #[inline(never)]
 pub(super) fn write_time<V: ComponentProvider>(
     config: &Config,
@@ -80,8 +82,8 @@ pub(super) fn write_time<V: ComponentProvider>(
     count
 }
 
-// Puts the letter, where there is one, and the units. A time alone has a function of its own, since the compiler
-// inlines so large a one only where it is called once.
+// Puts the letter, where there is one, and the units. A time alone has a function of its own, since
+// the compiler inlines so large a one only where it is called once.
 pub(super) fn put_time<S: Sink, const IS_ALONE: bool>(
     output: &mut S,
     config: &Config,
@@ -99,8 +101,8 @@ pub(super) fn put_time<S: Sink, const IS_ALONE: bool>(
     put_units::<S, IS_ALONE>(output, config, time);
 }
 
-// Puts the whole units down to the precision, and decimals of the last one. Those of a time alone are a function of their
-// own too.
+// Puts the whole units down to the precision, and decimals of the last one. Those of a time alone
+// are a function of their own too.
 fn put_units<S: Sink, const IS_ALONE: bool>(output: &mut S, config: &Config, time: Time)
     requires room { Fits (S.buffer output.old)
         (units_width config.now.time_precision config.now) }
@@ -192,7 +194,8 @@ fn put_decimals<S: Sink>(
     }
 }
 
-// Puts the first `digits` decimals of `rest / unit`, not rounded, by a call that borrows a sink that is taken out.
+// Puts the first `digits` decimals of `rest / unit`, not rounded, by a call that borrows a sink
+// that is taken out.
 pub(super) fn put_long_division<S: Sink>(output: &mut S, rest: u64, unit: u64, digits: ru8<1, 255>)
     requires part { rest < unit }
     requires unit { unit ≤ NANOSECONDS_PER_HOUR }

@@ -4,7 +4,8 @@
 //! `inline(never)` keeps long or rare bodies out of their callers.
 #![tactic(auto, using(crate::proofs::LengthLemmas::joined_lengths))]
 
-ghost use Rattle.std.specs.Prelude.{◌≡◌, ◌≤◌, ◌+◌, ◌*◌, ◌++◌, length, IfSome, OnOk, OnSome, MatchOption, Ok, Some, true};
+ghost use Rattle.std.specs.Prelude.{◌≡◌, ◌≤◌, ◌+◌, ◌*◌, ◌++◌, length, IfSome, OnOk, OnSome};
+ghost use Rattle.std.specs.Prelude.{MatchOption, Ok, Some, true};
 ghost use Rattle.time_digits.specs.Digits.{zero_padded};
 ghost use Rattle.time_fmt.specs.Decimals.{decimals};
 ghost use Rattle.time_fmt.specs.Outcome.{AppendsUpTo};
@@ -18,7 +19,8 @@ ghost use Rattle.time_known.specs.Iso8601.{decimal_part, iso8601_outcome, week_t
 ghost use Rattle.time_known.specs.Iso8601Width.{decimal_part_width, iso8601_width};
 ghost use Rattle.time_known.specs.Sink.{PutsUpTo};
 ghost use Rattle.time_known.specs.Stamps.{stamp_length};
-ghost use Rattle.time_known.specs.UsualText.{choices_of, usual_choices, usual_text, usual_time_text};
+ghost use Rattle.time_known.specs.UsualText.{choices_of, usual_choices, usual_text};
+ghost use Rattle.time_known.specs.UsualText.{usual_time_text};
 ghost use Rattle.time_known.specs.WellKnown.{offset_text, date_text};
 ghost use Rattle.time_known.specs.Config.{default_choices};
 ghost use Rattle.time_known.specs.declared.iso8601.config.DateKind.TheVariants.{Calendar, Week};
@@ -43,8 +45,8 @@ use time_fmt::writers::{
 use time_provide::ComponentProvider;
 use time_provide::ranges::{IsoWeekNumber, Nanoseconds};
 
-// Appends the text by these choices, or refuses the year before any byte. Of an offset with seconds, which the text
-// refuses after its first bytes, it appends nothing.
+// Appends the text by these choices, or refuses the year before any byte. Of an offset with
+// seconds, which the text refuses after its first bytes, it appends nothing.
 pub(super) fn write_usual<V: ComponentProvider>(
     config: &Config,
     usual: &Usual,
@@ -72,8 +74,8 @@ pub(super) fn write_usual<V: ComponentProvider>(
     }
 }
 
-// Appends the text by these choices, but with the date by week and weekday, where nothing of the value is refused; else
-// it appends nothing.
+// Appends the text by these choices, but with the date by week and weekday, where nothing of the
+// value is refused; else it appends nothing.
 #[inline(never)]
 pub(super) fn write_usual_week<V: ComponentProvider>(
     config: &Config,
@@ -132,7 +134,8 @@ impl Text for UsualText {
     }
 }
 
-// The text by such choices with the date by week and weekday, of fields of which nothing is refused.
+// The text by such choices with the date by week and weekday, of fields of which nothing is
+// refused.
 #[derive(Clone, Copy)]
 struct WeekText {
     usual: Usual,
@@ -158,7 +161,8 @@ impl Text for WeekText {
     }
 }
 
-/// The text by the choices of [`Usual`], but always with separators, of fields of which nothing is refused.
+/// The text by the choices of [`Usual`], but always with separators, of fields of which nothing is
+/// refused.
 #[derive(Clone, Copy)]
 pub struct SeparatedText {
     /// The decimals and their sign.
@@ -212,8 +216,8 @@ const ZEROS: &str = "\
 0000000000000000000000000000000000000000000000000000000000000000000000000000000000\
 0000000000000000000000000000000000000000000000000000000000000000000000000000000000";
 
-// Puts the date, the time and the offset with these separators, which the compiler knows, and so where
-// each part stands.
+// Puts the date, the time and the offset with these separators, which the compiler knows, and so
+// where each part stands.
 #[inline(always)]
 fn put_usual<S: Sink>(output: &mut S, usual: &Usual, fields: &Fields, dash: &str, colon: &str)
     requires room { Fits (S.buffer output.old) (20 + 2 * length dash.now + 3 * length colon.now

@@ -1,6 +1,7 @@
 //! The most bytes of a text, which its configuration decides.
 ghost use Rattle.std.specs.Prelude.{◌≡◌, ◌≤◌};
-ghost use Rattle.time_known.specs.Iso8601Width.{iso8601_width, iso_date_width, iso_time_width, iso_offset_width, decimal_part_width};
+ghost use Rattle.time_known.specs.Iso8601Width.{iso8601_width, iso_date_width, iso_time_width};
+ghost use Rattle.time_known.specs.Iso8601Width.{iso_offset_width, decimal_part_width};
 ghost use Rattle.time_known.specs.UsualText.{choices_of};
 ghost use Rattle.time_known.specs.Ways.{FitsWay};
 
