@@ -2,6 +2,8 @@
 //!
 //! What the buffer held before is a ghost member of a type parameter. So the sink's own invariants
 //! say that what follows the text is as it was, and no writer has to.
+//!
+//! Without `inline(always)` the compiler leaves calls of the functions that have it.
 ghost use Rattle.std.specs.Prelude.{◌≡◌, ◌<◌, ◌≤◌, ◌+◌, ◌++◌, ℕ, List, [], Some, length, take};
 ghost use Rattle.std.specs.Prelude.{drop};
 ghost use Rattle.time_fmt.specs.Sink.{Buffer};
@@ -68,6 +70,7 @@ impl<B: Before> Sink for RoomSink<'_, B> {
         self.room[at] = byte;
     }
 
+    #[inline(always)]
     fn put_first(&mut self, bytes: [u8; 9], count: usize) {
         let at = self.len;
         self.len = at + count;
@@ -94,6 +97,7 @@ impl<B: Before> Sink for RoomSink<'_, B> {
 
 // Overwrites the bytes of a buffer from a position on by the first of nine. Those of a name are
 // written with no call, since the compiler knows how many they are.
+#[inline(always)]
 fn write_first_over(room: &mut [u8], at: usize, bytes: &[u8; 9], count: usize)
     requires most { count ≤ 9 }
     requires room { at + 9 ≤ length room.old }

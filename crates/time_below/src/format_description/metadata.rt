@@ -1,6 +1,7 @@
 //! What is known of a text before it is written.
 //!
-//! `inline(never)` keeps long or rare bodies out of their callers.
+//! Without `inline` the compiler leaves a call of the function that has it. `inline(never)` keeps
+//! long or rare bodies out of their callers.
 ghost use Rattle.std.specs.Prelude.{◌≡◌, ◌+◌, ◌≤◌, fold, map, min, true, IfSome, IsTrue};
 ghost use Rattle.time_below.specs.Metadata.{tree_metadata, trees_metadata};
 ghost use Rattle.time_below.specs.Tree.{trees};
@@ -133,6 +134,7 @@ pub fn metadata_of_node<T: Node>(node: &T) -> Metadata
 
 /// Whether the quick bounds of the items come to at most so many bytes, which are then enough for
 /// their text. It is `false` where an item has no such bound.
+#[inline]
 pub fn nodes_fit<T: Node>(nodes: &[T], room: usize) -> bool
     ensures { IsTrue result → trees_width (trees (map T.tree nodes.now)) ≤ room }
 {

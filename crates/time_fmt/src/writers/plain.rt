@@ -146,6 +146,7 @@ fn push_rest<S: Sink>(output: &mut S, bytes: &[u8])
 }
 
 /// Appends the text, and returns the number of its bytes.
+#[inline(always)]
 pub fn write<S: Sink>(output: &mut S, text: &str) -> usize
     requires room { Fits (S.buffer output.old) (length text.now) }
     ensures writes { Puts (S.buffer output.old) (S.buffer output.new) result text.now }

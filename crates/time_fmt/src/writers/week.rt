@@ -59,6 +59,7 @@ impl Modifier for modifier::WeekdayShort {
 }
 
 /// Appends the weekday's English name.
+#[inline(always)]
 pub fn fmt_weekday_long<S: Sink>(
     output: &mut S,
     weekday: Weekday,
@@ -89,6 +90,7 @@ impl Modifier for modifier::WeekdayLong {
         (Group::Date, 9)
     }
 
+    #[inline(always)]
     fn write_supplied<S: Sink, V: ComponentProvider>(
         self,
         output: &mut S,

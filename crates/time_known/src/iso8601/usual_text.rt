@@ -125,6 +125,7 @@ impl Text for UsualText {
     ghost text = { λ t. usual_text (choices_of Calendar t.usual) t.usual.decimal_digits
         (shown t.fields).date t.fields.time t.fields.offset };
 
+    #[inline(always)]
     fn put_into<S: Sink>(&self, output: &mut S) {
         if self.usual.has_separators {
             put_usual(output, &self.usual, &self.fields, "-", ":");
@@ -152,6 +153,7 @@ impl Text for WeekText {
     ghost text = { λ t. usual_text (choices_of Week t.usual) t.usual.decimal_digits
         (by_week t.year t.week (days_from_monday t.weekday)) t.time t.offset };
 
+    #[inline(always)]
     fn put_into<S: Sink>(&self, output: &mut S) {
         if self.usual.has_separators {
             put_usual_week(output, self, "-", ":");
