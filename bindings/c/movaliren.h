@@ -25,7 +25,7 @@
  * does not name among the functions that are safe there.
  *
  * A call takes at most so many bytes of the stack, as the program stack.c measures: 512 for RFC 3339 and RFC 2822; 1,024 for
- * ISO 8601, a stamp, the time of a log line, and reading; 2,048 for reading a description, and a text by it; 4,608 for a text
+ * ISO 8601, a stamp, the time of a log line, and reading; 2,048 for reading a description, and a text by it; 4,096 for a text
  * by a description that is read for it. The messages of errors take what sprintf does.
  *
  * A pointer to a buffer, a text or an array may be null where its length is 0. Other pointers must not be null, as the
