@@ -2,9 +2,9 @@
 """Compares what README.md and the pages for users show with the code, and prints what differs.
 
     docs/check_front_page.py
-    docs/check_front_page.py --run FILE COMMAND ..    runs a program of README.md, of which FILE is the source, by a command, and
-                                                      compares what it prints with what README.md shows. A number stands for
-                                                      any other one. The zone is west of UTC
+    docs/check_front_page.py --run FILE COMMAND ..    runs a program of README.md or of another page, of which FILE is the source,
+                                                      by a command, and compares what it prints with what the page shows. A
+                                                      number stands for any other one. The zone is west of UTC
 
 Each piece of Rattle, C, C++, Rust, Python or Go stands word for word in a file that the gate compiles and runs. A program of README.md
 is a whole file, and its output stands below it. Each recipe is shown. Each command of these pages is one that this script
@@ -92,21 +92,21 @@ def wrong_log(page):
     return [] if is_run else ["README.md: the log is no run of movaliren"]
 
 
-def shown_after(file):
-    """What README.md shows as the output of a program, if it shows the whole file."""
-    shown = blocks(read("README.md"))
+def shown_after(file, pages=PAGES):
+    """What the first page that shows a whole program shows as its output."""
+    shown = blocks("".join(map(read, pages)))
     found = [shown[at + 1] for at, (_, text) in enumerate(shown[:-1]) if text == read(file)]
     return found[0][1] if found and found[0][0] == "text" else None
 
 
 def wrong_output(file, words):
-    """What a program of README.md prints where it is not what README.md shows, by the form of its lines."""
+    """What a program of a page prints where it is not what the page shows, by the form of its lines."""
     ran = subprocess.run(words, stdout=subprocess.PIPE, stderr=subprocess.STDOUT, stdin=subprocess.DEVNULL, text=True,
                          env={**os.environ, "TZ": "America/Chicago"})
     said = "".join(line for line in ran.stdout.splitlines(True) if not re.match("checked: |run=", line))
     wanted = shown_after(file)
     is_same = wanted is not None and ran.returncode == 0 and re.sub(r"\d+", "0", said) == re.sub(r"\d+", "0", wanted)
-    return [] if is_same else [f"{file} prints {said!r}, and README.md shows {wanted!r}"]
+    return [] if is_same else [f"{file} prints {said!r}, and its page shows {wanted!r}"]
 
 
 def has(path, text):
@@ -168,13 +168,13 @@ def commands(pages):
 def main():
     if sys.argv[1:2] == ["--run"]:
         wrong = wrong_output(sys.argv[2], sys.argv[3:])
-        print("\n".join(wrong) or f"{sys.argv[2]}: prints what README.md shows")
+        print("\n".join(wrong) or f"{sys.argv[2]}: prints what its page shows")
         return 1 if wrong else 0
     texts = [read(page) for page in PAGES]
     differing = [it for text in texts for it in pieces(text)] + commands("".join(texts))
     functions = [it for path in RECIPES for it in re.findall(r"^pub fn \w+", read(path), re.M)]
     differing += [it for it in functions if it not in texts[-1]]
-    differing += [f"README.md shows not all of {it}, or not its output" for it in PROGRAMS if shown_after(it) is None]
+    differing += [f"README.md shows not all of {it}, or not its output" for it in PROGRAMS if shown_after(it, PAGES[:1]) is None]
     differing += wrong_log(texts[0]) + wrong_rows(read("docs/SHELL.md"))
     for it in differing:
         print(f"the documents and the code differ: {it}")

@@ -34,7 +34,7 @@ OF_RATTLE = {
 OF_OTHERS = {
     "AllocError", "Display", "extend_from_slice", "last_mut", "push_reserved", "reserve", "reserve_exact", "to_string",
     "final", "unsafe", "memcmp", "memcpy", "memmove", "memset", "arrayvec", "bstr", "clap", "jiff_strtime", "thiserror",
-    "chrono", "serde", "serialize_with", "datetime", "bench", "movaliren", "display", "BufWriter", "RangedU8", "deranged",
+    "chrono", "env_logger", "serde", "serialize_with", "datetime", "bench", "movaliren", "display", "BufWriter", "RangedU8", "deranged",
 }
 # A file, a folder, or a definition or lemma with its folder; and a lemma or a definition by its name alone.
 FILE = re.compile(r"(?:[\w-]+/)*[\w-]+\.(?:rt|antt|rs|c|cpp|h|hpp|py|md)|(?:[\w-]+/)+[\w-]*|[A-Z][a-z]+(?:[A-Z]\w+)*")

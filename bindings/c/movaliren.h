@@ -25,7 +25,7 @@
  * does not name among the functions that are safe there.
  *
  * A call takes at most so many bytes of the stack, as the program stack.c measures: 512 for RFC 3339 and RFC 2822; 1,024 for
- * ISO 8601, a stamp, the time of a log line, and reading; 2,048 for reading a description, and a text by it; 4,608 for a text
+ * ISO 8601, a stamp, the time of a log line, and reading; 2,048 for reading a description, and a text by it; 4,096 for a text
  * by a description that is read for it. The messages of errors take what sprintf does.
  *
  * A pointer to a buffer, a text or an array may be null where its length is 0. Other pointers must not be null, as the
@@ -652,8 +652,8 @@ MOVALIREN_INLINE_ MOVALIREN_NONNULL_(1) int movaliren_description_has_component(
     return 0;
 }
 
-/* The text by the description: movaliren_description_format takes a moment with its parts, movaliren_description_format_utc one in UTC,
- * movaliren_description_format_local one at an offset, and movaliren_description_format_date a date. */
+/* The text by the description: movaliren_description_format takes a moment with its parts, the call that ends in _utc one
+ * in UTC, that in _local one at an offset, and that in _date a date. */
 MOVALIREN_INLINE_ ptrdiff_t movaliren_description_format(const struct movaliren_description *description,
     const struct movaliren_moment *moment, void *buffer, size_t buffer_size)
 {
@@ -690,8 +690,7 @@ MOVALIREN_INLINE_ ptrdiff_t movaliren_description_format_date(const struct moval
 }
 
 /* The number of bytes of one text by the description: movaliren_description_format_length takes a moment with its parts,
- * movaliren_description_format_utc_length one in UTC, movaliren_description_format_local_length one at an offset, and movaliren_description_format_date_length a
- * date. */
+ * the call that ends in _utc_length one in UTC, that in _local_length one at an offset, and that in _date_length a date. */
 MOVALIREN_INLINE_ ptrdiff_t movaliren_description_format_length(
     const struct movaliren_description *description, const struct movaliren_moment *moment)
 {
@@ -742,7 +741,7 @@ MOVALIREN_INLINE_ ptrdiff_t movaliren_description_max_length(const struct movali
 /* A buffer of this many bytes holds the message of any parse error. */
 #define MOVALIREN_PARSE_MESSAGE_SIZE 100
 
-/* Writes a byte as itself, as \t or its like, or as \x7f, and returns the number of characters. */
+/* Writes a byte as itself, as an escape such as \t, or as \x7f, and returns the number of characters. */
 MOVALIREN_INLINE_ int movaliren_escaped_(uint8_t byte, char *buffer)
 {
     static const char pairs[] = "\tt\rr\nn''\"\"\\\\";
@@ -828,7 +827,7 @@ MOVALIREN_INLINE_ const char *movaliren_read_error_message(const struct movalire
 /* ---- a description that is read for one text */
 
 /* The text of a moment by a description in brackets of at most 64 items, which is read for this one text. The errors
- * are those of movaliren_description_parse, and then those of movaliren_description_format_utc or its like.
+ * are those of movaliren_description_parse, and then those of movaliren_description_format_utc or _format_local.
  *
  *     static const char day[] = "[day] [month repr:long]";
  *     n = movaliren_format_brackets_utc(day, sizeof day - 1, now.tv_sec, 0, line, sizeof line); */
@@ -838,7 +837,8 @@ ptrdiff_t movaliren_format_brackets_local(const void *text, size_t text_len, int
     uint32_t nanosecond, int64_t offset, void *buffer, size_t buffer_size);
 
 /* The text of a moment by a description in the syntax of strftime of at most 64 items, which is read for this one text.
- * The errors are those of movaliren_description_parse_strftime, and then those of movaliren_description_format_utc or its like.
+ * The errors are those of movaliren_description_parse_strftime, and then those of movaliren_description_format_utc or
+ * _format_local.
  *
  *     static const char day[] = "%d %B";
  *     n = movaliren_format_strftime_utc(day, sizeof day - 1, now.tv_sec, 0, line, sizeof line); */
@@ -847,8 +847,9 @@ ptrdiff_t movaliren_format_strftime_utc(const void *text, size_t text_len, int64
 ptrdiff_t movaliren_format_strftime_local(const void *text, size_t text_len, int64_t seconds,
     uint32_t nanosecond, int64_t offset, void *buffer, size_t buffer_size);
 
-/* The number of bytes of the text that movaliren_format_brackets_utc and its like write, up to PTRDIFF_MAX, or their error,
- * which is never MOVALIREN_ERROR_BUFFER_TOO_SMALL. After that error make a buffer of this many bytes, and call them again. */
+/* The number of bytes of the text that movaliren_format_brackets_utc and the three calls after it write, up to
+ * PTRDIFF_MAX, or their error, which is never MOVALIREN_ERROR_BUFFER_TOO_SMALL. After that error make a buffer of this
+ * many bytes, and call them again. */
 MOVALIREN_INLINE_ ptrdiff_t movaliren_format_brackets_utc_length(
     const void *text, size_t text_len, int64_t seconds, uint32_t nanosecond)
 {

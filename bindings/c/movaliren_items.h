@@ -120,7 +120,7 @@ enum movaliren_padding { MOVALIREN_PAD_ZERO = 0, MOVALIREN_PAD_SPACE = 1, MOVALI
  * movaliren_items_max_length returns the sum of the most bytes that each item has, up to PTRDIFF_MAX, or
  * MOVALIREN_ERROR_BAD_ITEM: a buffer of this many is large enough.
  *
- * movaliren_items_format_length and its like return the number of bytes of one text, up to PTRDIFF_MAX, or its error,
+ * The calls whose names end in _length return the number of bytes of one text, up to PTRDIFF_MAX, or its error,
  * which is never MOVALIREN_ERROR_BUFFER_TOO_SMALL. After that error of movaliren_items_format make a buffer of this many
  * bytes, and call it again. It costs somewhat more than a short text.
  *
@@ -199,9 +199,9 @@ enum movaliren_parse_error_kind {
  *     n = movaliren_description_format(&line, &moment, ..);
  *
  * After an item that did not fit, or that movaliren_description_add_with finds invalid, nothing more is added, and `error`
- * says why. movaliren_description_format and its like return it. Then the first item of the array is one that
- * movaliren_items_format and its like refuse as MOVALIREN_ERROR_BAD_ITEM, so that no text is written where the error is not
- * tested. */
+ * says why. movaliren_description_format and the similar calls return it. Then the first item of the array is one that
+ * movaliren_items_format and the similar calls refuse as MOVALIREN_ERROR_BAD_ITEM, so that no text is written where the
+ * error is not tested. */
 
 /* The empty description over two arrays, as an initialiser, to which items are added. In C89 both are static. */
 #define MOVALIREN_BUILDER_INIT(items, texts)                                           \
@@ -256,7 +256,7 @@ MOVALIREN_INLINE_ MOVALIREN_NONNULL_(1) void movaliren_description_add_with(
 }
 
 /* Adds a component by its usual choices: zeros before its number, a sign only where it is needed, and as many
- * decimals as are needed. A weekday counts from 1, and the half of the day is in upper case. */
+ * decimals as are needed. A weekday counts from 1, and AM and PM are in upper case. */
 MOVALIREN_INLINE_ MOVALIREN_NONNULL_(1) void movaliren_description_add(
     struct movaliren_description *description, enum movaliren_kind kind)
 {
@@ -278,8 +278,8 @@ MOVALIREN_INLINE_ MOVALIREN_NONNULL_(1) void movaliren_description_add_bytes(
         movaliren_refuse_(description, MOVALIREN_ERROR_BUFFER_TOO_SMALL);
     movaliren_description_add_item(description, item);
     if (description->error == 0 && len > 0) {
-        memcpy(description->texts_array + description->texts_len, bytes, len);
         description->texts_len += len;
+        memcpy(description->texts_array + item.start, bytes, len);
     }
 }
 

@@ -74,9 +74,9 @@ static const struct {
     { "read_rfc3339", read_text, 1024 },
     { "items_parse, 32 lists in one another", items_parse, 2048 },
     { "items_format", items_format, 2048 },
-    { "format_strftime_local", strftime_local, 4608 },
-    { "format_brackets_utc, 30 items in 32 lists in one another", brackets_utc, 4608 },
-    { "format_strftime_utc, 60 items", many_items, 4608 },
+    { "format_strftime_local", strftime_local, 4096 },
+    { "format_brackets_utc, 30 items in 32 lists in one another", brackets_utc, 4096 },
+    { "format_strftime_utc, 60 items", many_items, 4096 },
     { "parse_error_message, with sprintf", message, 4608 },
 };
 

@@ -1,6 +1,6 @@
 """Builds the wheel by a C compiler alone, with the static library in its one extension module, which serves Python 3.11
 and above. The library is found as by the crate of Rust: in the folder MOVALIREN_LIB, in this repository as `rt lib` leaves
-it, or by pkg-config.
+it, in the unpacked archive that this folder is part of, or by pkg-config.
 
     pip wheel --no-deps -w OUT bindings/python"""
 
@@ -25,7 +25,7 @@ LINKS = ["-shared", "-Wl,--gc-sections,--exclude-libs,ALL,-z,relro,-z,now", "-s"
 
 def flags_and_library():
     """The words for the compiler, and the static library."""
-    for folder in (os.environ.get("MOVALIREN_LIB"), HERE.parents[1] / "crates/movaliren_c/out"):
+    for folder in (os.environ.get("MOVALIREN_LIB"), HERE.parents[1] / "crates/movaliren_c/out", HERE.parents[1] / "lib"):
         for name in NAMES if folder else ():
             if (found := pathlib.Path(folder, name)).exists():
                 beside = [HERE.parent / "c", pathlib.Path(folder).parent / "include"]

@@ -1,5 +1,5 @@
-//! Finds the library: in the folder `MOVALIREN_LIB`, else where `rt lib` builds it in this repository,
-//! else where it is installed, by pkg-config.
+//! Finds the library: in the folder `MOVALIREN_LIB`, else where `rt lib` builds it in this repository, or in
+//! the unpacked archive that this crate is part of, else where it is installed, by pkg-config.
 //!
 //! An installed library is the archive `libmovaliren.a`, or `libmovaliren.so` where there is no archive. The one
 //! that `rt lib` builds is `libmovaliren_c.a`.
@@ -26,6 +26,12 @@ const FILES: [(&str, &str, &str); 3] = [
     ("libmovaliren_c.a", "static", "movaliren_c"),
     ("libmovaliren.a", "static", "movaliren"),
     ("libmovaliren.so", "dylib", "movaliren"),
+];
+
+/// Where a library stands beside this crate, with its header: in the repository, and in an unpacked archive.
+const BESIDE: [(&str, &str); 2] = [
+    ("../../crates/movaliren_c/out", "../c/movaliren.h"),
+    ("../../lib", "../../include/movaliren.h"),
 ];
 
 fn folder_of(variable: &str) -> Option<PathBuf> {
@@ -115,17 +121,21 @@ fn link(folder: &Path, file: &str, kind: &str, library: &str) {
     println!("cargo:rustc-link-lib={kind}={library}");
 }
 
+/// A library of this folder.
+fn library_of(folder: &Path) -> Option<&'static (&'static str, &'static str, &'static str)> {
+    FILES.iter().find(|file| folder.join(file.0).exists())
+}
+
 /// Links the library of this folder, if it has one.
 fn linked_in(folder: &Path) -> Result<(), String> {
-    let is_there = |file: &&(&str, _, _)| folder.join(file.0).exists();
-    let (file, kind, library) = FILES.iter().find(is_there).ok_or(NOT_FOUND)?;
+    let (file, kind, library) = library_of(folder).ok_or(NOT_FOUND)?;
     link(folder, file, kind, library);
     Ok(())
 }
 
 fn linked_installed() -> Result<(), String> {
     let folders = folders_installed();
-    let is_there = |folder: &&PathBuf| FILES.iter().any(|file| folder.join(file.0).exists());
+    let is_there = |folder: &&PathBuf| library_of(folder).is_some();
     let folder = folders.iter().find(is_there).ok_or(NOT_FOUND)?;
     check_version(asked("--modversion"), "pkg-config")?;
     linked_in(folder)
@@ -136,10 +146,12 @@ fn linked() -> Result<(), String> {
         check_version(version_beside(&folder), "its header")?;
         return linked_in(&folder);
     }
-    let folder = beside("../../crates/movaliren_c/out");
-    if folder.join("libmovaliren_c.a").exists() {
-        check_version(version_in(&beside("../c/movaliren.h")), "its header")?;
-        return linked_in(&folder);
+    for (folder, header) in BESIDE {
+        let folder = beside(folder);
+        if library_of(&folder).is_some() {
+            check_version(version_in(&beside(header)), "its header")?;
+            return linked_in(&folder);
+        }
     }
     linked_installed()
 }

@@ -1,8 +1,8 @@
-//! Values of the crates `time` and `chrono` as values of `movaliren`, timers for `tracing-subscriber`,
-//! and moments for `serde`.
+//! Values of the crates `time` and `chrono` as values of `movaliren`, timers for `tracing-subscriber`, lines
+//! for `log` and `env_logger`, and moments for `serde`.
 //!
-//! Each of the four is a feature, and all are on by default. The conversions are traits, since neither
-//! side's types belong to this crate.
+//! Each of the five is a feature (`time`, `chrono`, `tracing`, `log`, `serde`), and all are on by default. The
+//! conversions are traits, since neither side's types belong to this crate.
 //!
 //! ```
 //! use movaliren::{Format, Rfc3339};
@@ -23,16 +23,18 @@
 
 use movaliren::{Date, Moment, UtcMoment};
 
+#[cfg(feature = "log")]
+mod logger;
 #[cfg(feature = "chrono")]
 mod of_chrono;
 #[cfg(feature = "time")]
 mod of_time;
 #[cfg(feature = "serde")]
 pub mod rfc3339;
-#[cfg(feature = "tracing")]
 mod timer;
 
-#[cfg(feature = "tracing")]
+#[cfg(feature = "log")]
+pub use logger::{log_line, Logger};
 pub use timer::{LocalTimer, LogTimer, Timer};
 
 /// A value with a local date, a local time and an offset from UTC.
@@ -53,6 +55,12 @@ pub trait ToDate {
     fn to_date(&self) -> Date;
 }
 
-#[cfg(all(doctest, feature = "time", feature = "tracing", feature = "serde"))]
+#[cfg(all(
+    doctest,
+    feature = "time",
+    feature = "tracing",
+    feature = "log",
+    feature = "serde"
+))]
 #[doc = include_str!("../README.md")]
 struct Readme;

@@ -1,16 +1,21 @@
 //! The timers.
-use movaliren::{Error, Format, LocalMoment, LogTime, UtcMoment};
-use std::fmt;
+use movaliren::{Format, LocalMoment, LogTime, UtcMoment};
+use std::fmt::{self, Display};
 use std::thread::LocalKey;
-use tracing_subscriber::fmt::format::Writer;
-use tracing_subscriber::fmt::time::FormatTime;
+
+#[cfg(feature = "tracing")]
+mod of_tracing;
 
 /// A timer that writes the system's clock in UTC by a format.
+///
+/// `{}` shows the time of now, also of the other timers. A time that the format refuses is shown as the reason in
+/// angle brackets. `tracing-subscriber` writes `<unknown time>` in its place.
 ///
 /// ```
 /// use movaliren::Rfc3339;
 /// use movaliren_time::Timer;
 ///
+/// println!("{} opened", Timer::new(Rfc3339));
 /// tracing_subscriber::fmt().with_timer(Timer::new(Rfc3339)).init();
 /// tracing::info!("opened");
 /// ```
@@ -26,9 +31,9 @@ impl<F: Format<UtcMoment>> Timer<F> {
     }
 }
 
-impl<F: Format<UtcMoment>> FormatTime for Timer<F> {
-    fn format_time(&self, writer: &mut Writer<'_>) -> fmt::Result {
-        write_text(&self.format, &UtcMoment::now(), writer)
+impl<F: Format<UtcMoment>> Display for Timer<F> {
+    fn fmt(&self, f: &mut fmt::Formatter<'_>) -> fmt::Result {
+        UtcMoment::now().display(&self.format).fmt(f)
     }
 }
 
@@ -57,11 +62,16 @@ impl<F: Format<LocalMoment>, O: Fn(UtcMoment) -> i64> LocalTimer<F, O> {
     }
 }
 
-impl<F: Format<LocalMoment>, O: Fn(UtcMoment) -> i64> FormatTime for LocalTimer<F, O> {
-    fn format_time(&self, writer: &mut Writer<'_>) -> fmt::Result {
-        let now = UtcMoment::now();
-        write_text(&self.format, &now.local((self.offset)(now)), writer)
+impl<F: Format<LocalMoment>, O: Fn(UtcMoment) -> i64> Display for LocalTimer<F, O> {
+    fn fmt(&self, f: &mut fmt::Formatter<'_>) -> fmt::Result {
+        local_now(&self.offset).display(&self.format).fmt(f)
     }
+}
+
+/// The system's clock in local time, by a function of the offset.
+fn local_now(offset: impl Fn(UtcMoment) -> i64) -> LocalMoment {
+    let now = UtcMoment::now();
+    now.local(offset(now))
 }
 
 thread_local! {
@@ -114,22 +124,9 @@ impl<O: Fn(UtcMoment) -> i64> LogTimer<O> {
     }
 }
 
-impl<O: Fn(UtcMoment) -> i64> FormatTime for LogTimer<O> {
-    fn format_time(&self, writer: &mut Writer<'_>) -> fmt::Result {
-        let now = UtcMoment::now();
-        let local = now.local((self.offset)(now));
-        self.times.with(|time| write_text(time, &local, writer))
-    }
-}
-
-fn write_text<V>(format: &impl Format<V>, value: &V, writer: &mut Writer<'_>) -> fmt::Result {
-    match format.text(value) {
-        Ok(text) => writer.write_str(&text),
-        // Longer than a text in place.
-        Err(Error::BufferTooSmall) => {
-            let text = format.format(value).map_err(|_| fmt::Error)?;
-            writer.write_str(&text)
-        }
-        Err(_) => Err(fmt::Error),
+impl<O: Fn(UtcMoment) -> i64> Display for LogTimer<O> {
+    fn fmt(&self, f: &mut fmt::Formatter<'_>) -> fmt::Result {
+        let local = local_now(&self.offset);
+        self.times.with(|time| local.display(time).fmt(f))
     }
 }

@@ -21,8 +21,9 @@ use crate::syntax::{Brackets, ParseError, Strftime, Syntax};
 /// The most items of a text that is formatted in one call.
 const FEW: usize = 64;
 
-/// The items that there is room for at first: an array of all 64 costs 60 instructions more.
-const USUAL: usize = 24;
+/// The items of the array that is tried first: one of all 64 costs more instructions. Where a text has
+/// more items, both arrays are on the stack.
+const USUAL: usize = 18;
 
 /// Reads the items of a text in brackets into an array.
 #[unsafe(no_mangle)]

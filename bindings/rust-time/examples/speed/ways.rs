@@ -77,7 +77,10 @@ fn iso8601() -> Ways {
         ("iso8601_utc_batch", batch(Iso8601)),
         ("iso8601_batch", batch_of_parts(Iso8601)),
         ("iso8601_with_utc:three-decimals", ours(THREE)),
-        ("iso8601_with_utc:three-decimals/time", of_time(THREE_OF_TIME)),
+        (
+            "iso8601_with_utc:three-decimals/time",
+            of_time(THREE_OF_TIME),
+        ),
         ("iso8601_with_utc:three-decimals/chrono", three()),
         ("iso8601_with_local:three-decimals", ours_east(THREE)),
         ("log_time:each-second", ours(LogTime::milliseconds())),
@@ -235,7 +238,10 @@ fn descriptions() -> Ways {
         ("items_format:11-items/chrono", eleven_of_chrono()),
         ("items_format_date:5-items", of_date(five())),
         ("items_format_date:5-items/time", of_time(FIVE_OF_TIME)),
-        ("items_format_date:5-items/chrono", items_of_chrono("%Y-%m-%d")),
+        (
+            "items_format_date:5-items/chrono",
+            items_of_chrono("%Y-%m-%d"),
+        ),
         ("items_format_utc:names", ours(names())),
         ("items_format_utc:names/time", of_time(NAMES_OF_TIME)),
         ("items_format_utc:names/chrono", names_of_chrono()),
@@ -329,7 +335,10 @@ fn other_calls() -> Ways {
             "items_format_utc_length:11-items",
             measured(move |moment| counted.length(moment).unwrap_or(0)),
         ),
-        ("items_max_length:11-items", measured(move |_| built.width())),
+        (
+            "items_max_length:11-items",
+            measured(move |_| built.width()),
+        ),
     ]
 }
 

@@ -1,11 +1,18 @@
-//! The lines that a subscriber of `tracing` writes.
+//! The lines that a subscriber of `tracing` or a logger writes.
 use std::io;
 use std::sync::{Arc, Mutex};
 use tracing_subscriber::fmt::time::FormatTime;
 
 /// A writer whose clones add to one text.
 #[derive(Clone, Default)]
-struct Lines(Arc<Mutex<Vec<u8>>>);
+pub struct Lines(Arc<Mutex<Vec<u8>>>);
+
+impl Lines {
+    /// Returns what was written.
+    pub fn text(&self) -> String {
+        String::from_utf8(self.0.lock().unwrap().clone()).unwrap()
+    }
+}
 
 impl io::Write for Lines {
     fn write(&mut self, bytes: &[u8]) -> io::Result<usize> {
@@ -27,6 +34,5 @@ pub fn logged_by(timer: impl FormatTime + Send + Sync + 'static, events: impl Fn
         .with_writer(move || writer.clone())
         .finish();
     tracing::subscriber::with_default(subscriber, events);
-    let bytes = lines.0.lock().unwrap().clone();
-    String::from_utf8(bytes).unwrap()
+    lines.text()
 }

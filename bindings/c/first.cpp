@@ -1,0 +1,7 @@
+#include <iostream>
+#include <movaliren.hpp>
+
+int main()
+{
+    std::cout << movaliren::rfc3339(std::chrono::system_clock::now()) << " started\n";
+}
