@@ -57,7 +57,7 @@ fn end_lists<I: Items>(
     Ok(())
 }
 
-/// Reads on between lists: up to a list's opening bracket, or behind the closing one.
+/// Reads on between lists: up to a list's opening bracket, or after the closing one.
 fn between<'a, I: Items>(
     items: &mut I,
     frames: &mut Frames,
@@ -107,7 +107,7 @@ fn between<'a, I: Items>(
     Ok(after)
 }
 
-/// Reads what is behind a backslash, from which `left` bytes are left.
+/// Reads what is after a backslash, from which `left` bytes are left.
 fn escaped<'a, I: Items>(items: &mut I, left: usize, rest: &'a [u8]) -> Result<&'a [u8], Failure>
     requires { left ≡ length rest.now + 1 }
     ensures goes_on { (text : List ℕ) (fs : List reading.Frame) (before : List Tree)
@@ -130,7 +130,7 @@ fn escaped<'a, I: Items>(items: &mut I, left: usize, rest: &'a [u8]) -> Result<&
     }
 }
 
-/// Closes the innermost list, and reads on behind its closing bracket.
+/// Closes the innermost list, and reads on after its closing bracket.
 fn close_list<'a, I: Items>(
     items: &mut I,
     frames: &mut Frames,

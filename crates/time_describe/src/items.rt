@@ -19,7 +19,7 @@ pub trait Items {
     /// innermost.
     ghost Holds: { List ℕ → List Frame → Self → List Tree → Type 0 };
 
-    /// Whether it holds these lists of items, in brackets behind these items, in these open lists.
+    /// Whether it holds these lists of items, in brackets after these items, in these open lists.
     ghost HoldsLists: { List ℕ → List Frame → Nest → List Tree → Self → List Tree → Type 0 };
 
     /// Whether it may refuse an item, for lack of memory.

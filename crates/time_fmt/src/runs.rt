@@ -71,7 +71,7 @@ pub fn write_time<S: Sink, V: ComponentProvider>(
     count + write_two_after(output, between, minute, second)
 }
 
-/// Appends two numbers in two places, each behind its byte, and returns the number of bytes.
+/// Appends two numbers in two places, each after its byte, and returns the number of bytes.
 fn write_two_after<S: Sink>(
     output: &mut S,
     between: (u8, u8),

@@ -107,7 +107,7 @@ fn add_shown(alloc: Global, steps: &mut Vec<Step>, shown: Shown) -> Result<(), A
     Ok(())
 }
 
-/// Adds a literal to the last step, if that has none yet, or behind no component.
+/// Adds a literal to the last step, if that has none yet, or after no component.
 fn add_literal(
     alloc: Global,
     steps: &mut Vec<Step>,

@@ -18,7 +18,7 @@ use time_below::format_description::{Layer, Metadata, Node};
 use time_fmt::{ComputeMetadata, Format, Formattable, Refused, make_room};
 use time_provide::ComponentProvider;
 
-/// A description that was made of a tree once, with its width kept.
+/// A description that was made of a tree once, with its width cached.
 ///
 /// It has the tree's outcome for every value, its width and its guarantee of UTF-8. Dates and times
 /// cost less than half of what they cost by the tree, so a plan pays where it writes more than a
@@ -65,7 +65,7 @@ impl Plan {
         Ok(Plan::of_steps(steps))
     }
 
-    /// The steps, in order: a component or a run of them, and the literal behind it.
+    /// The steps, in order: a component or a run of them, and the literal after it.
     pub fn steps(&self) -> &[Step]
         ensures outcome { ⟦<Plan as Formattable>⟧.outcome_of self.now ≡ trees_outcome (step_trees result.now) }
         ensures width { ⟦<Plan as ComputeMetadata>⟧.width_of self.now ≡ trees_width (step_trees result.now) }

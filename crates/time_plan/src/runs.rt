@@ -14,7 +14,7 @@ ghost use Rattle.time_plan.specs.Steps.{IsAlike, Begins};
 use crate::shown::{Part, Run, Separators};
 use time_below::format_description::{Component, Layer, Node, component_width};
 
-/// The date or the time of day at the front of the nodes, and the nodes behind it.
+/// The date or the time of day at the front of the nodes, and the nodes after it.
 #[inline(always)]
 pub(crate) fn run_of<T: Node>(nodes: &[T]) -> Option<(Run, &[T])>
     ensures begins { IfSome result (λ found. Begins (trees (map T.tree nodes.now)) (run_tree found.0)

@@ -10,7 +10,7 @@ use thiserror::Error;
 /// What is wrong at a position of a text in the syntax of strftime.
 #[derive(Clone, Copy, Debug, PartialEq, Eq, Error)]
 pub enum StrftimeReason {
-    /// A `%`, or a flag behind one, ends the text.
+    /// A `%`, or a flag after one, ends the text.
     #[error("unfinished conversion `%`")]
     Unfinished,
     /// No conversion has this letter, or a colon stands elsewhere than in `%:z`.

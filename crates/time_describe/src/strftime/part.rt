@@ -54,7 +54,7 @@ fn is_offered(letter: u8) -> bool
         || composition(letter).is_some()
 }
 
-/// Why a letter is refused behind a flag.
+/// Why a letter is refused after a flag.
 fn refusal_behind_flag(letter: u8) -> StrftimeReason
     ensures { result ≡ refusal_behind_flag letter }
 {
@@ -81,7 +81,7 @@ fn part_of(letter: u8) -> Option<Part<'static>>
     composition(letter).map(Part::Composition)
 }
 
-/// What is behind a flag, and that it takes two bytes behind the `%`.
+/// What is after a flag, and that it takes two bytes after the `%`.
 #[inline(never)]
 #[tactic(auto, unfolding(crate::specs::Strftime::flagged))]
 fn flagged<'a>(flag: Padding, bytes: &'a [u8]) -> Result<(Part<'a>, usize), Fault>
@@ -105,7 +105,7 @@ fn flagged<'a>(flag: Padding, bytes: &'a [u8]) -> Result<(Part<'a>, usize), Faul
     }
 }
 
-/// What is behind a colon, which stands `left` bytes before the end.
+/// What is after a colon, which stands `left` bytes before the end.
 #[inline(never)]
 #[tactic(auto, unfolding(crate::specs::Strftime::with_colon))]
 fn with_colon<'a>(left: usize, bytes: &'a [u8]) -> Result<(Part<'a>, usize), Fault>
@@ -124,7 +124,7 @@ fn with_colon<'a>(left: usize, bytes: &'a [u8]) -> Result<(Part<'a>, usize), Fau
     }
 }
 
-/// What is behind a width, whose digit stands `left` bytes before the end.
+/// What is after a width, whose digit stands `left` bytes before the end.
 #[inline(never)]
 #[tactic(auto, unfolding(crate::specs::Strftime::with_width))]
 fn with_width<'a>(
@@ -153,7 +153,7 @@ fn with_width<'a>(
     }
 }
 
-/// What is behind a `%`, and how many bytes belong to it. The usual conversions are added before
+/// What is after a `%`, and how many bytes belong to it. The usual conversions are added before
 /// without a call.
 #[inline(never)]
 #[tactic(auto, unfolding(crate::specs::Strftime::conversion))]
@@ -205,7 +205,7 @@ fn literal_len(bytes: &[u8]) -> usize
     }
 }
 
-/// The first part of a text, and how many bytes belong to it behind the first one.
+/// The first part of a text, and how many bytes belong to it after the first one.
 #[tactic(auto, unfolding(crate::specs::Strftime::first_part))]
 pub fn first_part<'a>(text: &'a [u8]) -> Result<(Part<'a>, usize), Fault>
     requires { 0 < length text.now }
