@@ -133,6 +133,9 @@ static void descriptions()
     expect("a digit behind a space", spaced.format(at(hours(9))), " 9");
     expect("a length in UTC", std::to_string(hour.length(at(hours(9)))), "1");
     expect("a length at an offset", std::to_string(hour.length(at(hours(9)), hours(1))), "2");
+    const auto decimals = movaliren::description().add(MOVALIREN_KIND_SUBSECOND);
+    expect("a length of decimals", std::to_string(decimals.length(at(milliseconds(120)))), "2");
+    expect("a length of decimals at an offset", std::to_string(decimals.length(at(milliseconds(120)), hours(1))), "2");
     try {
         movaliren::description().add(static_cast<movaliren_kind>(99)).format(moment);
         failed++;
@@ -191,6 +194,9 @@ static void other_values()
     std::string out = "on ";
     line.format_to(std::back_inserter(out), at(seconds(880127706)), hours(9));
     expect("to an iterator", out, "on 22 of November");
+    char buffer[32];
+    const char *const end = line.format_to(buffer, at(seconds(880127706)), hours(9));
+    expect("the place after it", { buffer, static_cast<std::size_t>(end - buffer) }, "22 of November");
 #if __cplusplus >= 202002L
     expect("a local time", movaliren::rfc3339(local_time<seconds>(seconds(851013597)), hours(-8)).value(),
         "1996-12-19T16:39:57-08:00");
@@ -211,6 +217,7 @@ static void lines()
     } catch (const movaliren::row_error &error) {
         expect_error("a wrong row", error.code(), errc::format_year);
         expect("its index", std::to_string(error.row()), "1");
+        expect("its words", std::string_view(error.what()).substr(0, 6), "row 1:");
     }
 }
 
@@ -237,6 +244,7 @@ static void readings()
     const auto decimals = "1970-01-01T00:00:01.5" + std::string(49, '0') + "Z";
     expect("50 decimals", std::to_string(movaliren::read_rfc3339(decimals, movaliren::profile::lenient).value().nanosecond),
         "500000000");
+    expect("50 decimals, locally", movaliren::read_rfc3339_local(decimals, movaliren::profile::lenient).message(), "");
     const auto none = movaliren::read_rfc3339("1996-12-19t16:39:57-08:00");
     expect_error("not read", none.error(), errc::not_read);
     expect("its place", none.message(), "byte 10: expected `T`");

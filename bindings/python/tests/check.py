@@ -2,6 +2,7 @@
 beside their rows, and what each call refuses. Ends with status 1 after a difference."""
 
 import array
+import ctypes
 import datetime
 import doctest
 import logging
@@ -32,9 +33,16 @@ def at(offset):
     return datetime.timezone(datetime.timedelta(seconds=offset))
 
 
+class Finer(datetime.datetime):
+    """Has nanoseconds beside its microseconds, as a Timestamp of pandas."""
+
+    nanosecond = 7
+
+
 def worked():
     """RFC 3339, section 5.8, and RFC 2822, appendix A.1.1."""
     expect(movaliren.rfc3339(datetime.datetime(1985, 4, 12, 23, 20, 50, 520_000, UTC)), "1985-04-12T23:20:50.52Z")
+    expect(movaliren.rfc3339(Finer(1985, 4, 12, 23, 20, 50, 520_000, UTC)), "1985-04-12T23:20:50.520000007Z")
     expect(movaliren.rfc3339(datetime.datetime(1996, 12, 19, 16, 39, 57, 0, at(-28800))), "1996-12-19T16:39:57-08:00")
     expect(movaliren.rfc3339(datetime.datetime(1937, 1, 1, 12, 0, 27, 870_000, at(1200))), "1937-01-01T12:00:27.87+00:20")
     expect(movaliren.rfc3339_at(-1041337173, 870_000_000, 1200), "1937-01-01T12:00:27.87+00:20")
@@ -70,7 +78,8 @@ def refused():
     expect(error_of(movaliren.Description.strftime, "%Q"), ("DescriptionError: unknown conversion `%Q` at byte 1", 1))
     expect(error_of(movaliren.read_rfc3339, "1985-04-12 23:20"), ("ReadError: byte 10: expected `T`", 10))
     expect(error_of(movaliren.read_rfc3339_at, ""), ("ReadError: byte 0: expected a digit from 0 to 9", 0))
-    expect(error_of(movaliren.rfc3339_at, 0, 0, 93600), ("Error: the hours of the offset are outside -25 to 25",))
+    for offset in 93600, 2**31, 2**32:
+        expect(error_of(movaliren.rfc3339_at, 0, 0, offset), ("Error: the hours of the offset are outside -25 to 25",))
     expect(error_of(movaliren.rfc3339_at, 253402300800), ("Error: the format cannot represent the year",))
     expect(error_of(movaliren.Description("[hour]").format_date, datetime.date(2026, 1, 1)),
            ("Error: the value lacks a component of the format",))
@@ -86,7 +95,8 @@ def refused():
            ("ValueError: the offset from UTC has a part of a second",))
     finer = "ValueError: a datetime has microseconds alone: read_rfc3339_at returns the nanosecond"
     expect(error_of(movaliren.read_rfc3339, "1985-04-12T23:20:50.1234567Z"), (finer,))
-    expect(error_of(movaliren.iso8601_at, 0, decimals=10), ("ValueError: decimals are 0 to 9",))
+    for decimals in -1, 10, 256:
+        expect(error_of(movaliren.iso8601_at, 0, decimals=decimals), ("ValueError: decimals are 0 to 9",))
 
 
 def columns():
@@ -95,6 +105,7 @@ def columns():
     lines = b"1970-01-01T00:00:00Z\n2001-09-09T01:46:40Z\n"
     expect(error_of(movaliren.rfc3339_lines, column), (row, 2, lines))
     expect(movaliren.rfc3339_lines(memoryview(column)[::3], end="\0"), b"1970-01-01T00:00:00Z\0" b"1970-01-01T00:00:01Z\0")
+    expect(movaliren.rfc3339_lines(memoryview(column)[1::-1]), b"2001-09-09T01:46:40Z\n1970-01-01T00:00:00Z\n")
     expect(movaliren.rfc3339_lines(array.array("q")), b"")
     expect(movaliren.rfc2822_lines(column[:1], offset=-3600), b"Wed, 31 Dec 1969 23:00:00 -0100\n")
     expect(movaliren.iso8601_lines(array.array("q", [-1]), "ms", 3600, decimals=3), b"1970-01-01T00:59:59.999+01:00\n")
@@ -105,8 +116,10 @@ def columns():
         made = movaliren.iso8601_lines(array.array("q", numbers), unit, decimals=decimals)
         expect(made.decode(), "".join(f"{line}\n" for line in wanted))
     expect(error_of(movaliren.rfc3339_lines, column, "m"), ("ValueError: the unit 'm' is none of 's', 'ms', 'us' and 'ns'",))
-    wrong = "TypeError: a column has integers of 64 bits in one dimension, and not the format 'd'"
-    expect(error_of(movaliren.rfc3339_lines, array.array("d", [0.0])), (wrong,))
+    swapped = (ctypes.c_int64.__ctype_be__ * 1)()
+    for format, other in ("d", array.array("d", [0.0])), ("Q", array.array("Q", [0])), (">q", swapped):
+        wrong = f"TypeError: a column has integers of 64 bits in one dimension, and not the format '{format}'"
+        expect(error_of(movaliren.rfc3339_lines, other), (wrong,))
     expect(error_of(movaliren.rfc3339_lines, column, end="\r\n"), ("ValueError: a line ends with one byte",))
     try:
         import numpy
