@@ -106,6 +106,7 @@ def columns():
     expect(error_of(movaliren.rfc3339_lines, column), (row, 2, lines))
     expect(movaliren.rfc3339_lines(memoryview(column)[::3], end="\0"), b"1970-01-01T00:00:00Z\0" b"1970-01-01T00:00:01Z\0")
     expect(movaliren.rfc3339_lines(memoryview(column)[1::-1]), b"2001-09-09T01:46:40Z\n1970-01-01T00:00:00Z\n")
+    expect(movaliren.rfc3339_lines((ctypes.c_int64 * 2)(0, 10**9)), lines)
     expect(movaliren.rfc3339_lines(array.array("q")), b"")
     expect(movaliren.rfc2822_lines(column[:1], offset=-3600), b"Wed, 31 Dec 1969 23:00:00 -0100\n")
     expect(movaliren.iso8601_lines(array.array("q", [-1]), "ms", 3600, decimals=3), b"1970-01-01T00:59:59.999+01:00\n")
