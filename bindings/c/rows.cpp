@@ -55,6 +55,11 @@ static void texts()
     expect("a stamp", movaliren::stamp(at(nanoseconds(1))).value(), "1970-01-01T00:00:00.000000001Z");
     const movaliren_iso8601_config date = { MOVALIREN_ISO8601_PARTS_DATE, MOVALIREN_ISO8601_BY_WEEK, 0, 0, 0, 1, 0, 0 };
     expect("a week date", movaliren::iso8601(at(hours(0)), date).value(), "1970-W01-4");
+    const movaliren_iso8601_config three = MOVALIREN_ISO8601_DECIMALS(3);
+    expect("decimals by a configuration", movaliren::iso8601(at(milliseconds(879350106120)), three).value(),
+        "1997-11-12T15:55:06.120Z");
+    expect("the same at an offset", movaliren::iso8601(at(milliseconds(879350106120)), hours(1), three).value(),
+        "1997-11-12T16:55:06.120+01:00");
     const movaliren_moment moment = { 1937, 1, 1, 12, 0, 27, 870000000, 0, 20, 0 };
     expect("a date at an offset", movaliren::iso8601(at(hours(0)), hours(-1), date).value(), "1970-W01-3");
     expect("a moment", movaliren::rfc3339(moment).value(), "1937-01-01T12:00:27.87+00:20");
@@ -248,6 +253,7 @@ static void readings()
     const auto none = movaliren::read_rfc3339("1996-12-19t16:39:57-08:00");
     expect_error("not read", none.error(), errc::not_read);
     expect("its place", none.message(), "byte 10: expected `T`");
+    expect("its index", std::to_string(none.read_error().at), "10");
     expect("nothing", movaliren::read_rfc3339_local({}).message(), "byte 0: expected a digit from 0 to 9");
     try {
         (void)none.value();

@@ -145,12 +145,14 @@ func TestTimesOfALog(t *testing.T) {
 	writer := NewTimeWriter(&out, 3)
 	writer.now = func() time.Time { return time.Unix(879350106, 120_000_000).In(mountain) }
 	log.New(writer, "", 0).Print("opened")
+	writer.decimals = 6
+	log.New(writer, "", 0).Print("opened")
 	writer.now = func() time.Time { return time.Date(10000, 1, 1, 0, 0, 0, 0, time.UTC) }
 	line := "closed\n"
 	if count, err := writer.Write([]byte(line)); count != len(line) || err != nil {
 		t.Error(count, err)
 	}
-	expect(t, out.String(), "1997-11-12T09:55:06.120-06:00 opened\n<the format cannot represent the year> closed\n")
+	expect(t, out.String(), "1997-11-12T09:55:06.120-06:00 opened\n1997-11-12T09:55:06.120000-06:00 opened\n<the format cannot represent the year> closed\n")
 }
 
 func TestGoroutinesShareADescription(t *testing.T) {

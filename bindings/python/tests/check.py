@@ -29,6 +29,14 @@ def error_of(call, *given, **named):
         return f"{type(error).__name__}: {error}", *more.values()
 
 
+def number_of(call, *given):
+    """The number of the error in movaliren.h."""
+    try:
+        return call(*given)
+    except movaliren.Error as error:
+        return error.number
+
+
 def at(offset):
     return datetime.timezone(datetime.timedelta(seconds=offset))
 
@@ -83,6 +91,10 @@ def refused():
     expect(error_of(movaliren.rfc3339_at, 253402300800), ("Error: the format cannot represent the year",))
     expect(error_of(movaliren.Description("[hour]").format_date, datetime.date(2026, 1, 1)),
            ("Error: the value lacks a component of the format",))
+    expect(number_of(movaliren.rfc3339_at, 253402300800), -12)
+    expect(number_of(movaliren.read_rfc3339, ""), -23)
+    expect(number_of(movaliren.Description, "["), -24)
+    expect(number_of(movaliren.rfc3339_lines, array.array("q", [253402300800])), -12)
     for nanosecond in (-1, 10**9, 2**32, -(2**32) + 1):
         expect(error_of(movaliren.rfc3339_at, 0, nanosecond), ("Error: the nanosecond is outside 0 to 999999999",))
     for number in (2**63, -(2**63) - 1, 2**64):
@@ -148,6 +160,7 @@ def logged():
     record = logging.makeLogRecord({"msg": "opened", "created": 851042397.5, "msecs": 500.0})
     chicago = zoneinfo.ZoneInfo("America/Chicago")
     expect(movaliren.Formatter("%(asctime)s %(message)s", zone=chicago).format(record), "1996-12-19T18:39:57.500-06:00 opened")
+    expect(movaliren.Formatter("%(asctime)s", zone=UTC, decimals=0).format(record), "1996-12-20T00:39:57Z")
     expect(movaliren.Formatter("%(asctime)s", "%T %:z", zone=UTC).format(record), "00:39:57 +00:00")
     expect(error_of(movaliren.Formatter, "%(asctime)s", "%Q"), ("DescriptionError: unknown conversion `%Q` at byte 1", 1))
     expect(error_of(movaliren.Formatter, decimals=10), ("ValueError: decimals are 0 to 9",))
