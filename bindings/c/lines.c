@@ -47,6 +47,18 @@ static void try_units(void)
     }
 }
 
+/* A column whose stride is below zero is read backwards. */
+static void try_backwards(void)
+{
+    static const int64_t two[] = { 0, 1000000000 };
+    static const char wanted[] = "2001-09-09T01:46:40Z\n1970-01-01T00:00:00Z\n";
+    const struct movaliren_lines lines = MOVALIREN_LINES(MOVALIREN_LINES_RFC3339);
+    const struct movaliren_column column = { two + 1, 2, -8, MOVALIREN_UNIT_SECOND };
+    char buffer[sizeof wanted];
+    const struct movaliren_progress progress = movaliren_lines_column(&lines, &column, 0, buffer, sizeof buffer);
+    expect_true(progress.bytes == sizeof wanted - 1 && !memcmp(buffer, wanted, progress.bytes), "a column backwards");
+}
+
 static ptrdiff_t line_text(const void *format, const void *value, uint8_t *buffer, size_t buffer_size)
 {
     const struct movaliren_utc_moment *moment = value;
@@ -145,6 +157,7 @@ static void try_sinks(void)
 int main(void)
 {
     try_units();
+    try_backwards();
     try_formats();
     try_sinks();
     printf("lines: %d wrong\n", failures);

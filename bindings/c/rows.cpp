@@ -55,6 +55,11 @@ static void texts()
     expect("a stamp", movaliren::stamp(at(nanoseconds(1))).value(), "1970-01-01T00:00:00.000000001Z");
     const movaliren_iso8601_config date = { MOVALIREN_ISO8601_PARTS_DATE, MOVALIREN_ISO8601_BY_WEEK, 0, 0, 0, 1, 0, 0 };
     expect("a week date", movaliren::iso8601(at(hours(0)), date).value(), "1970-W01-4");
+    const movaliren_iso8601_config three = MOVALIREN_ISO8601_DECIMALS(3);
+    expect("decimals by a configuration", movaliren::iso8601(at(milliseconds(879350106120)), three).value(),
+        "1997-11-12T15:55:06.120Z");
+    expect("the same at an offset", movaliren::iso8601(at(milliseconds(879350106120)), hours(1), three).value(),
+        "1997-11-12T16:55:06.120+01:00");
     const movaliren_moment moment = { 1937, 1, 1, 12, 0, 27, 870000000, 0, 20, 0 };
     expect("a date at an offset", movaliren::iso8601(at(hours(0)), hours(-1), date).value(), "1970-W01-3");
     expect("a moment", movaliren::rfc3339(moment).value(), "1937-01-01T12:00:27.87+00:20");
@@ -133,6 +138,9 @@ static void descriptions()
     expect("a digit behind a space", spaced.format(at(hours(9))), " 9");
     expect("a length in UTC", std::to_string(hour.length(at(hours(9)))), "1");
     expect("a length at an offset", std::to_string(hour.length(at(hours(9)), hours(1))), "2");
+    const auto decimals = movaliren::description().add(MOVALIREN_KIND_SUBSECOND);
+    expect("a length of decimals", std::to_string(decimals.length(at(milliseconds(120)))), "2");
+    expect("a length of decimals at an offset", std::to_string(decimals.length(at(milliseconds(120)), hours(1))), "2");
     try {
         movaliren::description().add(static_cast<movaliren_kind>(99)).format(moment);
         failed++;
@@ -191,6 +199,9 @@ static void other_values()
     std::string out = "on ";
     line.format_to(std::back_inserter(out), at(seconds(880127706)), hours(9));
     expect("to an iterator", out, "on 22 of November");
+    char buffer[32];
+    const char *const end = line.format_to(buffer, at(seconds(880127706)), hours(9));
+    expect("the place after it", { buffer, static_cast<std::size_t>(end - buffer) }, "22 of November");
 #if __cplusplus >= 202002L
     expect("a local time", movaliren::rfc3339(local_time<seconds>(seconds(851013597)), hours(-8)).value(),
         "1996-12-19T16:39:57-08:00");
@@ -211,6 +222,7 @@ static void lines()
     } catch (const movaliren::row_error &error) {
         expect_error("a wrong row", error.code(), errc::format_year);
         expect("its index", std::to_string(error.row()), "1");
+        expect("its words", std::string_view(error.what()).substr(0, 6), "row 1:");
     }
 }
 
@@ -237,9 +249,11 @@ static void readings()
     const auto decimals = "1970-01-01T00:00:01.5" + std::string(49, '0') + "Z";
     expect("50 decimals", std::to_string(movaliren::read_rfc3339(decimals, movaliren::profile::lenient).value().nanosecond),
         "500000000");
+    expect("50 decimals, locally", movaliren::read_rfc3339_local(decimals, movaliren::profile::lenient).message(), "");
     const auto none = movaliren::read_rfc3339("1996-12-19t16:39:57-08:00");
     expect_error("not read", none.error(), errc::not_read);
     expect("its place", none.message(), "byte 10: expected `T`");
+    expect("its index", std::to_string(none.read_error().at), "10");
     expect("nothing", movaliren::read_rfc3339_local({}).message(), "byte 0: expected a digit from 0 to 9");
     try {
         (void)none.value();

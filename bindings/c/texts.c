@@ -101,6 +101,7 @@ static const struct {
     { movaliren_description_parse, "[day][first [[optional [a[end]]]b] [[optional [c]][hour]]]d[ignore count:2]", "21abd", "21abd", "21abd" },
     /* texts whose length depends on the offset, and on the nanosecond */
     { movaliren_description_parse, "[hour padding:none]", "9", "15", 0 },
+    { movaliren_description_parse_strftime, "%-H", "9", "15", 0 },
     { movaliren_description_parse, "[second].[subsecond]", "06.12", "06.12", 0 },
     { movaliren_description_parse, "", "", "", "" },
 };

@@ -3,6 +3,7 @@ package movaliren
 import (
 	"bytes"
 	"errors"
+	"fmt"
 	"log"
 	"math/rand"
 	"strings"
@@ -33,7 +34,9 @@ func TestTexts(t *testing.T) {
 	expect(t, must(AppendRFC3339(nil, time.Unix(851042397, 0).In(time.FixedZone("", -8*3600)))), "1996-12-19T16:39:57-08:00")
 	expect(t, must(AppendRFC2822(nil, time.Unix(880127706, 0).In(mountain))), "Fri, 21 Nov 1997 09:55:06 -0600")
 	expect(t, must(AppendISO8601(nil, time.Unix(879350106, 120_000_000).UTC(), 3)), "1997-11-12T15:55:06.120Z")
-	expect(t, must(AppendISO8601(nil, time.Unix(0, 0).UTC(), 10)), "error: invalid configuration value")
+	for _, decimals := range []int{-1, 10} {
+		expect(t, must(AppendISO8601(nil, time.Unix(0, 0).UTC(), decimals)), "error: invalid configuration value")
+	}
 	expect(t, must(AppendRFC3339(nil, time.Date(10000, 1, 1, 0, 0, 0, 0, time.UTC))), "error: the format cannot represent the year")
 	kept, err := AppendRFC3339([]byte("kept"), time.Date(-1, 1, 1, 0, 0, 0, 0, time.UTC))
 	if string(kept) != "kept" || !errors.Is(err, ErrFormatYear) {
@@ -91,7 +94,7 @@ func TestReading(t *testing.T) {
 	} {
 		_, err := ReadRFC3339(text)
 		var wrong *ReadError
-		if !errors.As(err, &wrong) || !errors.Is(err, ErrNotRead) {
+		if !errors.As(err, &wrong) || !errors.Is(err, ErrNotRead) || !strings.HasPrefix(wanted, fmt.Sprintf("byte %d: ", wrong.At)) {
 			t.Error(err)
 		}
 		expect(t, err.Error(), wanted)
@@ -142,9 +145,14 @@ func TestTimesOfALog(t *testing.T) {
 	writer := NewTimeWriter(&out, 3)
 	writer.now = func() time.Time { return time.Unix(879350106, 120_000_000).In(mountain) }
 	log.New(writer, "", 0).Print("opened")
+	writer.decimals = 6
+	log.New(writer, "", 0).Print("opened")
 	writer.now = func() time.Time { return time.Date(10000, 1, 1, 0, 0, 0, 0, time.UTC) }
-	log.New(writer, "", 0).Print("closed")
-	expect(t, out.String(), "1997-11-12T09:55:06.120-06:00 opened\n<the format cannot represent the year> closed\n")
+	line := "closed\n"
+	if count, err := writer.Write([]byte(line)); count != len(line) || err != nil {
+		t.Error(count, err)
+	}
+	expect(t, out.String(), "1997-11-12T09:55:06.120-06:00 opened\n1997-11-12T09:55:06.120000-06:00 opened\n<the format cannot represent the year> closed\n")
 }
 
 func TestGoroutinesShareADescription(t *testing.T) {

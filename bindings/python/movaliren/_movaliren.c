@@ -257,7 +257,8 @@ static int take_column(PyObject *object, Py_buffer *view, struct movaliren_colum
     if (view->ndim == 1 && view->itemsize == 8 && (strcmp(format, "q") == 0 || strcmp(format, "l") == 0)) {
         column->numbers = view->buf;
         column->count = (size_t)view->shape[0];
-        column->stride = view->strides[0];
+        /* An array of ctypes has no strides. */
+        column->stride = view->strides ? view->strides[0] : view->itemsize;
         return 0;
     }
     PyErr_Format(PyExc_TypeError, "a column has integers of 64 bits in one dimension, and not the format '%s'", format);

@@ -2,6 +2,7 @@
 beside their rows, and what each call refuses. Ends with status 1 after a difference."""
 
 import array
+import ctypes
 import datetime
 import doctest
 import logging
@@ -28,13 +29,28 @@ def error_of(call, *given, **named):
         return f"{type(error).__name__}: {error}", *more.values()
 
 
+def number_of(call, *given):
+    """The number of the error in movaliren.h."""
+    try:
+        return call(*given)
+    except movaliren.Error as error:
+        return error.number
+
+
 def at(offset):
     return datetime.timezone(datetime.timedelta(seconds=offset))
+
+
+class Finer(datetime.datetime):
+    """Has nanoseconds beside its microseconds, as a Timestamp of pandas."""
+
+    nanosecond = 7
 
 
 def worked():
     """RFC 3339, section 5.8, and RFC 2822, appendix A.1.1."""
     expect(movaliren.rfc3339(datetime.datetime(1985, 4, 12, 23, 20, 50, 520_000, UTC)), "1985-04-12T23:20:50.52Z")
+    expect(movaliren.rfc3339(Finer(1985, 4, 12, 23, 20, 50, 520_000, UTC)), "1985-04-12T23:20:50.520000007Z")
     expect(movaliren.rfc3339(datetime.datetime(1996, 12, 19, 16, 39, 57, 0, at(-28800))), "1996-12-19T16:39:57-08:00")
     expect(movaliren.rfc3339(datetime.datetime(1937, 1, 1, 12, 0, 27, 870_000, at(1200))), "1937-01-01T12:00:27.87+00:20")
     expect(movaliren.rfc3339_at(-1041337173, 870_000_000, 1200), "1937-01-01T12:00:27.87+00:20")
@@ -70,10 +86,15 @@ def refused():
     expect(error_of(movaliren.Description.strftime, "%Q"), ("DescriptionError: unknown conversion `%Q` at byte 1", 1))
     expect(error_of(movaliren.read_rfc3339, "1985-04-12 23:20"), ("ReadError: byte 10: expected `T`", 10))
     expect(error_of(movaliren.read_rfc3339_at, ""), ("ReadError: byte 0: expected a digit from 0 to 9", 0))
-    expect(error_of(movaliren.rfc3339_at, 0, 0, 93600), ("Error: the hours of the offset are outside -25 to 25",))
+    for offset in 93600, 2**31, 2**32:
+        expect(error_of(movaliren.rfc3339_at, 0, 0, offset), ("Error: the hours of the offset are outside -25 to 25",))
     expect(error_of(movaliren.rfc3339_at, 253402300800), ("Error: the format cannot represent the year",))
     expect(error_of(movaliren.Description("[hour]").format_date, datetime.date(2026, 1, 1)),
            ("Error: the value lacks a component of the format",))
+    expect(number_of(movaliren.rfc3339_at, 253402300800), -12)
+    expect(number_of(movaliren.read_rfc3339, ""), -23)
+    expect(number_of(movaliren.Description, "["), -24)
+    expect(number_of(movaliren.rfc3339_lines, array.array("q", [253402300800])), -12)
     for nanosecond in (-1, 10**9, 2**32, -(2**32) + 1):
         expect(error_of(movaliren.rfc3339_at, 0, nanosecond), ("Error: the nanosecond is outside 0 to 999999999",))
     for number in (2**63, -(2**63) - 1, 2**64):
@@ -86,7 +107,8 @@ def refused():
            ("ValueError: the offset from UTC has a part of a second",))
     finer = "ValueError: a datetime has microseconds alone: read_rfc3339_at returns the nanosecond"
     expect(error_of(movaliren.read_rfc3339, "1985-04-12T23:20:50.1234567Z"), (finer,))
-    expect(error_of(movaliren.iso8601_at, 0, decimals=10), ("ValueError: decimals are 0 to 9",))
+    for decimals in -1, 10, 256:
+        expect(error_of(movaliren.iso8601_at, 0, decimals=decimals), ("ValueError: decimals are 0 to 9",))
 
 
 def columns():
@@ -95,6 +117,8 @@ def columns():
     lines = b"1970-01-01T00:00:00Z\n2001-09-09T01:46:40Z\n"
     expect(error_of(movaliren.rfc3339_lines, column), (row, 2, lines))
     expect(movaliren.rfc3339_lines(memoryview(column)[::3], end="\0"), b"1970-01-01T00:00:00Z\0" b"1970-01-01T00:00:01Z\0")
+    expect(movaliren.rfc3339_lines(memoryview(column)[1::-1]), b"2001-09-09T01:46:40Z\n1970-01-01T00:00:00Z\n")
+    expect(movaliren.rfc3339_lines((ctypes.c_int64 * 2)(0, 10**9)), lines)
     expect(movaliren.rfc3339_lines(array.array("q")), b"")
     expect(movaliren.rfc2822_lines(column[:1], offset=-3600), b"Wed, 31 Dec 1969 23:00:00 -0100\n")
     expect(movaliren.iso8601_lines(array.array("q", [-1]), "ms", 3600, decimals=3), b"1970-01-01T00:59:59.999+01:00\n")
@@ -105,8 +129,10 @@ def columns():
         made = movaliren.iso8601_lines(array.array("q", numbers), unit, decimals=decimals)
         expect(made.decode(), "".join(f"{line}\n" for line in wanted))
     expect(error_of(movaliren.rfc3339_lines, column, "m"), ("ValueError: the unit 'm' is none of 's', 'ms', 'us' and 'ns'",))
-    wrong = "TypeError: a column has integers of 64 bits in one dimension, and not the format 'd'"
-    expect(error_of(movaliren.rfc3339_lines, array.array("d", [0.0])), (wrong,))
+    swapped = (ctypes.c_int64.__ctype_be__ * 1)()
+    for format, other in ("d", array.array("d", [0.0])), ("Q", array.array("Q", [0])), (">q", swapped):
+        wrong = f"TypeError: a column has integers of 64 bits in one dimension, and not the format '{format}'"
+        expect(error_of(movaliren.rfc3339_lines, other), (wrong,))
     expect(error_of(movaliren.rfc3339_lines, column, end="\r\n"), ("ValueError: a line ends with one byte",))
     try:
         import numpy
@@ -134,6 +160,7 @@ def logged():
     record = logging.makeLogRecord({"msg": "opened", "created": 851042397.5, "msecs": 500.0})
     chicago = zoneinfo.ZoneInfo("America/Chicago")
     expect(movaliren.Formatter("%(asctime)s %(message)s", zone=chicago).format(record), "1996-12-19T18:39:57.500-06:00 opened")
+    expect(movaliren.Formatter("%(asctime)s", zone=UTC, decimals=0).format(record), "1996-12-20T00:39:57Z")
     expect(movaliren.Formatter("%(asctime)s", "%T %:z", zone=UTC).format(record), "00:39:57 +00:00")
     expect(error_of(movaliren.Formatter, "%(asctime)s", "%Q"), ("DescriptionError: unknown conversion `%Q` at byte 1", 1))
     expect(error_of(movaliren.Formatter, decimals=10), ("ValueError: decimals are 0 to 9",))

@@ -9,6 +9,8 @@ use std::sync::atomic::{AtomicI64, Ordering};
 use std::sync::Mutex;
 use tracing_subscriber::fmt::time::FormatTime;
 
+const LINE: Iso8601By = Iso8601By::new().time_precision(TimePrecision::Second, 3);
+
 static SECONDS: AtomicI64 = AtomicI64::new(0);
 static NANOSECONDS: AtomicI64 = AtomicI64::new(0);
 
@@ -78,14 +80,16 @@ fn a_timer_asks_for_the_offset_of_each_moment() {
         (1_700_000_000, "2023-11-14T22:33:20.000+00:20"),
         (1_700_000_001, "2023-11-14T22:34:21.000+00:21"),
     ] {
+        let line = format!("{wanted}  INFO random_moments: opened\n");
         let logged = logged_at(second, LogTimer::milliseconds(second_as_minutes));
-        assert_eq!(logged, format!("{wanted}  INFO random_moments: opened\n"));
+        assert_eq!(logged, line);
+        let logged = logged_at(second, LocalTimer::new(LINE, second_as_minutes));
+        assert_eq!(logged, line);
     }
 }
 
 #[test]
 fn a_timer_logs_what_chrono_writes() {
-    const LINE: Iso8601By = Iso8601By::new().time_precision(TimePrecision::Second, 3);
     let _setter = SETTER.lock();
     let (logged, wanted) = logged_and_wanted(LocalTimer::new(LINE, offset));
     assert_eq!(logged, wanted);

@@ -436,10 +436,8 @@ fn a_text_in_place_has_at_most_64_bytes() {
     let mut line = Description::new().literal(&"\u{2236}".repeat(21));
     assert_text(&line, &EXAMPLE, &"\u{2236}".repeat(21));
     line = line.literal(".");
-    assert_eq!(
-        line.text(&EXAMPLE).map(|text| text.len()),
-        Ok(Text::CAPACITY)
-    );
+    let whole = line.text(&EXAMPLE).map(String::from);
+    assert_eq!(whole.map(|text| text.len()), Ok(Text::CAPACITY));
     line = line.literal(".");
     assert_eq!(line.text(&EXAMPLE), Err(Error::BufferTooSmall));
 }

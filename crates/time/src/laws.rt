@@ -1,8 +1,9 @@
-//! Laws of what `{}` prints of a value: it is the text of a description. The contract of each function is
-//! the law, and its body is empty.
-ghost use Rattle.std.specs.Prelude.{IsSomeAnd};
+//! Laws of what `{}` prints of a value, which is the text of a description, and of errors. The contract of each
+//! function is the law, and its body is empty.
+ghost use Rattle.std.specs.Prelude.{◌≡◌, IsSomeAnd};
 ghost use Rattle.time.specs.DisplayText.{date_items, time_items, offset_items, date_time_items, utc_items, local_items, Spell};
 
+use crate::parse_value::NotReadByPlan;
 use std::fmt::Display;
 use time_below::{Date, OffsetDateTime, PlainDateTime, Time, Timestamp, UtcDateTime, UtcOffset};
 use time_provide::ComponentProvider;
@@ -54,4 +55,9 @@ pub fn offset_date_time_is_shown_by_its_description(value: OffsetDateTime)
 pub fn timestamp_is_shown_by_its_description(value: Timestamp)
     ensures { IsSomeAnd (⟦<Timestamp as Display>⟧.output value)
         (Spell utc_items (⟦<Timestamp as ComponentProvider>⟧.facts value)) }
+{}
+
+/// A clone of an error of reading by a plan is the same.
+pub fn clones_of_errors(error: NotReadByPlan, copy: NotReadByPlan)
+    ensures { ⟦<NotReadByPlan as Clone>⟧.is_clone error copy → copy ≡ error }
 {}

@@ -13,6 +13,7 @@ mod digits;
 mod fault;
 mod fields;
 mod kinds;
+pub mod laws;
 mod moments;
 mod names;
 mod reader;

@@ -26,6 +26,12 @@ const MOMENTS: &[(&str, &str, i64)] = &[
         1_525_462_323,
     ),
     ("%s %z", "1700000000 +0100", 1_700_000_000),
+    ("%s.%3N %z", "1700000000.500 +0100", 1_700_000_000),
+    (
+        "%-d%T in %m/%Y %z",
+        "513:30:00 in 11/2026 +0000",
+        1_793_885_400,
+    ),
     (
         "%j of %Y, %T %z",
         "366 of 2000, 23:59:59 +0000",
@@ -49,7 +55,7 @@ fn moments_are_read(rt: HostRuntime) -> Result<(), Fail> {
     Ok(())
 }
 
-/// A description, a text, and the year and the day of the year by Python.
+/// A description, a text, and the year and the day of the year by Python: before the year 1 those of 400 years later.
 const DATES: &[(&str, &str, i32, u16)] = &[
     ("%G-W%V-%u", "2004-W53-6", 2005, 1),
     ("%Y week %U %A", "2026 week 47 Saturday", 2026, 332),
@@ -57,6 +63,8 @@ const DATES: &[(&str, &str, i32, u16)] = &[
     ("%e %B %Y", " 5 May 2026", 2026, 125),
     ("%C%y%m%d", "19700101", 1970, 1),
     ("%Y-%m-%d", "+123456-12-31", 123_456, 366),
+    ("%Y-%m-%d", "-0044-03-15", -44, 75),
+    ("%Y week %U day %w", "2026 week 47 day 6", 2026, 332),
 ];
 
 #[test]
@@ -174,8 +182,13 @@ fn plans_that_are_not_read_are_refused(rt: HostRuntime) -> Result<(), Fail> {
     let half = Plan::parse_strftime(alloc, b"%I:%M")?;
     let hour = Plan::parse_strftime(alloc, b"%Y-%m-%d %H")?;
     let tight = Plan::parse_strftime(alloc, b"%-d%-m%Y")?;
+    let gap = Plan::parse_strftime(alloc, b"%H::%S")?;
     assert!(rt;
         half.reader::<Time>()
+            .is_err_and(|why| why == NoReader::Undetermined)
+    );
+    assert!(rt;
+        gap.reader::<Time>()
             .is_err_and(|why| why == NoReader::Undetermined)
     );
     assert!(rt;
@@ -190,7 +203,7 @@ fn plans_that_are_not_read_are_refused(rt: HostRuntime) -> Result<(), Fail> {
     Ok(())
 }
 
-/// Noon of 28 November 2026 and 15 seconds, two hours before UTC.
+/// Noon of 28 November 2026 and 15 seconds, two hours and a half before UTC.
 fn base(rt: &impl Abort) -> OffsetDateTime {
     let Ok(date) = Date::from_ordinal_date(2026, 332) else {
         panic!(rt; "no date")
@@ -198,7 +211,7 @@ fn base(rt: &impl Abort) -> OffsetDateTime {
     let Ok(time) = Time::from_hms_nano(12, 0, 15, 7) else {
         panic!(rt; "no time")
     };
-    let Ok(offset) = UtcOffset::from_hms(2, 0, 0) else {
+    let Ok(offset) = UtcOffset::from_hms(2, 30, 0) else {
         panic!(rt; "no offset")
     };
     OffsetDateTime::new_in_offset(date, time, offset)
@@ -209,18 +222,20 @@ const COMPLETED: &[(&str, &str, &str)] = &[
     (
         "%b %e %H:%M:%S",
         "Nov  7 13:55:36",
-        "2026-11-07T13:55:36+02:00",
+        "2026-11-07T13:55:36+02:30",
     ),
-    ("%d/%m/%y %H", "01/02/70 09", "2070-02-01T09:00:00+02:00"),
-    ("%s", "0", "1970-01-01T02:00:00+02:00"),
-    ("%M:%S", "30:00", "2026-11-28T12:30:00+02:00"),
+    ("%d/%m/%y %H", "01/02/70 09", "2070-02-01T09:00:00+02:30"),
+    ("%s", "0", "1970-01-01T02:30:00+02:30"),
+    ("%M:%S", "30:00", "2026-11-28T12:30:00+02:30"),
     (
         "%Y-%m-%d",
         "2024-02-29",
-        "2024-02-29T12:00:15.000000007+02:00",
+        "2024-02-29T12:00:15.000000007+02:30",
     ),
-    ("%V-%u", "01-1", "2025-12-29T12:00:15.000000007+02:00"),
+    ("%V-%u", "01-1", "2025-12-29T12:00:15.000000007+02:30"),
     ("%I %p %z", "01 PM -0100", "2026-11-28T13:00:00-01:00"),
+    ("%j", "060", "2026-03-01T12:00:15.000000007+02:30"),
+    ("%C", "19", "1926-11-28T12:00:15.000000007+02:30"),
 ];
 
 #[test]
@@ -234,6 +249,131 @@ fn a_base_completes_what_no_text_shows(rt: HostRuntime) -> Result<(), Fail> {
                 Err(fault) => panic!(rt; "{text}: {fault}"),
             },
             Err(refused) => panic!(rt; "{conversions}: {refused}"),
+        }
+    }
+    Ok(())
+}
+
+#[test]
+fn minutes_of_an_offset_are_zero_where_its_hour_is_shown(rt: HostRuntime) -> Result<(), Fail> {
+    let alloc = rt.alloc();
+    let plan = Plan::parse(alloc, b"[offset_hour]")?;
+    match plan.reader_from(&base(&rt)) {
+        Ok(reader) => assert!(rt;
+            reader
+                .read(b"05")
+                .is_ok_and(|moment| moment.offset().whole_seconds() == 18_000)
+        ),
+        Err(refused) => panic!(rt; "{refused}"),
+    }
+    Ok(())
+}
+
+#[test]
+fn a_moment_keeps_the_nanosecond_of_its_base(rt: HostRuntime) -> Result<(), Fail> {
+    let alloc = rt.alloc();
+    let plan = Plan::parse_strftime(alloc, b"%F")?;
+    let Ok(moment) = Timestamp::new(1_700_000_000, 7) else {
+        panic!(rt; "no moment")
+    };
+    match plan.reader_from(&moment) {
+        Ok(reader) => assert!(rt;
+            reader
+                .read(b"2023-11-14")
+                .is_ok_and(|read| read.as_parts() == (1_700_000_000, 7))
+        ),
+        Err(refused) => panic!(rt; "{refused}"),
+    }
+    Ok(())
+}
+
+const MONTHS: [&str; 12] = [
+    "January",
+    "February",
+    "March",
+    "April",
+    "May",
+    "June",
+    "July",
+    "August",
+    "September",
+    "October",
+    "November",
+    "December",
+];
+
+#[test]
+fn each_name_of_a_month_is_read(rt: HostRuntime) -> Result<(), Fail> {
+    let alloc = rt.alloc();
+    let long = Plan::parse_strftime(alloc, b"%B %Y, %-d")?;
+    let short = Plan::parse_strftime(alloc, b"%b %Y, %-d")?;
+    if let (Ok(long), Ok(short)) = (long.reader::<Date>(), short.reader::<Date>()) {
+        for (name, number) in MONTHS.iter().zip(1u8..13) {
+            let text = format!(in alloc; "{name} 2026, 1")?;
+            let cut = format!(in alloc; "{name:.3} 2026, 1")?;
+            assert!(rt;
+                long.read(text.as_bytes())
+                    .is_ok_and(|it| u8::from(it.month()) == number)
+            );
+            assert!(rt;
+                short
+                    .read(cut.as_bytes())
+                    .is_ok_and(|it| u8::from(it.month()) == number)
+            );
+        }
+    } else {
+        panic!(rt; "no reader")
+    }
+    Ok(())
+}
+
+/// Each component as a description that is one spells it.
+const COMPONENTS: [&str; 29] = [
+    "[day]",
+    "[month repr:short]",
+    "[month repr:long]",
+    "[month]",
+    "[ordinal]",
+    "[weekday repr:short]",
+    "[weekday]",
+    "[weekday repr:sunday]",
+    "[weekday repr:monday]",
+    "[week_number]",
+    "[week_number repr:sunday]",
+    "[week_number repr:monday]",
+    "[hour repr:12]",
+    "[hour]",
+    "[minute]",
+    "[period]",
+    "[second]",
+    "[subsecond]",
+    "[offset_hour]",
+    "[offset_minute]",
+    "[offset_second]",
+    "[unix_timestamp]",
+    "[unix_timestamp precision:millisecond]",
+    "[year]",
+    "[year repr:century]",
+    "[year repr:last_two]",
+    "[year base:iso_week]",
+    "[year base:iso_week repr:century]",
+    "[year base:iso_week repr:last_two]",
+];
+
+#[test]
+fn a_fault_names_each_component_as_a_description_does(rt: HostRuntime) -> Result<(), Fail> {
+    let alloc = rt.alloc();
+    for name in COMPONENTS {
+        let plan = Plan::parse(alloc, name.as_bytes())?;
+        match plan.reader_from(&base(&rt)) {
+            Ok(reader) => match reader.read(b"") {
+                Ok(_) => panic!(rt; "no text is read by {name}"),
+                Err(fault) => {
+                    let wanted = format!(in alloc; "byte 0: expected {name}")?;
+                    assert_text(&rt, format!(in alloc; "{fault}")?, wanted.as_str());
+                }
+            },
+            Err(refused) => panic!(rt; "{name}: {refused}"),
         }
     }
     Ok(())
