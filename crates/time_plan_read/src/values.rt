@@ -46,7 +46,7 @@ impl Readable for Date {
         kinds.have_date()
     }
 
-    #[inline]
+    #[inline(always)]
     fn of_fields(fields: &Fields, kinds: Kinds) -> Option<Date> {
         date_of(fields, kinds)
     }
@@ -67,7 +67,7 @@ impl Readable for Time {
         kinds.have_time()
     }
 
-    #[inline]
+    #[inline(always)]
     fn of_fields(fields: &Fields, kinds: Kinds) -> Option<Time> {
         time_of(fields, kinds)
     }
@@ -88,7 +88,7 @@ impl Readable for UtcOffset {
         kinds.have_offset()
     }
 
-    #[inline]
+    #[inline(always)]
     fn of_fields(fields: &Fields, _kinds: Kinds) -> Option<UtcOffset> {
         offset_of(fields)
     }
@@ -109,7 +109,7 @@ impl Readable for PlainDateTime {
         kinds.have_date() && kinds.have_time()
     }
 
-    #[inline]
+    #[inline(always)]
     fn of_fields(fields: &Fields, kinds: Kinds) -> Option<PlainDateTime> {
         Some(PlainDateTime::new(date_of(fields, kinds)?, time_of(fields, kinds)?))
     }
@@ -128,7 +128,7 @@ impl Readable for UtcDateTime {
         (kinds.have_date() && kinds.have_time()) || kinds.have_moment()
     }
 
-    #[inline]
+    #[inline(always)]
     fn of_fields(fields: &Fields, kinds: Kinds) -> Option<UtcDateTime> {
         if kinds.have_moment() {
             let moment = moment_of(fields, kinds)?;
@@ -151,7 +151,7 @@ impl Readable for Timestamp {
         (kinds.have_date() && kinds.have_time()) || kinds.have_moment()
     }
 
-    #[inline]
+    #[inline(always)]
     fn of_fields(fields: &Fields, kinds: Kinds) -> Option<Timestamp> {
         if kinds.have_moment() {
             return moment_of(fields, kinds);
@@ -175,7 +175,7 @@ impl Readable for OffsetDateTime {
         kinds.have_offset() && ((kinds.have_date() && kinds.have_time()) || kinds.have_moment())
     }
 
-    #[inline]
+    #[inline(always)]
     fn of_fields(fields: &Fields, kinds: Kinds) -> Option<OffsetDateTime> {
         let offset = offset_of(fields)?;
         if kinds.have_moment() {
