@@ -2,9 +2,9 @@
 ghost use Rattle.std.specs.Prelude.{◌<◌, IfSome};
 
 use crate::behind::{digits_left, fixed_decimals};
-use crate::digits::{digits, four, is_sign, padded, sign, some_digits, two};
+use crate::digits::{digits, four, padded, sign, some_digits, two};
 use crate::fields::Fields;
-use crate::names::{behind, half_day, month_long, month_short, weekday_long, weekday_short};
+use crate::names::{half_day, month_long, month_short, weekday_long, weekday_short};
 use crate::years::{century, signed_year};
 use time_below::format_description::modifier::{Padding, SubsecondDigits};
 use time_below::format_description::{Component, modifier};
@@ -122,15 +122,28 @@ fn offset_hour(
     others: &[Step],
     fields: &mut Fields,
 ) -> Option<usize> {
+    match (padding, text) {
+        (Padding::Zero, [b'+' | b'-', tens, units, ..]) => {
+            fields.offset_is_negative = text[0] == b'-';
+            fields.offset_hour = two(*tens, *units);
+            Some(3)
+        }
+        _ => padded_offset_hour(text, padding, digits_left(step, others), fields),
+    }
+}
+
+/// Reads the hour of an offset, of which the sign and the first digit may be none.
+#[inline(never)]
+fn padded_offset_hour(
+    text: &[u8],
+    padding: Padding,
+    behind: usize,
+    fields: &mut Fields,
+) -> Option<usize> {
     let (is_negative, width) = sign(text);
+    let (hour, count) = padded(text.get(width..)?, padding, 2, 2, behind)?;
     fields.offset_is_negative = is_negative.unwrap_or(false);
-    let count = pair(
-        behind(text, width)?,
-        padding,
-        step,
-        others,
-        &mut fields.offset_hour,
-    )?;
+    fields.offset_hour = (hour % 100) as u8;
     Some(count.saturating_add(width))
 }
 
@@ -144,7 +157,7 @@ fn extended_year(
     year: &mut i32,
 ) -> Option<usize> {
     match (choices.padding, text) {
-        (Padding::Zero, [a, b, c, d, ..]) if !is_sign(*a) => {
+        (Padding::Zero, [a, b, c, d, ..]) if a.is_ascii_digit() => {
             *year = four(*a, *b, *c, *d);
             Some(4)
         }

@@ -95,12 +95,6 @@ pub(crate) fn padded(
     some_digits(text, least, most, behind)
 }
 
-/// Whether a byte is a sign.
-#[inline(always)]
-pub(crate) fn is_sign(byte: u8) -> bool {
-    byte == b'+' || byte == b'-'
-}
-
 /// A sign, if there is one: whether it is a minus, and how many bytes it has.
 #[inline(always)]
 pub(crate) fn sign(text: &[u8]) -> (Option<bool>, usize) {

@@ -1,5 +1,5 @@
 //! Dates and times of day that are one step.
-use crate::digits::{digits, four, is_sign, two};
+use crate::digits::{digits, four, two};
 use crate::fault::{Reason, Stop};
 use crate::fields::Fields;
 use crate::kinds::{Kinds, kind_of};
@@ -35,7 +35,7 @@ pub(crate) fn read_date(text: &[u8], fields: &mut Fields) -> Option<usize> {
     let [a, b, c, d, _, e, f, _, g, h, ..] = text else {
         return None;
     };
-    if is_sign(*a) {
+    if !a.is_ascii_digit() {
         return read_long_date(text, fields);
     }
     fields.year = four(*a, *b, *c, *d);
