@@ -76,7 +76,8 @@ fn front_of(component: Component) -> Front {
     }
 }
 
-/// Whether the digits of a component that is not deprecated are there, where it takes as many bytes in any case.
+/// Whether the digits of a component that is not deprecated are there, where it takes as many bytes
+/// in any case.
 #[cold]
 pub(crate) fn has_digits(component: Component, text: &[u8]) -> bool {
     let (_, width) = sign(text);
@@ -217,7 +218,8 @@ fn digits_of(steps: &[Step]) -> Option<usize> {
     Some(sum)
 }
 
-/// Whether a step ends by digits whose number depends on the value, and it is not told where they end.
+/// Whether a step ends by digits whose number depends on the value, and it is not told where they
+/// end.
 pub(crate) fn is_ambiguous(step: &Step, others: &[Step]) -> bool {
     match &step.shown {
         Shown::Component(component) => {

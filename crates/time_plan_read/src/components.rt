@@ -10,7 +10,8 @@ use time_below::format_description::modifier::{Padding, SubsecondDigits};
 use time_below::format_description::{Component, modifier};
 use time_plan::Step;
 
-/// Reads a number in two places, and returns how many bytes it has, as each reader of a component does.
+/// Reads a number in two places, and returns how many bytes it has, as each reader of a component
+/// does.
 ///
 /// Whether two bytes are digits is seen when the text of the value is compared.
 #[inline(always)]

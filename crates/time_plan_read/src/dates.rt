@@ -79,8 +79,8 @@ fn iso_date(year: i32, week: u8, weekday: u8) -> Option<Date> {
     day_near(year, monday.wrapping_add(day))
 }
 
-/// The date of a year, a week that begins on its first Monday (or Sunday, with the weekday counted from
-/// there) and a weekday.
+/// The date of a year, a week that begins on its first Monday (or Sunday, with the weekday counted
+/// from there) and a weekday.
 fn week_date(year: i32, week: u8, weekday: u8, days_before: i32) -> Option<Date> {
     let first = first_weekday(year)?.wrapping_add(days_before) % 7;
     let begin = 7i32.wrapping_sub(first) % 7;

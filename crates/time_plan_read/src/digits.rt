@@ -38,7 +38,8 @@ fn digits_at_front(text: &[u8]) -> usize {
     count
 }
 
-/// The number of from so many digits to so many, and how many there are: all but those that belong to what follows.
+/// The number of from so many digits to so many, and how many there are: all but those that belong
+/// to what follows.
 #[inline(never)]
 pub(crate) fn some_digits(
     text: &[u8],
@@ -65,8 +66,8 @@ fn spaces(text: &[u8], places: usize) -> usize {
     count
 }
 
-/// A number in so many places, of at most so many digits, and how many bytes it has. So many digits belong to what
-/// follows.
+/// A number in so many places, of at most so many digits, and how many bytes it has. So many digits
+/// belong to what follows.
 #[inline(never)]
 pub(crate) fn padded(
     text: &[u8],

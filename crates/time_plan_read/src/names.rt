@@ -55,7 +55,8 @@ pub(crate) fn after_literal<'a>(text: &'a [u8], literal: &Literal) -> Option<&'a
     }
 }
 
-/// Reads the number of a month by the first three letters of its name, and returns how many there are.
+/// Reads the number of a month by the first three letters of its name, and returns how many there
+/// are.
 #[inline(always)]
 pub(crate) fn month_short(text: &[u8], month: &mut u8) -> Option<usize> {
     let [first, second, third, ..] = text else {
@@ -104,7 +105,8 @@ fn behind_ending(text: &[u8], count: usize, ending: &[u8]) -> Option<usize> {
     Some(count.saturating_add(ending.len()))
 }
 
-/// Reads the days from Monday by the first three letters of a weekday's name, and returns how many there are.
+/// Reads the days from Monday by the first three letters of a weekday's name, and returns how many
+/// there are.
 #[inline(always)]
 pub(crate) fn weekday_short(text: &[u8], weekday: &mut u8) -> Option<usize> {
     let [first, second, third, ..] = text else {

@@ -21,8 +21,9 @@ use time_plan::{Plan, Run, Shown, Step};
 
 /// Reads the texts of a plan as values of a type.
 ///
-/// What is read is written by the plan as the very text. So a text is refused that no value has by the plan, as one with
-/// another weekday than that of its date, or with zeros or spaces that the plan does not write.
+/// What is read is written by the plan as the very text. So a text is refused that no value has by
+/// the plan, as one with another weekday than that of its date, or with zeros or spaces that the
+/// plan does not write.
 #[derive(Drop)]
 pub struct Reader<'a, V> {
     /// The plan.
@@ -36,14 +37,15 @@ pub struct Reader<'a, V> {
 pub trait ReadPlan {
     /// The reader of texts of the plan as values of a type. What no text shows is zero.
     ///
-    /// Refused are plans whose texts do not determine a value, or show what no value of the type has, and numbers of no
-    /// certain width before digits whose number is not certain either.
+    /// Refused are plans whose texts do not determine a value, or show what no value of the type
+    /// has, and numbers of no certain width before digits whose number is not certain either.
     fn reader<V: Readable>(&self) -> Result<Reader<'_, V>, NoReader>;
 
-    /// The reader of texts of the plan as values of a type. What no text shows is taken from a base value.
+    /// The reader of texts of the plan as values of a type. What no text shows is taken from a base
+    /// value.
     ///
-    /// Where the texts show a part of the time of day, or of the offset, what is finer is zero. A part of a date is
-    /// completed by the base's year, century, month, day or weekday.
+    /// Where the texts show a part of the time of day, or of the offset, what is finer is zero. A
+    /// part of a date is completed by the base's year, century, month, day or weekday.
     fn reader_from<V: Readable>(&self, base: &V) -> Result<Reader<'_, V>, NoReader>;
 }
 
@@ -141,7 +143,8 @@ impl<V: Readable> Reader<'_, V> {
         }
     }
 
-    /// The value that the plan writes as the front of this text, and the rest of the text, or the first fault.
+    /// The value that the plan writes as the front of this text, and the rest of the text, or the
+    /// first fault.
     ///
     /// A number takes all digits that stand there and that it can have.
     pub fn read_front<'t>(&self, text: &'t [u8]) -> Result<(V, &'t [u8]), NotRead>

@@ -17,7 +17,8 @@ const DATE: usize = 10;
 
 /// Reads an hour, a minute and a second, and returns how many bytes they have.
 ///
-/// Whether these are digits, and those between them the right ones, is seen when the text of the value is compared.
+/// Whether these are digits, and those between them the right ones, is seen when the text of the
+/// value is compared.
 #[inline(always)]
 pub(crate) fn read_time(text: &[u8], fields: &mut Fields) -> Option<usize> {
     let [a, b, _, c, d, _, e, f, ..] = text else {
@@ -29,7 +30,8 @@ pub(crate) fn read_time(text: &[u8], fields: &mut Fields) -> Option<usize> {
     Some(TIME)
 }
 
-/// Reads a year, a month and a day, and returns how many bytes they have. They are compared later, as a time of day.
+/// Reads a year, a month and a day, and returns how many bytes they have. They are compared later,
+/// as a time of day.
 #[inline(always)]
 pub(crate) fn read_date(text: &[u8], fields: &mut Fields) -> Option<usize> {
     let [a, b, c, d, _, e, f, _, g, h, ..] = text else {

@@ -11,8 +11,8 @@ use time_plan::{Literal, Run, Shown, Step};
 
 /// Reads the steps in order into the fields, and returns what follows them.
 ///
-/// No step tells what is wrong with a text, and numbers of so many digits take any bytes: `checked_steps` tells what is
-/// wrong, once the text of the value was another one.
+/// No step tells what is wrong with a text, and numbers of so many digits take any bytes:
+/// `checked_steps` tells what is wrong, once the text of the value was another one.
 #[inline(always)]
 pub(crate) fn read_steps<'a>(
     steps: &[Step],
@@ -94,7 +94,8 @@ pub(crate) fn checked_step<'a>(
     }
 }
 
-/// Where a text has other bytes in the place of digits, and of bytes between them, that are read in any case.
+/// Where a text has other bytes in the place of digits, and of bytes between them, that are read in
+/// any case.
 fn stop_of_digits(shown: &Shown, text: &[u8]) -> Option<Stop> {
     match shown {
         Shown::Component(component) if has_digits(component.current(), text) => None,

@@ -8,8 +8,8 @@ use std::default::Default;
 use time_below::{Date, OffsetDateTime, PlainDateTime, Time, Timestamp, UtcDateTime, UtcOffset};
 use time_fmt::ComponentProvider;
 
-/// A type whose values are read. What its methods answer is no part of what `Reader` promises: it writes the value
-/// that it is given, and compares.
+/// A type whose values are read. What its methods answer is no part of what `Reader` promises: it
+/// writes the value that it is given, and compares.
 pub trait Readable: ComponentProvider + Sized {
     /// Whether texts that show these components determine a value.
     fn is_determined(kinds: Kinds) -> bool;
@@ -32,7 +32,8 @@ fn fields_of(date: Date, time: Time) -> Fields {
     fields
 }
 
-/// With the components of a base value that complete a date and a time of day, unless texts show the moment.
+/// With the components of a base value that complete a date and a time of day, unless texts show
+/// the moment.
 fn with_moment(shown: Kinds) -> Kinds {
     if shown.have_moment() {
         shown

@@ -2,7 +2,8 @@
 use crate::digits::{padded, sign};
 use time_below::format_description::modifier::Padding;
 
-/// Reads a year, of at most so many digits behind a sign and of four without one, and returns how many bytes it has.
+/// Reads a year, of at most so many digits behind a sign and of four without one, and returns how
+/// many bytes it has.
 #[inline(never)]
 pub(crate) fn signed_year(
     text: &[u8],
@@ -23,8 +24,8 @@ pub(crate) fn signed_year(
     Some(count.saturating_add(width))
 }
 
-/// Reads a century, of at most so many digits behind a sign and of two without one, and whether it is negative, and
-/// returns how many bytes they have.
+/// Reads a century, of at most so many digits behind a sign and of two without one, and whether it
+/// is negative, and returns how many bytes they have.
 #[inline(never)]
 pub(crate) fn century(
     text: &[u8],
