@@ -3,9 +3,10 @@
 
     bench/read.py [FOLDER]
 
-Works on a copy of the repository as run.py does, to which `read/main.rt.in` is added as a program. It reads by
-`time_read` and by the kit's `jiff_fmt`. Beside them stand `time` and `chrono` by tools/compare_readers, where cargo and
-Debian's crates are installed. Instructions are counted by callgrind as the difference of two runs.
+Works on a copy of the repository as run.py does, to which the files `read/*.rt.in` are added as a program. It reads by
+`time_read` and `time_plan_read`, and by the kit's `jiff_fmt` and `jiff_strtime`. Beside them stand `time` and `chrono` by
+tools/compare_readers and `read/described.rs`, where cargo and Debian's crates are installed, and `strptime` by
+`read/strptime.c`, where gcc is. Instructions are counted by callgrind as the difference of two runs.
 """
 
 import pathlib
@@ -20,7 +21,7 @@ TOP = pathlib.Path(__file__).resolve().parent.parent
 sys.path.insert(0, str(TOP / "tools"))
 import compare_readers
 
-LIBRARIES = "time_below time_digits time_provide time_fmt time_known time_read jiff_fmt"
+LIBRARIES = "time_below time_digits time_provide time_fmt time_known time_plan time_plan_read time_read jiff_fmt jiff_strtime"
 TEXTS = [
     "2026-11-22T09:55:06Z",
     "2026-11-22T09:55:06.12-06:00",
@@ -42,6 +43,12 @@ STAMPS = [
     "2026-11-22T09:55:06.123456789Z",
     "2026-11-22T09:55:06.12Z",
 ]
+# Texts by a description of `strftime`: the letters by which the program knows its reader and the kit's, and the name by
+# which `read/described.rs` knows it.
+DESCRIBED = {
+    "2026-11-28 13:30:06": ("%Y-%m-%d %H:%M:%S", "p", "P", "plain"),
+    "10/Oct/2000:13:55:36 -0700": ("%d/%b/%Y:%H:%M:%S %z", "n", "N", "log"),
+}
 
 
 def ours(program, way, text):
@@ -55,15 +62,53 @@ def theirs(program, way, text):
 def program(folder):
     """The program over a copy of the repository in the folder."""
     run.copied(folder)
-    kept = TOP / "crates/time_read/out/rlib"
-    if kept.exists() and not (folder / "crates/time_read/out").exists():
-        shutil.copytree(kept, folder / "crates/time_read/out/rlib")
+    for crate in ["time_read", "time_plan_read"]:
+        kept, place = TOP / "crates" / crate / "out/rlib", folder / "crates" / crate / "out/rlib"
+        if kept.exists() and not place.parent.exists():
+            shutil.copytree(kept, place)
     sources = folder / "crates/time_read_bench/src"
     sources.mkdir(parents=True, exist_ok=True)
-    shutil.copy(TOP / "bench/read/main.rt.in", sources / "main.rt")
+    for part in (TOP / "bench/read").glob("*.rt.in"):
+        shutil.copy(part, sources / part.name.removesuffix(".in"))
     with open(folder / "crates.txt", "a", encoding="utf-8") as crates:
         crates.write(f"time_read_bench: {LIBRARIES}\n")
     return run.built(folder, "time_read_bench")
+
+
+def by_cargo(folder):
+    """The program of `time` and `chrono` by a description, or None where it cannot be built."""
+    place = folder / "described"
+    (place / "src").mkdir(parents=True, exist_ok=True)
+    (place / "Cargo.toml").write_text(compare_readers.MANIFEST)
+    shutil.copy(TOP / "bench/read/described.rs", place / "src/main.rs")
+    words = ["cargo", "build", "--release", "--offline", "--quiet", "--config", TOP / "bindings/rust-time/debian.toml"]
+    return None if subprocess.run(words, cwd=place).returncode else place / "target/release/readers"
+
+
+def strptime(folder):
+    """The program of `strptime`, or None where gcc is not installed."""
+    program = folder / "strptime"
+    if shutil.which("gcc") is None:
+        print("SKIPPED: strptime, which needs gcc", file=sys.stderr)
+        return None
+    subprocess.run(["gcc", "-O2", "-o", program, TOP / "bench/read/strptime.c"], check=True)
+    return program
+
+
+def described(folder, own, others):
+    """The ways to the texts of DESCRIBED."""
+    ways = [("`Reader::read`", lambda text: ours(own, DESCRIBED[text][1], text)),
+            ("kit's `jiff_strtime`", lambda text: ours(own, DESCRIBED[text][2], text))]
+    c = strptime(folder)
+    if c:
+        ways.append(("`strptime`", lambda text: run.Way(
+            lambda turns: [c, DESCRIBED[text][0], text, str(turns)], lambda turns: b"")))
+    cargo = by_cargo(folder) if others else None
+    if cargo:
+        ways += [(f"`{name}` {version} (2022)", lambda text, name=name: run.Way(
+            lambda turns: [cargo, f"{name}-{DESCRIBED[text][3]}", text, str(turns)], lambda turns: b""))
+            for name, version in [("time", "0.3.9"), ("chrono", "0.4.23")]]
+    return ways
 
 
 def table(ways, texts):
@@ -88,6 +133,7 @@ def main():
         table([("`rfc2822::read`", lambda text: ours(own, "m", text)),
                ("kit's `jiff_fmt`", lambda text: ours(own, "k", text))], MAIL)
         table([("`stamp::read`", lambda text: ours(own, "t", text)), ("`read`", lambda text: ours(own, "s", text))], STAMPS)
+        table(described(folder, own, others), DESCRIBED)
         print(f"{run.Bench.commit()}.")
 
 

@@ -120,6 +120,13 @@ SECTIONS = [
         "Sortable timestamps (*stamps*).",
     ),
     Section(
+        "|Text|`Reader::read`|", "",
+        "By `%Y-%m-%d %H:%M:%S` as a `PlainDateTime`, and by `%d/%b/%Y:%H:%M:%S %z` as an "
+        "`OffsetDateTime`. The plan and its reader are made before. The kit's `jiff_strtime` reads "
+        "its pattern at each text, and makes a moment of the second one. `strptime` fills a `tm` that "
+        "is cleared before, and takes February 31.",
+    ),
+    Section(
         "|Line|", "The program of the tests",
         "`time_show` answers each line of numbers by a text. The last column has how many times "
         "longer a million lines take than a copy of them by `cat`.",

@@ -58,10 +58,11 @@ def ordinal(rule):
     return one_of(rule, choices)
 
 
-def zone(rule, colon, greatest=23):
+def zone(rule, colon):
+    """An offset of at most 25:59, as values have it here and in `time`."""
     return [
         one_of(rule, [(b"+", {"sign": 1}), (b"-", {"sign": -1})]),
-        number(rule, "hours", 2, 0, greatest),
+        number(rule, "hours", 2, 0, 25),
         *([literal(rule, b":")] if colon else []),
         one_of(rule, lambda read: [(b"%02d" % n, {"minutes": n}) for n in range(0 if read["sign"] > 0 or read["hours"] else 1, 60)]),
     ]

@@ -1,10 +1,13 @@
 #!/usr/bin/env python3
-"""Reads back 200,000 texts of random descriptions and values, and as many with one byte overwritten.
+"""Reads back texts of random values by random descriptions, and as many with one byte overwritten.
 
-The program of tools/read_trips/ is run by `rt try` in a copy of the crates. For each type it prints how many plans and
+    tools/read_trips.py [EACH]
+
+There are 420 descriptions, and of each 500 values, or EACH: 200,000 texts, and as many that are damaged. The program of tools/read_trips/ is run by `rt try` in a copy of the crates. For each type it prints how many plans and
 values there were, how many texts were not read, and how many values are written otherwise than the text that was read.
 The last line is `N texts, M wrong`: a text that a plan writes is wrong if it is not read, and any text is wrong if the value
-that was read of it is written otherwise. Takes some minutes.
+that was read of it is written otherwise. Takes some minutes, and with
+few values the time of a build.
 """
 import pathlib
 import re
@@ -20,8 +23,8 @@ LINE = re.compile(r"(\w+): plans .* unread (\d+), .* written otherwise (\d+); da
 WRITTEN = re.compile(r"values (\d+), refused by the writer (\d+)")
 
 
-def run(folder):
-    """The lines of the program, which is made in this folder."""
+def run(folder, each):
+    """The lines of the program, which is made in this folder, with so many values of each description."""
     lines = (TOP / "crates.txt").read_text().splitlines(keepends=True)
     (folder / "crates.txt").write_text("".join(it for it in lines if it.split(":")[0] in CRATES) + PROGRAM)
     for crate in CRATES:
@@ -31,12 +34,12 @@ def run(folder):
     for path in (TOP / "tools/read_trips").glob("*.rt.in"):
         shutil.copy(path, source / path.name.removesuffix(".in"))
     command = ["rt", "try", "--steps", "1000", "--seconds", "3000"]
-    return subprocess.run(command, cwd=source.parent, capture_output=True, text=True).stdout.splitlines()
+    return subprocess.run(command, cwd=source.parent, input=each, capture_output=True, text=True).stdout.splitlines()
 
 
 def main():
     with tempfile.TemporaryDirectory() as folder:
-        lines = run(pathlib.Path(folder))
+        lines = run(pathlib.Path(folder), sys.argv[1] if len(sys.argv) > 1 else "500")
     found = [(line, LINE.match(line)) for line in lines]
     texts = wrong = 0
     for line, it in found:

@@ -1,4 +1,5 @@
 //! What follows a component: how many digits of a run of digits are not its own.
+use crate::digits::{digits, sign};
 use time_below::format_description::Component;
 use time_below::format_description::modifier::{Padding, SubsecondDigits};
 use time_plan::{Literal, Run, Shown, Step};
@@ -75,6 +76,29 @@ fn front_of(component: Component) -> Front {
     }
 }
 
+/// Whether the digits of a component that is not deprecated are there, where it takes as many bytes
+/// in any case.
+#[cold]
+pub(crate) fn has_digits(component: Component, text: &[u8]) -> bool {
+    let (_, width) = sign(text);
+    match component {
+        Component::OffsetHour(m) => match m.padding {
+            Padding::Zero => text
+                .get(width..)
+                .is_some_and(|rest| digits(rest, 2).is_some()),
+            _ => true,
+        },
+        Component::CalendarYearFullExtendedRange(m) => match m.padding {
+            Padding::Zero => 0 < width || digits(text, 4).is_some(),
+            _ => true,
+        },
+        _ => match front_of(component) {
+            Front::Digits(count) => digits(text, count).is_some(),
+            _ => true,
+        },
+    }
+}
+
 /// How many decimals there are, where that does not depend on the value.
 #[inline]
 pub(crate) fn fixed_decimals(digits: SubsecondDigits) -> Option<usize> {
@@ -133,13 +157,6 @@ fn is_open(component: Component) -> bool {
     }
 }
 
-/// What follows a component: its literal, and the steps behind it.
-#[derive(Clone, Copy)]
-pub(crate) struct Behind<'a> {
-    pub(crate) literal: &'a Literal,
-    pub(crate) steps: &'a [Step],
-}
-
 /// The first byte of a literal.
 fn first_byte(literal: &Literal) -> Option<u8> {
     match literal {
@@ -151,22 +168,20 @@ fn first_byte(literal: &Literal) -> Option<u8> {
     }
 }
 
-impl Behind<'_> {
-    /// How many digits follow at once, unless that depends on the value.
-    #[inline]
-    pub(crate) fn digits(self) -> Option<usize> {
-        match first_byte(self.literal) {
-            Some(byte) if byte.is_ascii_digit() => None,
-            Some(_) => Some(0),
-            None => digits_of(self.steps),
-        }
+/// How many digits follow what a step shows at once, unless that depends on the value.
+#[inline]
+fn digits_behind(step: &Step, others: &[Step]) -> Option<usize> {
+    match first_byte(&step.literal) {
+        Some(byte) if byte.is_ascii_digit() => None,
+        Some(_) => Some(0),
+        None => digits_of(others),
     }
+}
 
-    /// How many digits of a run of digits belong to what follows.
-    #[inline]
-    pub(crate) fn count(self) -> usize {
-        self.digits().unwrap_or(0)
-    }
+/// How many digits of a run of digits belong to what follows the text of a step.
+#[inline]
+pub(crate) fn digits_left(step: &Step, others: &[Step]) -> usize {
+    digits_behind(step, others).unwrap_or(0)
 }
 
 /// How many digits the steps begin with, unless that depends on the value.
@@ -203,10 +218,13 @@ fn digits_of(steps: &[Step]) -> Option<usize> {
     Some(sum)
 }
 
-/// Whether a step ends by digits whose number depends on the value, and it is not told where they end.
-pub(crate) fn is_ambiguous(shown: &Shown, behind: Behind<'_>) -> bool {
-    match shown {
-        Shown::Component(component) => { is_open(component.current()) && behind.digits().is_none() }
+/// Whether a step ends by digits whose number depends on the value, and it is not told where they
+/// end.
+pub(crate) fn is_ambiguous(step: &Step, others: &[Step]) -> bool {
+    match &step.shown {
+        Shown::Component(component) => {
+            is_open(component.current()) && digits_behind(step, others).is_none()
+        }
         Shown::Run(Run::Date(between)) => { between.first.is_ascii_digit() }
         _ => false,
     }

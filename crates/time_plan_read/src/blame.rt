@@ -5,7 +5,7 @@ use crate::fault::{NotRead, Reason, Stop, not_read};
 use crate::fields::Fields;
 use crate::kinds::{Kinds, kind_of, shown_by};
 use crate::runs::place_in_run;
-use crate::steps::read_step_apart;
+use crate::steps::checked_step;
 use std::default::Default;
 use time_plan::{Shown, Step};
 
@@ -24,9 +24,9 @@ pub(crate) fn no_value(steps: &[Step], text: &[u8], fields: &Fields) -> NotRead
         if let Some(stop) = place_in(&step.shown, left, kind) {
             return not_read(text, stop);
         }
-        match read_step_apart(step, others, left, &mut unused) {
-            Some(rest) => left = rest,
-            None => break 'steps,
+        match checked_step(step, others, left, &mut unused) {
+            Ok(rest) => left = rest,
+            Err(_) => break 'steps,
         }
         steps_left = others;
     }

@@ -1,24 +1,43 @@
 //! The components of a text, one by one.
 ghost use Rattle.std.specs.Prelude.{◌<◌, IfSome};
 
-use crate::behind::{Behind, fixed_decimals};
+use crate::behind::{digits_left, fixed_decimals};
 use crate::digits::{digits, four, padded, sign, some_digits, two};
 use crate::fields::Fields;
 use crate::names::{half_day, month_long, month_short, weekday_long, weekday_short};
 use crate::years::{century, signed_year};
 use time_below::format_description::modifier::{Padding, SubsecondDigits};
 use time_below::format_description::{Component, modifier};
+use time_plan::Step;
 
-/// Reads a number in two places.
+/// Reads a number in two places, and returns how many bytes it has, as each reader of a component
+/// does.
+///
+/// Whether two bytes are digits is seen when the text of the value is compared.
 #[inline(always)]
-fn pair<'a>(text: &'a [u8], padding: Padding, behind: Behind<'_>) -> Option<(u8, &'a [u8])> {
-    match padding {
-        Padding::Zero => two(text),
-        _ => {
-            let (number, rest) = padded(text, padding, 2, 2, behind.count())?;
-            Some(((number % 100) as u8, rest))
+fn pair(
+    text: &[u8],
+    padding: Padding,
+    step: &Step,
+    others: &[Step],
+    number: &mut u8,
+) -> Option<usize> {
+    match (padding, text) {
+        (Padding::Zero, [tens, units, ..]) => {
+            *number = two(*tens, *units);
+            Some(2)
         }
+        (Padding::Zero, _) => None,
+        _ => padded_pair(text, padding, digits_left(step, others), number),
     }
+}
+
+/// Reads a number in two places, of which the first may be a space or none.
+#[inline(never)]
+fn padded_pair(text: &[u8], padding: Padding, behind: usize, number: &mut u8) -> Option<usize> {
+    let (found, count) = padded(text, padding, 2, 2, behind)?;
+    *number = (found % 100) as u8;
+    Some(count)
 }
 
 /// Ten to the ninth less so many decimals.
@@ -36,161 +55,168 @@ const SCALES: [u64; 10] = [
 ];
 
 /// Reads decimals of the second.
-fn decimals<'a>(
-    text: &'a [u8],
+#[inline(never)]
+fn decimals(
+    text: &[u8],
     wanted: SubsecondDigits,
-    behind: Behind<'_>,
-) -> Option<(u32, &'a [u8])> {
-    let (number, count, rest) = match fixed_decimals(wanted) {
-        Some(count) => {
-            let (number, rest) = digits(text, count)?;
-            (number, count, rest)
-        }
-        None => some_digits(text, 1, 9, behind.count())?,
+    step: &Step,
+    others: &[Step],
+    nanosecond: &mut u32,
+) -> Option<usize> {
+    let (number, count) = match fixed_decimals(wanted) {
+        Some(count) => (digits(text, count)?, count),
+        None => some_digits(text, 1, 9, digits_left(step, others))?,
     };
     let scale = SCALES.get(count).copied().unwrap_or(1);
-    Some(((number.wrapping_mul(scale) % 1_000_000_000) as u32, rest))
+    *nanosecond = (number.wrapping_mul(scale) % 1_000_000_000) as u32;
+    Some(count)
 }
 
 /// Reads a count since 1970.
-fn timestamp<'a>(text: &'a [u8], behind: Behind<'_>) -> Option<(i64, &'a [u8])> {
-    let (is_negative, rest) = sign(text);
-    let (number, _, rest) = some_digits(rest, 1, 17, behind.count())?;
-    let count = (number % 100_000_000_000_000_000) as i64;
-    match is_negative {
-        Some(true) => Some((-count, rest)),
-        _ => Some((count, rest)),
+fn timestamp(text: &[u8], step: &Step, others: &[Step], since: &mut i64) -> Option<usize> {
+    let (is_negative, width) = sign(text);
+    let (number, count) = some_digits(text.get(width..)?, 1, 17, digits_left(step, others))?;
+    let found = (number % 100_000_000_000_000_000) as i64;
+    *since = if is_negative == Some(true) {
+        -found
+    } else {
+        found
+    };
+    Some(count.saturating_add(width))
+}
+
+/// Reads a component into the fields, and returns how many bytes it has.
+#[inline(always)]
+pub(crate) fn read_component(
+    component: &Component,
+    step: &Step,
+    others: &[Step],
+    text: &[u8],
+    fields: &mut Fields,
+) -> Option<usize> {
+    match component {
+        Component::Day(m) => pair(text, m.padding, step, others, &mut fields.day),
+        Component::MonthShort(_) => month_short(text, &mut fields.month),
+        Component::WeekdayShort(_) => weekday_short(text, &mut fields.weekday),
+        Component::CalendarYearFullExtendedRange(m) => {
+            extended_year(text, *m, step, others, &mut fields.year)
+        }
+        Component::OffsetHour(m) => offset_hour(text, m.padding, step, others, fields),
+        Component::OffsetMinute(m) => pair(
+            text,
+            m.padding,
+            step,
+            others,
+            &mut fields.offset_minute,
+        ),
+        Component::Subsecond(m) => decimals(text, m.digits, step, others, &mut fields.nanosecond),
+        _ => read_seldom(component, step, others, text, fields),
     }
 }
 
-/// Reads a component into the fields, and returns what follows it.
+/// Reads the hour of an offset, and its sign.
 #[inline(always)]
-pub(crate) fn read_component<'a>(
-    component: Component,
-    behind: Behind<'_>,
-    text: &'a [u8],
+fn offset_hour(
+    text: &[u8],
+    padding: Padding,
+    step: &Step,
+    others: &[Step],
     fields: &mut Fields,
-) -> Option<&'a [u8]> {
-    match component {
-        Component::Day(m) => {
-            let (day, rest) = pair(text, m.padding, behind)?;
-            fields.day = day;
-            Some(rest)
+) -> Option<usize> {
+    match (padding, text) {
+        (Padding::Zero, [b'+' | b'-', tens, units, ..]) => {
+            fields.offset_is_negative = text[0] == b'-';
+            fields.offset_hour = two(*tens, *units);
+            Some(3)
         }
-        Component::MonthShort(_) => {
-            let (month, rest) = month_short(text)?;
-            fields.month = month;
-            Some(rest)
-        }
-        Component::WeekdayShort(_) => {
-            let (weekday, rest) = weekday_short(text)?;
-            fields.weekday = weekday;
-            Some(rest)
-        }
-        Component::CalendarYearFullExtendedRange(m) => {
-            let (year, rest) = extended_year(text, m, behind)?;
-            fields.year = year;
-            Some(rest)
-        }
-        Component::OffsetHour(m) => {
-            let (is_negative, rest) = sign(text);
-            let (hour, rest) = pair(rest, m.padding, behind)?;
-            fields.offset_is_negative = is_negative.unwrap_or(false);
-            fields.offset_hour = hour;
-            Some(rest)
-        }
-        Component::OffsetMinute(m) => {
-            let (minute, rest) = pair(text, m.padding, behind)?;
-            fields.offset_minute = minute;
-            Some(rest)
-        }
-        Component::Subsecond(m) => {
-            let (nanosecond, rest) = decimals(text, m.digits, behind)?;
-            fields.nanosecond = nanosecond;
-            Some(rest)
-        }
-        _ => read_seldom(component.current(), behind, text, fields),
+        _ => padded_offset_hour(text, padding, digits_left(step, others), fields),
     }
+}
+
+/// Reads the hour of an offset, of which the sign and the first digit may be none.
+#[inline(never)]
+fn padded_offset_hour(
+    text: &[u8],
+    padding: Padding,
+    behind: usize,
+    fields: &mut Fields,
+) -> Option<usize> {
+    let (is_negative, width) = sign(text);
+    let (hour, count) = padded(text.get(width..)?, padding, 2, 2, behind)?;
+    fields.offset_is_negative = is_negative.unwrap_or(false);
+    fields.offset_hour = (hour % 100) as u8;
+    Some(count.saturating_add(width))
 }
 
 /// Reads a year.
 #[inline(always)]
-fn extended_year<'a>(
-    text: &'a [u8],
+fn extended_year(
+    text: &[u8],
     choices: modifier::CalendarYearFullExtendedRange,
-    behind: Behind<'_>,
-) -> Option<(i32, &'a [u8])> {
-    if let Padding::Zero = choices.padding {
-        if let Some((year, rest)) = four(text) {
-            return Some((year, rest));
+    step: &Step,
+    others: &[Step],
+    year: &mut i32,
+) -> Option<usize> {
+    match (choices.padding, text) {
+        (Padding::Zero, [a, b, c, d, ..]) if a.is_ascii_digit() => {
+            *year = four(*a, *b, *c, *d);
+            Some(4)
         }
+        _ => signed_year(text, choices.padding, 6, digits_left(step, others), year),
     }
-    signed_year(text, choices.padding, 6, behind.count())
 }
 
 /// Reads a number of the date, in places of which the component tells how many.
 #[inline(never)]
-fn read_seldom<'a>(
-    component: Component,
-    behind: Behind<'_>,
-    text: &'a [u8],
+fn read_seldom(
+    component: &Component,
+    step: &Step,
+    others: &[Step],
+    text: &[u8],
     fields: &mut Fields,
-) -> Option<&'a [u8]> {
+) -> Option<usize> {
+    let component = component.current();
     match component {
-        Component::MonthNumerical(m) => {
-            let (month, rest) = pair(text, m.padding, behind)?;
-            fields.month = month;
-            Some(rest)
-        }
-        Component::MonthLong(_) => {
-            let (month, rest) = month_long(text)?;
-            fields.month = month;
-            Some(rest)
-        }
+        Component::MonthNumerical(m) => pair(text, m.padding, step, others, &mut fields.month),
+        Component::MonthLong(_) => month_long(text, &mut fields.month),
         Component::Ordinal(m) => {
-            let (ordinal, rest) = padded(text, m.padding, 3, 3, behind.count())?;
+            let (ordinal, count) = padded(text, m.padding, 3, 3, digits_left(step, others))?;
             fields.ordinal = (ordinal % 1_000) as u16;
-            Some(rest)
+            Some(count)
         }
-        Component::WeekdayLong(_) => {
-            let (weekday, rest) = weekday_long(text)?;
-            fields.weekday = weekday;
-            Some(rest)
-        }
+        Component::WeekdayLong(_) => weekday_long(text, &mut fields.weekday),
         Component::WeekdaySunday(m) => {
-            let (weekday, rest) = weekday_digit(text, m.one_indexed)?;
-            fields.weekday = (weekday + 6) % 7;
-            Some(rest)
+            fields.weekday = (weekday_digit(text, m.one_indexed)? + 6) % 7;
+            Some(1)
         }
         Component::WeekdayMonday(m) => {
-            let (weekday, rest) = weekday_digit(text, m.one_indexed)?;
-            fields.weekday = weekday;
-            Some(rest)
+            fields.weekday = weekday_digit(text, m.one_indexed)?;
+            Some(1)
         }
-        Component::WeekNumberIso(m) => {
-            let (week, rest) = pair(text, m.padding, behind)?;
-            fields.iso_week = week;
-            Some(rest)
-        }
-        Component::WeekNumberSunday(m) => {
-            let (week, rest) = pair(text, m.padding, behind)?;
-            fields.sunday_week = week;
-            Some(rest)
-        }
-        Component::WeekNumberMonday(m) => {
-            let (week, rest) = pair(text, m.padding, behind)?;
-            fields.monday_week = week;
-            Some(rest)
-        }
-        _ => read_year(component, behind, text, fields),
+        Component::WeekNumberIso(m) => pair(text, m.padding, step, others, &mut fields.iso_week),
+        Component::WeekNumberSunday(m) => pair(
+            text,
+            m.padding,
+            step,
+            others,
+            &mut fields.sunday_week,
+        ),
+        Component::WeekNumberMonday(m) => pair(
+            text,
+            m.padding,
+            step,
+            others,
+            &mut fields.monday_week,
+        ),
+        _ => read_year(component, step, others, text, fields),
     }
 }
 
 /// Reads a weekday by one digit, counted from zero.
-fn weekday_digit(text: &[u8], one_indexed: bool) -> Option<(u8, &[u8])>
-    ensures { IfSome result (λ r. r.0 < 7) }
+fn weekday_digit(text: &[u8], one_indexed: bool) -> Option<u8>
+    ensures { IfSome result (λ days. days < 7) }
 {
-    let [byte, rest @ ..] = text else {
+    let [byte, ..] = text else {
         return None;
     };
     let first = if one_indexed { b'1' } else { b'0' };
@@ -201,118 +227,111 @@ fn weekday_digit(text: &[u8], one_indexed: bool) -> Option<(u8, &[u8])>
     if 6 < days {
         return None;
     }
-    Some((days, rest))
+    Some(days)
 }
 
 /// Reads a year or a part of it.
-fn read_year<'a>(
+fn read_year(
     component: Component,
-    behind: Behind<'_>,
-    text: &'a [u8],
+    step: &Step,
+    others: &[Step],
+    text: &[u8],
     fields: &mut Fields,
-) -> Option<&'a [u8]> {
+) -> Option<usize> {
+    let count = digits_left(step, others);
     match component {
         Component::CalendarYearFullStandardRange(m) => {
-            let (year, rest) = signed_year(text, m.padding, 4, behind.count())?;
-            fields.year = year;
-            Some(rest)
+            signed_year(text, m.padding, 4, count, &mut fields.year)
         }
         Component::CalendarYearCenturyExtendedRange(m) => {
-            let (is_before_zero, century, rest) = century(text, m.padding, 4, behind.count())?;
-            fields.is_before_zero = is_before_zero;
-            fields.century = century;
-            Some(rest)
+            century(
+                text,
+                m.padding,
+                4,
+                count,
+                &mut fields.is_before_zero,
+                &mut fields.century,
+            )
         }
         Component::CalendarYearCenturyStandardRange(m) => {
-            let (is_before_zero, century, rest) = century(text, m.padding, 2, behind.count())?;
-            fields.is_before_zero = is_before_zero;
-            fields.century = century;
-            Some(rest)
+            century(
+                text,
+                m.padding,
+                2,
+                count,
+                &mut fields.is_before_zero,
+                &mut fields.century,
+            )
         }
-        Component::CalendarYearLastTwo(m) => {
-            let (last_two, rest) = pair(text, m.padding, behind)?;
-            fields.last_two = last_two;
-            Some(rest)
-        }
+        Component::CalendarYearLastTwo(m) => pair(
+            text,
+            m.padding,
+            step,
+            others,
+            &mut fields.last_two,
+        ),
         Component::IsoYearFullExtendedRange(m) => {
-            let (year, rest) = signed_year(text, m.padding, 6, behind.count())?;
-            fields.iso_year = year;
-            Some(rest)
+            signed_year(text, m.padding, 6, count, &mut fields.iso_year)
         }
         Component::IsoYearFullStandardRange(m) => {
-            let (year, rest) = signed_year(text, m.padding, 4, behind.count())?;
-            fields.iso_year = year;
-            Some(rest)
+            signed_year(text, m.padding, 4, count, &mut fields.iso_year)
         }
         Component::IsoYearCenturyExtendedRange(m) => {
-            let (is_before_zero, century, rest) = century(text, m.padding, 4, behind.count())?;
-            fields.iso_is_before_zero = is_before_zero;
-            fields.iso_century = century;
-            Some(rest)
+            century(
+                text,
+                m.padding,
+                4,
+                count,
+                &mut fields.iso_is_before_zero,
+                &mut fields.iso_century,
+            )
         }
         Component::IsoYearCenturyStandardRange(m) => {
-            let (is_before_zero, century, rest) = century(text, m.padding, 2, behind.count())?;
-            fields.iso_is_before_zero = is_before_zero;
-            fields.iso_century = century;
-            Some(rest)
+            century(
+                text,
+                m.padding,
+                2,
+                count,
+                &mut fields.iso_is_before_zero,
+                &mut fields.iso_century,
+            )
         }
-        Component::IsoYearLastTwo(m) => {
-            let (last_two, rest) = pair(text, m.padding, behind)?;
-            fields.iso_last_two = last_two;
-            Some(rest)
-        }
-        _ => read_time_part(component, behind, text, fields),
+        Component::IsoYearLastTwo(m) => pair(
+            text,
+            m.padding,
+            step,
+            others,
+            &mut fields.iso_last_two,
+        ),
+        _ => read_time_part(component, step, others, text, fields),
     }
 }
 
 /// Reads a part of the time of day, of the offset or of the moment.
-fn read_time_part<'a>(
+fn read_time_part(
     component: Component,
-    behind: Behind<'_>,
-    text: &'a [u8],
+    step: &Step,
+    others: &[Step],
+    text: &[u8],
     fields: &mut Fields,
-) -> Option<&'a [u8]> {
+) -> Option<usize> {
     match component {
-        Component::Hour12(m) => {
-            let (hour, rest) = pair(text, m.padding, behind)?;
-            fields.hour_12 = hour;
-            Some(rest)
-        }
-        Component::Hour24(m) => {
-            let (hour, rest) = pair(text, m.padding, behind)?;
-            fields.hour_24 = hour;
-            Some(rest)
-        }
-        Component::Minute(m) => {
-            let (minute, rest) = pair(text, m.padding, behind)?;
-            fields.minute = minute;
-            Some(rest)
-        }
-        Component::Second(m) => {
-            let (second, rest) = pair(text, m.padding, behind)?;
-            fields.second = second;
-            Some(rest)
-        }
-        Component::Period(m) => {
-            let (is_pm, rest) = half_day(text, m.is_uppercase)?;
-            fields.is_pm = is_pm;
-            Some(rest)
-        }
-        Component::OffsetSecond(m) => {
-            let (second, rest) = pair(text, m.padding, behind)?;
-            fields.offset_second = second;
-            Some(rest)
-        }
-        Component::UnixTimestampSecond(_) => {
-            let (seconds, rest) = timestamp(text, behind)?;
-            fields.unix_second = seconds;
-            Some(rest)
-        }
+        Component::Hour12(m) => pair(text, m.padding, step, others, &mut fields.hour_12),
+        Component::Hour24(m) => pair(text, m.padding, step, others, &mut fields.hour_24),
+        Component::Minute(m) => pair(text, m.padding, step, others, &mut fields.minute),
+        Component::Second(m) => pair(text, m.padding, step, others, &mut fields.second),
+        Component::Period(m) => half_day(text, m.is_uppercase, &mut fields.is_pm),
+        Component::OffsetSecond(m) => pair(
+            text,
+            m.padding,
+            step,
+            others,
+            &mut fields.offset_second,
+        ),
+        Component::UnixTimestampSecond(_) => timestamp(text, step, others, &mut fields.unix_second),
         Component::UnixTimestampMillisecond(_) => {
-            let (milliseconds, rest) = timestamp(text, behind)?;
-            fields.unix_millisecond = milliseconds;
-            Some(rest)
+            timestamp(text, step, others, &mut fields.unix_millisecond)
         }
-        _ => Some(text),
+        _ => Some(0),
     }
 }

@@ -4,7 +4,6 @@ use crate::kinds::Kinds;
 use time_below::{Date, Month, is_leap_year};
 
 /// The year of numbers.
-#[inline(always)]
 fn year_of(fields: &Fields, kinds: Kinds) -> i32 {
     if kinds.have(Kinds::YEAR) {
         return fields.year;
@@ -80,8 +79,8 @@ fn iso_date(year: i32, week: u8, weekday: u8) -> Option<Date> {
     day_near(year, monday.wrapping_add(day))
 }
 
-/// The date of a year, a week that begins on its first Monday (or Sunday, with the weekday counted from
-/// there) and a weekday.
+/// The date of a year, a week that begins on its first Monday (or Sunday, with the weekday counted
+/// from there) and a weekday.
 fn week_date(year: i32, week: u8, weekday: u8, days_before: i32) -> Option<Date> {
     let first = first_weekday(year)?.wrapping_add(days_before) % 7;
     let begin = 7i32.wrapping_sub(first) % 7;
@@ -106,16 +105,19 @@ fn calendar_date(year: i32, number: u8, day: u8) -> Option<Date> {
 /// The date of numbers.
 #[inline(always)]
 pub(crate) fn date_of(fields: &Fields, kinds: Kinds) -> Option<Date> {
-    if kinds.have_year() && kinds.have(Kinds::MONTH.and(Kinds::DAY)) {
-        return calendar_date(year_of(fields, kinds), fields.month, fields.day);
+    if kinds.have(Kinds::YEAR.and(Kinds::MONTH).and(Kinds::DAY)) {
+        return calendar_date(fields.year, fields.month, fields.day);
     }
     seldom_date(fields, kinds)
 }
 
-/// The date of numbers that have no month or no day of the month.
+/// The date of numbers that have no whole year, no month or no day of the month.
 #[inline(never)]
 fn seldom_date(fields: &Fields, kinds: Kinds) -> Option<Date> {
     let weekday = fields.weekday;
+    if kinds.have_year() && kinds.have(Kinds::MONTH.and(Kinds::DAY)) {
+        return calendar_date(year_of(fields, kinds), fields.month, fields.day);
+    }
     if kinds.have_year() && kinds.have(Kinds::ORDINAL) {
         return day_of(year_of(fields, kinds), fields.ordinal as i32);
     }

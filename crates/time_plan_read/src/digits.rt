@@ -1,38 +1,29 @@
 //! Numbers at the front of a text.
 use time_below::format_description::modifier::Padding;
 
-/// Two digits.
+/// The number of two digits, and some number of other bytes.
 #[inline(always)]
-pub(crate) fn two(text: &[u8]) -> Option<(u8, &[u8])> {
-    if let [tens, units, rest @ ..] = text {
-        if tens.is_ascii_digit() && units.is_ascii_digit() {
-            return Some((10 * (*tens - b'0') + (*units - b'0'), rest));
-        }
-    }
-    None
+pub(crate) fn two(tens: u8, units: u8) -> u8 {
+    let tens = tens.wrapping_sub(b'0');
+    tens.wrapping_mul(10).wrapping_add(units.wrapping_sub(b'0'))
 }
 
-/// Four digits.
+/// The number of four digits, and some number of other bytes.
 #[inline(always)]
-pub(crate) fn four(text: &[u8]) -> Option<(i32, &[u8])> {
-    let (high, rest) = two(text)?;
-    let (low, rest) = two(rest)?;
-    Some((100 * high as i32 + low as i32, rest))
+pub(crate) fn four(a: u8, b: u8, c: u8, d: u8) -> i32 {
+    100 * two(a, b) as i32 + two(c, d) as i32
 }
 
-/// So many digits.
-pub(crate) fn digits(text: &[u8], count: usize) -> Option<(u64, &[u8])> {
-    if text.len() < count {
-        return None;
-    }
+/// The number of so many digits at the front of a text.
+pub(crate) fn digits(text: &[u8], count: usize) -> Option<u64> {
     let mut number = 0u64;
-    for byte in &text[..count] {
+    for byte in text.get(..count)? {
         if !byte.is_ascii_digit() {
             return None;
         }
         number = number.wrapping_mul(10).wrapping_add((*byte - b'0') as u64);
     }
-    Some((number, &text[count..]))
+    Some(number)
 }
 
 /// How many digits a text begins with.
@@ -47,24 +38,24 @@ fn digits_at_front(text: &[u8]) -> usize {
     count
 }
 
-/// From so many digits to so many: all that there are, but those that belong to what follows.
+/// The number of from so many digits to so many, and how many there are: all but those that belong
+/// to what follows.
 #[inline(never)]
 pub(crate) fn some_digits(
     text: &[u8],
     least: usize,
     most: usize,
     behind: usize,
-) -> Option<(u64, usize, &[u8])> {
+) -> Option<(u64, usize)> {
     let count = digits_at_front(text).saturating_sub(behind).min(most);
     if count < least {
         return None;
     }
-    let (number, rest) = digits(text, count)?;
-    Some((number, count, rest))
+    Some((digits(text, count)?, count))
 }
 
-/// How many spaces stand before a number in so many places, and the number.
-fn spaces(text: &[u8], places: usize) -> (usize, &[u8]) {
+/// How many spaces stand before a number in so many places.
+fn spaces(text: &[u8], places: usize) -> usize {
     let mut count = 0usize;
     for byte in text {
         if *byte != b' ' || places <= count.saturating_add(1) {
@@ -72,10 +63,11 @@ fn spaces(text: &[u8], places: usize) -> (usize, &[u8]) {
         }
         count = count.saturating_add(1);
     }
-    (count, text.get(count..).unwrap_or(text))
+    count
 }
 
-/// A number in so many places, of at most so many digits. So many digits belong to what follows.
+/// A number in so many places, of at most so many digits, and how many bytes it has. So many digits
+/// belong to what follows.
 #[inline(never)]
 pub(crate) fn padded(
     text: &[u8],
@@ -83,32 +75,33 @@ pub(crate) fn padded(
     places: usize,
     most: usize,
     behind: usize,
-) -> Option<(u64, &[u8])> {
-    let (least, rest) = match padding {
-        Padding::Zero => (places, text),
-        Padding::None => (1, text),
+) -> Option<(u64, usize)> {
+    let least = match padding {
+        Padding::Zero => places,
+        Padding::None => 1,
         Padding::Space => {
-            let (count, rest) = spaces(text, places);
-            let least = places.saturating_sub(count);
+            let count = spaces(text, places);
             if 0 < count {
-                return digits(rest, least);
+                return Some((
+                    digits(text.get(count..)?, places.saturating_sub(count))?,
+                    places,
+                ));
             }
-            (least, rest)
+            places
         }
     };
     if least == most {
-        return digits(rest, least);
+        return Some((digits(text, least)?, least));
     }
-    let (number, _, rest) = some_digits(rest, least, most, behind)?;
-    Some((number, rest))
+    some_digits(text, least, most, behind)
 }
 
-/// A sign, if there is one: whether it is a minus.
+/// A sign, if there is one: whether it is a minus, and how many bytes it has.
 #[inline(always)]
-pub(crate) fn sign(text: &[u8]) -> (Option<bool>, &[u8]) {
+pub(crate) fn sign(text: &[u8]) -> (Option<bool>, usize) {
     match text {
-        [b'-', rest @ ..] => (Some(true), rest),
-        [b'+', rest @ ..] => (Some(false), rest),
-        _ => (None, text),
+        [b'-', ..] => (Some(true), 1),
+        [b'+', ..] => (Some(false), 1),
+        _ => (None, 0),
     }
 }

@@ -14,8 +14,8 @@ pub enum NoReader {
     /// The texts show what no value of the type has, by the index of the step.
     #[error("step {0}: no value of the type has what is shown")]
     Unsupplied(usize),
-    /// A number whose digits depend on the value stands before digits whose number depends on it too, by the
-    /// index of the step, as the first one of `%-d%-m`.
+    /// A number whose digits depend on the value stands before digits whose number depends on it
+    /// too, by the index of the step, as the first one of `%-d%-m`.
     #[error("step {0}: a number of no certain width before other digits")]
     Ambiguous(usize),
 }
@@ -31,8 +31,9 @@ pub enum Reason {
     End,
     /// The number of this component, which begins here, is that of no value, as in February 31.
     NoValue(Component),
-    /// The value of these numbers is written otherwise from here on, as by another weekday. By a plan whose
-    /// texts may have more than 64 bytes, the component begins here that is written otherwise.
+    /// The value of these numbers is written otherwise from here on, as by another weekday. By a
+    /// plan whose texts may have more than 64 bytes, the component begins here that is written
+    /// otherwise.
     Otherwise,
 }
 

@@ -107,8 +107,8 @@ impl Kinds {
             || (self.have_iso_year() && self.have(Kinds::ISO_WEEK) && is_weekday)
     }
 
-    /// Whether the time of day is determined by its own components: those behind the last one that is
-    /// shown are zero.
+    /// Whether the time of day is determined by its own components: those behind the last one that
+    /// is shown are zero.
     #[inline(always)]
     pub(crate) fn have_time(self) -> bool {
         let has_hour = self.have(Kinds::HOUR24) || self.have(Kinds::HOUR12.and(Kinds::PERIOD));

@@ -1,4 +1,5 @@
-//! Texts of a plan, read back: the value that is read is one that the plan writes as this very text.
+//! Texts of a plan, read back: the value that is read is one that the plan writes as this very
+//! text.
 //!
 //! No call allocates.
 #![tactic(auto)]

@@ -18,6 +18,15 @@ pub(crate) fn after(text: &[u8], byte: u8) -> Option<&[u8]>
     None
 }
 
+/// What follows so many bytes.
+#[inline(always)]
+pub(crate) fn behind(text: &[u8], count: usize) -> Option<&[u8]> {
+    if text.len() < count {
+        return None;
+    }
+    Some(&text[count..])
+}
+
 /// What follows these bytes.
 #[inline]
 pub(crate) fn after_all<'a>(text: &'a [u8], bytes: &[u8]) -> Option<&'a [u8]>
@@ -46,12 +55,14 @@ pub(crate) fn after_literal<'a>(text: &'a [u8], literal: &Literal) -> Option<&'a
     }
 }
 
-/// The number of a month by the first three letters of its name.
-pub(crate) fn month_short(text: &[u8]) -> Option<(u8, &[u8])> {
-    let [first, second, third, rest @ ..] = text else {
+/// Reads the number of a month by the first three letters of its name, and returns how many there
+/// are.
+#[inline(always)]
+pub(crate) fn month_short(text: &[u8], month: &mut u8) -> Option<usize> {
+    let [first, second, third, ..] = text else {
         return None;
     };
-    let number = match (*first, *second, *third) {
+    *month = match (*first, *second, *third) {
         (b'J', b'a', b'n') => 1,
         (b'F', b'e', b'b') => 2,
         (b'M', b'a', b'r') => 3,
@@ -66,13 +77,13 @@ pub(crate) fn month_short(text: &[u8]) -> Option<(u8, &[u8])> {
         (b'D', b'e', b'c') => 12,
         _ => return None,
     };
-    Some((number, rest))
+    Some(3)
 }
 
-/// The number of a month by its name.
-pub(crate) fn month_long(text: &[u8]) -> Option<(u8, &[u8])> {
-    let (number, rest) = month_short(text)?;
-    let ending: &[u8] = match number {
+/// Reads the number of a month by its name, and returns how many letters that has.
+pub(crate) fn month_long(text: &[u8], month: &mut u8) -> Option<usize> {
+    let count = month_short(text, month)?;
+    let ending: &[u8] = match *month {
         1 => b"uary",
         2 => b"ruary",
         3 => b"ch",
@@ -85,15 +96,23 @@ pub(crate) fn month_long(text: &[u8]) -> Option<(u8, &[u8])> {
         11 | 12 => b"ember",
         _ => b"",
     };
-    Some((number, after_all(rest, ending)?))
+    behind_ending(text, count, ending)
 }
 
-/// The days from Monday by the first three letters of a weekday's name.
-pub(crate) fn weekday_short(text: &[u8]) -> Option<(u8, &[u8])> {
-    let [first, second, third, rest @ ..] = text else {
+/// How many bytes a name has of which so many were read, if it ends so.
+fn behind_ending(text: &[u8], count: usize, ending: &[u8]) -> Option<usize> {
+    after_all(text.get(count..)?, ending)?;
+    Some(count.saturating_add(ending.len()))
+}
+
+/// Reads the days from Monday by the first three letters of a weekday's name, and returns how many
+/// there are.
+#[inline(always)]
+pub(crate) fn weekday_short(text: &[u8], weekday: &mut u8) -> Option<usize> {
+    let [first, second, third, ..] = text else {
         return None;
     };
-    let days = match (*first, *second, *third) {
+    *weekday = match (*first, *second, *third) {
         (b'M', b'o', b'n') => 0,
         (b'T', b'u', b'e') => 1,
         (b'W', b'e', b'd') => 2,
@@ -103,29 +122,28 @@ pub(crate) fn weekday_short(text: &[u8]) -> Option<(u8, &[u8])> {
         (b'S', b'u', b'n') => 6,
         _ => return None,
     };
-    Some((days, rest))
+    Some(3)
 }
 
-/// The days from Monday by a weekday's name.
-pub(crate) fn weekday_long(text: &[u8]) -> Option<(u8, &[u8])> {
-    let (days, rest) = weekday_short(text)?;
-    let ending: &[u8] = match days {
+/// Reads the days from Monday by a weekday's name, and returns how many letters that has.
+pub(crate) fn weekday_long(text: &[u8], weekday: &mut u8) -> Option<usize> {
+    let count = weekday_short(text, weekday)?;
+    let ending: &[u8] = match *weekday {
         1 => b"sday",
         2 => b"nesday",
         3 => b"rsday",
         5 => b"urday",
         _ => b"day",
     };
-    Some((days, after_all(rest, ending)?))
+    behind_ending(text, count, ending)
 }
 
-/// The half of the day: whether it is the second.
-pub(crate) fn half_day(text: &[u8], is_uppercase: bool) -> Option<(bool, &[u8])> {
-    match (text, is_uppercase) {
-        ([b'A', b'M', rest @ ..], true) => Some((false, rest)),
-        ([b'P', b'M', rest @ ..], true) => Some((true, rest)),
-        ([b'a', b'm', rest @ ..], false) => Some((false, rest)),
-        ([b'p', b'm', rest @ ..], false) => Some((true, rest)),
-        _ => None,
-    }
+/// Reads whether a time is in the second half of the day, and returns how many letters tell it.
+pub(crate) fn half_day(text: &[u8], is_uppercase: bool, is_pm: &mut bool) -> Option<usize> {
+    *is_pm = match (text, is_uppercase) {
+        ([b'A', b'M', ..], true) | ([b'a', b'm', ..], false) => false,
+        ([b'P', b'M', ..], true) | ([b'p', b'm', ..], false) => true,
+        _ => return None,
+    };
+    Some(2)
 }

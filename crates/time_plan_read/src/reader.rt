@@ -1,9 +1,9 @@
 //! Readers of the texts of a plan.
-ghost use Rattle.std.specs.Prelude.{◌≡◌, ◌≤◌, ◌++◌, IfErr, IfOk, length};
+ghost use Rattle.std.specs.Prelude.{◌≡◌, ◌≤◌, ◌++◌, IfErr, IfOk, IfSome, length};
 ghost use Rattle.time_fmt.specs.Outcome.{done};
 ghost use Rattle.time_plan_read.specs.Front.{BeginsWith};
 
-use crate::behind::{Behind, is_ambiguous};
+use crate::behind::is_ambiguous;
 use crate::blame::no_value;
 use crate::clock::clear_finer_time;
 use crate::compare::difference;
@@ -11,7 +11,7 @@ use crate::fault::{NoReader, NotRead, Reason, Stop, not_read};
 use crate::fields::Fields;
 use crate::kinds::{Kinds, shown_by};
 use crate::moments::clear_finer_offset;
-use crate::steps::read_steps;
+use crate::steps::{checked_steps, read_steps};
 use crate::values::Readable;
 use std::default::Default;
 use std::marker::PhantomData;
@@ -21,8 +21,9 @@ use time_plan::{Plan, Run, Shown, Step};
 
 /// Reads the texts of a plan as values of a type.
 ///
-/// What is read is written by the plan as the very text. So a text is refused that no value has by the plan, as one with
-/// another weekday than that of its date, or with zeros or spaces that the plan does not write.
+/// What is read is written by the plan as the very text. So a text is refused that no value has by
+/// the plan, as one with another weekday than that of its date, or with zeros or spaces that the
+/// plan does not write.
 #[derive(Drop)]
 pub struct Reader<'a, V> {
     /// The plan.
@@ -36,14 +37,15 @@ pub struct Reader<'a, V> {
 pub trait ReadPlan {
     /// The reader of texts of the plan as values of a type. What no text shows is zero.
     ///
-    /// Refused are plans whose texts do not determine a value, or show what no value of the type has, and numbers of no
-    /// certain width before digits whose number is not certain either.
+    /// Refused are plans whose texts do not determine a value, or show what no value of the type
+    /// has, and numbers of no certain width before digits whose number is not certain either.
     fn reader<V: Readable>(&self) -> Result<Reader<'_, V>, NoReader>;
 
-    /// The reader of texts of the plan as values of a type. What no text shows is taken from a base value.
+    /// The reader of texts of the plan as values of a type. What no text shows is taken from a base
+    /// value.
     ///
-    /// Where the texts show a part of the time of day, or of the offset, what is finer is zero. A part of a date is
-    /// completed by the base's year, century, month, day or weekday.
+    /// Where the texts show a part of the time of day, or of the offset, what is finer is zero. A
+    /// part of a date is completed by the base's year, century, month, day or weekday.
     fn reader_from<V: Readable>(&self, base: &V) -> Result<Reader<'_, V>, NoReader>;
 }
 
@@ -96,11 +98,7 @@ fn refusal_of<V: Readable>(steps: &[Step]) -> Option<NoReader> {
         if !supplies::<V>(&step.shown) {
             return Some(NoReader::Unsupplied(index));
         }
-        let behind = Behind {
-            literal: &step.literal,
-            steps: others,
-        };
-        if is_ambiguous(&step.shown, behind) {
+        if is_ambiguous(step, others) {
             return Some(NoReader::Ambiguous(index));
         }
         index = index.saturating_add(1);
@@ -137,19 +135,16 @@ impl<V: Readable> Reader<'_, V> {
     {
         let mut fields = self.base;
         match read_steps(self.plan.steps(), text, &mut fields) {
-            Ok(0) => self.value_of(text, &fields),
-            Ok(left) => Err(not_read(
-                text,
-                Stop {
-                    left,
-                    reason: Reason::End,
-                },
-            )),
-            Err(fault) => Err(fault),
+            Some([]) => match self.value_of(text, &fields) {
+                Some(value) => Ok(value),
+                None => Err(self.fault_of(text, true)),
+            },
+            _ => Err(self.fault_of(text, true)),
         }
     }
 
-    /// The value that the plan writes as the front of this text, and the rest of the text, or the first fault.
+    /// The value that the plan writes as the front of this text, and the rest of the text, or the
+    /// first fault.
     ///
     /// A number takes all digits that stand there and that it can have.
     pub fn read_front<'t>(&self, text: &'t [u8]) -> Result<(V, &'t [u8]), NotRead>
@@ -161,39 +156,62 @@ impl<V: Readable> Reader<'_, V> {
         ensures inside { IfErr result (λ fault. fault.at ≤ length text.now) }
     {
         let mut fields = self.base;
-        let left = match read_steps(self.plan.steps(), text, &mut fields) {
-            Ok(left) => left,
-            Err(fault) => return Err(fault),
+        let Some(left) = read_steps(self.plan.steps(), text, &mut fields) else {
+            return Err(self.fault_of(text, false));
         };
-        let (front, rest) = text.split_at(text.len().saturating_sub(left));
+        let (front, rest) = text.split_at(text.len().saturating_sub(left.len()));
         match self.value_of(front, &fields) {
-            Ok(value) => Ok((value, rest)),
-            Err(fault) => Err(fault),
+            Some(value) => Ok((value, rest)),
+            None => Err(self.fault_of(text, false)),
         }
     }
 
     /// The value of the numbers that were read of a text, if the plan writes it so.
     #[inline(always)]
-    fn value_of(&self, text: &[u8], fields: &Fields) -> Result<V, NotRead>
+    fn value_of(&self, text: &[u8], fields: &Fields) -> Option<V>
     where
         V::State: Drop,
         V: Drop,
-        ensures written { IfOk result (λ value.
+        ensures written { IfSome result (λ value.
             ⟦<Plan as Formattable>⟧.outcome_of self.now.plan.now (V.facts value) ≡ done text.now) }
-        ensures inside { IfErr result (λ fault. fault.at ≤ length text.now) }
     {
-        let Some(value) = V::of_fields(fields, self.kinds) else {
-            return Err(no_value(self.plan.steps(), text, fields));
-        };
+        let value = V::of_fields(fields, self.kinds)?;
         match difference(self.plan, text, &value) {
-            None => Ok(value),
-            Some(at) => Err(not_read(
-                text,
-                Stop {
-                    left: text.len().saturating_sub(at),
-                    reason: Reason::Otherwise,
-                },
-            )),
+            None => Some(value),
+            Some(_) => None,
         }
+    }
+
+    /// The first fault of a text that is not read, which is to be read to its end or at its front.
+    #[cold]
+    #[inline(never)]
+    fn fault_of(&self, text: &[u8], is_whole: bool) -> NotRead
+    where
+        V::State: Drop,
+        V: Drop,
+        ensures inside { result.at ≤ length text.now }
+    {
+        let mut fields = self.base;
+        let left = match checked_steps(self.plan.steps(), text, &mut fields) {
+            Ok(left) => left,
+            Err(fault) => return fault,
+        };
+        if is_whole && 0 < left {
+            let reason = Reason::End;
+            return not_read(text, Stop { left, reason });
+        }
+        let Some(value) = V::of_fields(&fields, self.kinds) else {
+            return no_value(self.plan.steps(), text, &fields);
+        };
+        let (front, _) = text.split_at(text.len().saturating_sub(left));
+        let at = difference(self.plan, front, &value).unwrap_or(front.len());
+        let reason = Reason::Otherwise;
+        not_read(
+            text,
+            Stop {
+                left: text.len().saturating_sub(at),
+                reason,
+            },
+        )
     }
 }

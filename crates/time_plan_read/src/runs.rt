@@ -1,5 +1,5 @@
 //! Dates and times of day that are one step.
-use crate::digits::{four, two};
+use crate::digits::{digits, four, two};
 use crate::fault::{Reason, Stop};
 use crate::fields::Fields;
 use crate::kinds::{Kinds, kind_of};
@@ -9,51 +9,59 @@ use time_below::format_description::modifier::Padding;
 use time_below::format_description::{Component, modifier};
 use time_plan::{Run, Separators};
 
-/// Reads a byte and two digits.
+/// How many bytes an hour, a minute and a second have, with a byte between each two.
+const TIME: usize = 8;
+
+/// How many bytes a year of four digits, a month and a day have, with a byte between each two.
+const DATE: usize = 10;
+
+/// Reads an hour, a minute and a second, and returns how many bytes they have.
+///
+/// Whether these are digits, and those between them the right ones, is seen when the text of the
+/// value is compared.
 #[inline(always)]
-fn two_after(text: &[u8], byte: u8) -> Option<(u8, &[u8])> {
-    two(after(text, byte)?)
+pub(crate) fn read_time(text: &[u8], fields: &mut Fields) -> Option<usize> {
+    let [a, b, _, c, d, _, e, f, ..] = text else {
+        return None;
+    };
+    fields.hour_24 = two(*a, *b);
+    fields.minute = two(*c, *d);
+    fields.second = two(*e, *f);
+    Some(TIME)
 }
 
-/// Reads an hour, a minute and a second.
+/// Reads a year, a month and a day, and returns how many bytes they have. They are compared later,
+/// as a time of day.
 #[inline(always)]
-pub(crate) fn read_time<'a>(
-    between: Separators,
-    text: &'a [u8],
-    fields: &mut Fields,
-) -> Option<&'a [u8]> {
-    let (hour, rest) = two(text)?;
-    let (minute, rest) = two_after(rest, between.first)?;
-    let (second, rest) = two_after(rest, between.second)?;
-    fields.hour_24 = hour;
-    fields.minute = minute;
-    fields.second = second;
-    Some(rest)
-}
-
-/// Reads a year, a month and a day.
-#[inline(always)]
-pub(crate) fn read_date<'a>(
-    between: Separators,
-    text: &'a [u8],
-    fields: &mut Fields,
-) -> Option<&'a [u8]> {
-    let (year, rest) = usual_year(text)?;
-    let (month, rest) = two_after(rest, between.first)?;
-    let (day, rest) = two_after(rest, between.second)?;
-    fields.year = year;
-    fields.month = month;
-    fields.day = day;
-    Some(rest)
-}
-
-/// A year of four digits, or one with a sign, before a byte that is no digit.
-#[inline(always)]
-fn usual_year(text: &[u8]) -> Option<(i32, &[u8])> {
-    match four(text) {
-        Some(read) => Some(read),
-        None => signed_year(text, Padding::Zero, 6, 0),
+pub(crate) fn read_date(text: &[u8], fields: &mut Fields) -> Option<usize> {
+    let [a, b, c, d, _, e, f, _, g, h, ..] = text else {
+        return None;
+    };
+    if !a.is_ascii_digit() {
+        return read_long_date(text, fields);
     }
+    fields.year = four(*a, *b, *c, *d);
+    fields.month = two(*e, *f);
+    fields.day = two(*g, *h);
+    Some(DATE)
+}
+
+/// Reads a year with a sign, a month and a day.
+#[inline(never)]
+fn read_long_date(text: &[u8], fields: &mut Fields) -> Option<usize> {
+    let count = signed_year(text, Padding::Zero, 6, 0, &mut fields.year)?;
+    let [_, a, b, _, c, d, ..] = text.get(count..)? else {
+        return None;
+    };
+    fields.month = two(*a, *b);
+    fields.day = two(*c, *d);
+    Some(count.saturating_add(DATE - 4))
+}
+
+/// What follows a year of four digits, or one with a sign, before a byte that is no digit.
+fn after_year(text: &[u8]) -> Option<&[u8]> {
+    let count = signed_year(text, Padding::Zero, 6, 0, &mut 0)?;
+    text.get(count..)
 }
 
 /// The parts of a run, the bytes between them, and what follows its first part in a text.
@@ -86,10 +94,7 @@ fn parts_of_date(between: Separators, text: &[u8]) -> Parts<'_> {
         second: Component::MonthNumerical(modifier::MonthNumerical { padding }),
         third: Component::Day(modifier::Day { padding }),
         between,
-        rest: match usual_year(text) {
-            Some((_, rest)) => Some(rest),
-            None => None,
-        },
+        rest: after_year(text),
     }
 }
 
@@ -101,11 +106,14 @@ fn parts_of_time(between: Separators, text: &[u8]) -> Parts<'_> {
         second: Component::Minute(modifier::Minute { padding }),
         third: Component::Second(modifier::Second { padding }),
         between,
-        rest: match two(text) {
-            Some((_, rest)) => Some(rest),
-            None => None,
-        },
+        rest: after_two(text),
     }
+}
+
+/// What follows two digits.
+fn after_two(text: &[u8]) -> Option<&[u8]> {
+    digits(text, 2)?;
+    text.get(2..)
 }
 
 /// A byte and two digits, and what follows them, or what is wrong.
@@ -116,8 +124,8 @@ fn two_or_stop(text: &[u8], byte: u8, part: Component) -> Result<&[u8], Stop> {
             reason: Reason::Literal(byte),
         });
     };
-    match two(rest) {
-        Some((_, rest)) => Ok(rest),
+    match after_two(rest) {
+        Some(rest) => Ok(rest),
         None => Err(Stop {
             left: rest.len(),
             reason: Reason::Component(part),

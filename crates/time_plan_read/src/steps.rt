@@ -1,26 +1,49 @@
 //! The steps of a text, one by one.
 ghost use Rattle.std.specs.Prelude.{◌≤◌, IfErr, length};
 
-use crate::behind::Behind;
+use crate::behind::has_digits;
 use crate::components::read_component;
 use crate::fault::{NotRead, Reason, Stop, not_read};
 use crate::fields::Fields;
-use crate::names::after_literal;
+use crate::names::{after_literal, behind};
 use crate::runs::{read_date, read_time, stop_of_run};
-use std::default::Default;
 use time_plan::{Literal, Run, Shown, Step};
 
-/// Reads the steps in order into the fields, and returns how many bytes are left.
+/// Reads the steps in order into the fields, and returns what follows them.
+///
+/// No step tells what is wrong with a text, and numbers of so many digits take any bytes:
+/// `checked_steps` tells what is wrong, once the text of the value was another one.
 #[inline(always)]
-pub(crate) fn read_steps(steps: &[Step], text: &[u8], fields: &mut Fields) -> Result<usize, NotRead>
+pub(crate) fn read_steps<'a>(
+    steps: &[Step],
+    text: &'a [u8],
+    fields: &mut Fields,
+) -> Option<&'a [u8]> {
+    let mut left = text;
+    let mut steps_left = steps;
+    'steps: while let [step, others @ ..] = steps_left {
+        left = read_step(step, others, left, fields)?;
+        steps_left = others;
+    }
+    Some(left)
+}
+
+/// The same, and how many bytes are left, or the first place where the text is none of the steps.
+#[cold]
+#[inline(never)]
+pub(crate) fn checked_steps(
+    steps: &[Step],
+    text: &[u8],
+    fields: &mut Fields,
+) -> Result<usize, NotRead>
     ensures { IfErr result (λ fault. fault.at ≤ length text.now) }
 {
     let mut left = text;
     let mut steps_left = steps;
     'steps: while let [step, others @ ..] = steps_left {
-        match read_step(step, others, left, fields) {
-            Some(rest) => left = rest,
-            None => return Err(not_read(text, stop_of_step(step, others, left))),
+        match checked_step(step, others, left, fields) {
+            Ok(rest) => left = rest,
+            Err(stop) => return Err(not_read(text, stop)),
         }
         steps_left = others;
     }
@@ -35,59 +58,61 @@ fn read_step<'a>(
     text: &'a [u8],
     fields: &mut Fields,
 ) -> Option<&'a [u8]> {
-    let rest = read_shown(step, others, text, fields)?;
-    after_literal(rest, &step.literal)
+    let count = read_shown(step, others, text, fields)?;
+    after_literal(behind(text, count)?, &step.literal)
 }
 
-/// The same, apart from the loop over a text.
-#[cold]
-#[inline(never)]
-pub(crate) fn read_step_apart<'a>(
-    step: &Step,
-    others: &[Step],
-    text: &'a [u8],
-    fields: &mut Fields,
-) -> Option<&'a [u8]> {
-    read_step(step, others, text, fields)
-}
-
-/// Reads what a step shows into the fields, and returns what follows it.
+/// Reads what a step shows into the fields, and returns how many bytes that has.
 #[inline(always)]
-fn read_shown<'a>(
-    step: &Step,
-    others: &[Step],
-    text: &'a [u8],
-    fields: &mut Fields,
-) -> Option<&'a [u8]> {
-    let behind = Behind {
-        literal: &step.literal,
-        steps: others,
-    };
+fn read_shown(step: &Step, others: &[Step], text: &[u8], fields: &mut Fields) -> Option<usize> {
     match &step.shown {
-        Shown::Component(component) => read_component(*component, behind, text, fields),
-        Shown::Run(Run::Empty) => Some(text),
-        Shown::Run(Run::Time(between)) => read_time(*between, text, fields),
-        Shown::Run(Run::Date(between)) => read_date(*between, text, fields),
+        Shown::Component(component) => read_component(component, step, others, text, fields),
+        Shown::Run(Run::Empty) => Some(0),
+        Shown::Run(Run::Time(_)) => read_time(text, fields),
+        Shown::Run(Run::Date(_)) => read_date(text, fields),
     }
 }
 
-/// Where a text is none of a step.
-#[cold]
+/// Reads a step as `read_step` does, or tells where the text is none of it.
 #[inline(never)]
-fn stop_of_step(step: &Step, others: &[Step], text: &[u8]) -> Stop {
-    let Some(rest) = read_shown(step, others, text, &mut Fields::default()) else {
-        return match &step.shown {
-            Shown::Component(component) => Stop {
-                left: text.len(),
-                reason: Reason::Component(*component),
-            },
-            Shown::Run(run) => stop_of_run(*run, text).unwrap_or(Stop {
-                left: text.len(),
-                reason: Reason::Otherwise,
-            }),
-        };
+pub(crate) fn checked_step<'a>(
+    step: &Step,
+    others: &[Step],
+    text: &'a [u8],
+    fields: &mut Fields,
+) -> Result<&'a [u8], Stop> {
+    if let Some(stop) = stop_of_digits(&step.shown, text) {
+        return Err(stop);
+    }
+    let read = read_shown(step, others, text, fields);
+    let Some(rest) = read.and_then(|count| behind(text, count)) else {
+        return Err(stop_of_shown(&step.shown, text));
     };
-    stop_of_literal(&step.literal, rest)
+    match after_literal(rest, &step.literal) {
+        Some(rest) => Ok(rest),
+        None => Err(stop_of_literal(&step.literal, rest)),
+    }
+}
+
+/// Where a text has other bytes in the place of digits, and of bytes between them, that are read in
+/// any case.
+fn stop_of_digits(shown: &Shown, text: &[u8]) -> Option<Stop> {
+    match shown {
+        Shown::Component(component) if has_digits(component.current(), text) => None,
+        Shown::Component(_) => Some(stop_of_shown(shown, text)),
+        Shown::Run(run) => stop_of_run(*run, text),
+    }
+}
+
+/// That a text does not begin with what a step shows.
+fn stop_of_shown(shown: &Shown, text: &[u8]) -> Stop {
+    Stop {
+        left: text.len(),
+        reason: match shown {
+            Shown::Component(component) => Reason::Component(*component),
+            Shown::Run(_) => Reason::Otherwise,
+        },
+    }
 }
 
 /// Where a text does not go on by a literal.

@@ -8,8 +8,8 @@ use std::default::Default;
 use time_below::{Date, OffsetDateTime, PlainDateTime, Time, Timestamp, UtcDateTime, UtcOffset};
 use time_fmt::ComponentProvider;
 
-/// A type whose values are read. What its methods answer is no part of what `Reader` promises: it writes the value
-/// that it is given, and compares.
+/// A type whose values are read. What its methods answer is no part of what `Reader` promises: it
+/// writes the value that it is given, and compares.
 pub trait Readable: ComponentProvider + Sized {
     /// Whether texts that show these components determine a value.
     fn is_determined(kinds: Kinds) -> bool;
@@ -32,7 +32,8 @@ fn fields_of(date: Date, time: Time) -> Fields {
     fields
 }
 
-/// With the components of a base value that complete a date and a time of day, unless texts show the moment.
+/// With the components of a base value that complete a date and a time of day, unless texts show
+/// the moment.
 fn with_moment(shown: Kinds) -> Kinds {
     if shown.have_moment() {
         shown
@@ -46,7 +47,7 @@ impl Readable for Date {
         kinds.have_date()
     }
 
-    #[inline]
+    #[inline(always)]
     fn of_fields(fields: &Fields, kinds: Kinds) -> Option<Date> {
         date_of(fields, kinds)
     }
@@ -67,7 +68,7 @@ impl Readable for Time {
         kinds.have_time()
     }
 
-    #[inline]
+    #[inline(always)]
     fn of_fields(fields: &Fields, kinds: Kinds) -> Option<Time> {
         time_of(fields, kinds)
     }
@@ -88,7 +89,7 @@ impl Readable for UtcOffset {
         kinds.have_offset()
     }
 
-    #[inline]
+    #[inline(always)]
     fn of_fields(fields: &Fields, _kinds: Kinds) -> Option<UtcOffset> {
         offset_of(fields)
     }
@@ -109,7 +110,7 @@ impl Readable for PlainDateTime {
         kinds.have_date() && kinds.have_time()
     }
 
-    #[inline]
+    #[inline(always)]
     fn of_fields(fields: &Fields, kinds: Kinds) -> Option<PlainDateTime> {
         Some(PlainDateTime::new(date_of(fields, kinds)?, time_of(fields, kinds)?))
     }
@@ -128,7 +129,7 @@ impl Readable for UtcDateTime {
         (kinds.have_date() && kinds.have_time()) || kinds.have_moment()
     }
 
-    #[inline]
+    #[inline(always)]
     fn of_fields(fields: &Fields, kinds: Kinds) -> Option<UtcDateTime> {
         if kinds.have_moment() {
             let moment = moment_of(fields, kinds)?;
@@ -151,7 +152,7 @@ impl Readable for Timestamp {
         (kinds.have_date() && kinds.have_time()) || kinds.have_moment()
     }
 
-    #[inline]
+    #[inline(always)]
     fn of_fields(fields: &Fields, kinds: Kinds) -> Option<Timestamp> {
         if kinds.have_moment() {
             return moment_of(fields, kinds);
@@ -175,7 +176,7 @@ impl Readable for OffsetDateTime {
         kinds.have_offset() && ((kinds.have_date() && kinds.have_time()) || kinds.have_moment())
     }
 
-    #[inline]
+    #[inline(always)]
     fn of_fields(fields: &Fields, kinds: Kinds) -> Option<OffsetDateTime> {
         let offset = offset_of(fields)?;
         if kinds.have_moment() {

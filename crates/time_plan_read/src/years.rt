@@ -2,40 +2,43 @@
 use crate::digits::{padded, sign};
 use time_below::format_description::modifier::Padding;
 
-/// A year, of at most so many digits behind a sign and of four without one.
+/// Reads a year, of at most so many digits behind a sign and of four without one, and returns how
+/// many bytes it has.
 #[inline(never)]
 pub(crate) fn signed_year(
     text: &[u8],
     padding: Padding,
     most: usize,
     behind: usize,
-) -> Option<(i32, &[u8])> {
-    let (is_negative, rest) = sign(text);
-    let most = match is_negative {
-        Some(_) => most,
-        None => 4,
+    year: &mut i32,
+) -> Option<usize> {
+    let (is_negative, width) = sign(text);
+    let most = if is_negative.is_some() { most } else { 4 };
+    let (number, count) = padded(text.get(width..)?, padding, 4, most, behind)?;
+    let found = (number % 1_000_000) as i32;
+    *year = if is_negative == Some(true) {
+        -found
+    } else {
+        found
     };
-    let (number, rest) = padded(rest, padding, 4, most, behind)?;
-    let year = (number % 1_000_000) as i32;
-    match is_negative {
-        Some(true) => Some((-year, rest)),
-        _ => Some((year, rest)),
-    }
+    Some(count.saturating_add(width))
 }
 
-/// A century, of at most so many digits behind a sign and of two without one, and whether it is negative.
+/// Reads a century, of at most so many digits behind a sign and of two without one, and whether it
+/// is negative, and returns how many bytes they have.
 #[inline(never)]
 pub(crate) fn century(
     text: &[u8],
     padding: Padding,
     most: usize,
     behind: usize,
-) -> Option<(bool, u16, &[u8])> {
-    let (is_negative, rest) = sign(text);
-    let most = match is_negative {
-        Some(_) => most,
-        None => 2,
-    };
-    let (number, rest) = padded(rest, padding, 2, most, behind)?;
-    Some((is_negative.unwrap_or(false), (number % 10_000) as u16, rest))
+    is_before_zero: &mut bool,
+    century: &mut u16,
+) -> Option<usize> {
+    let (is_negative, width) = sign(text);
+    let most = if is_negative.is_some() { most } else { 2 };
+    let (number, count) = padded(text.get(width..)?, padding, 2, most, behind)?;
+    *is_before_zero = is_negative.unwrap_or(false);
+    *century = (number % 10_000) as u16;
+    Some(count.saturating_add(width))
 }
