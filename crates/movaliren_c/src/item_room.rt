@@ -62,7 +62,7 @@ impl<'a> ItemRoom<'a> {
         store(self.array, 0, NO_ITEM);
     }
 
-    /// Adds an item behind all others, unless it is left out.
+    /// Adds an item after all others, unless it is left out.
     #[inline(always)]
     fn put(&mut self, item: Item)
         ensures put { (text : List ℕ) (fs : List Frame) (tree : Tree) → IsItem text item tree → flat tree ≡ tree ∷ []
@@ -111,7 +111,7 @@ fn one_more(count: usize, room: usize) -> usize
     }
 }
 
-/// Stores an item at a place of the array, if it has that place.
+/// Stores an item at a position of the array, if it has that position.
 #[inline(always)]
 fn store(array: &mut [Item], at: usize, item: Item)
     ensures stored { at < length array.old → array.new ≡ slice_set array.old at item }

@@ -3,7 +3,7 @@
 //!
 //! An export of one text returns the number of bytes at the start of the buffer, which are the whole
 //! text, or a negative number that names the error; the buffer is then unchanged. A batch returns how
-//! many texts are there, and why it stopped. `movaliren_items_max_length` returns a width, and the exports that end
+//! many texts are there, and why it stopped. `movaliren_items_max_length` returns a maximum length, and the exports that end
 //! in `_length` return the length of a text. No export has a condition, and none allocates.
 #![tactic(auto)]
 

@@ -1,4 +1,4 @@
-//! Times of log lines: what the texts of one second have in common is kept by the caller.
+//! Times of log lines: what the texts of one second have in common is cached by the caller.
 ghost use Rattle.std.specs.Prelude.{◌≡◌, ◌<◌, ◌≤◌, ◌+◌, ◌++◌, ◌⊎◌, IfOk, IsTrue, codes, drop, length, take};
 ghost use Rattle.movaliren_c.specs.Answer.{IsAnswer, IsWritten};
 ghost use Rattle.movaliren_c.specs.Chosen.{iso8601_by};
@@ -37,12 +37,12 @@ pub struct LogCache {
     pub head: [u8; 20],
     /// What stands after them.
     pub zone: [u8; 6],
-    /// How many bytes that has, or 0 where nothing is kept.
+    /// How many bytes that has, or 0 where nothing is cached.
     pub zone_len: u8,
 }
 
 /// The text of ISO 8601 of a moment by the default configuration with this many decimals, at an offset of
-/// this many seconds east of UTC. What is kept serves the moments of its second.
+/// this many seconds east of UTC. What is cached serves the moments of its second.
 #[unsafe(no_mangle)]
 pub extern "C" fn movaliren_log_time(
     cache: &mut LogCache,
@@ -63,7 +63,7 @@ pub extern "C" fn movaliren_log_time(
     log_anew(cache, decimals, seconds, nanosecond, offset, buffer)
 }
 
-/// The same by the configuration. First the second is kept, if it has texts. It is a call, so that a text by what is kept
+/// The same by the configuration. First the second is cached, if it has texts. It is a call, so that a text by what is cached
 /// saves no registers.
 #[cold]
 #[inline(never)]
@@ -84,7 +84,7 @@ fn log_anew(
     movaliren_iso8601_with_local(&config, seconds, nanosecond, offset, room)
 }
 
-/// Whether this second at this offset is kept.
+/// Whether this second at this offset is cached.
 #[inline(always)]
 fn is_kept(kept: &LogCache, seconds: i64, offset: i64) -> bool
     ensures second { IsTrue result → kept.now.second ≡ seconds }
@@ -120,7 +120,7 @@ fn log_config(decimals: u8) -> Iso8601Config
     }
 }
 
-/// Writes what is kept, with so many decimals of the nanosecond within it, if they fit.
+/// Writes what is cached, with so many decimals of the nanosecond within it, if they fit.
 #[inline(always)]
 fn write_kept(
     kept: &LogCache,
@@ -146,7 +146,7 @@ fn write_kept(
     Ok(count)
 }
 
-/// Overwrites the bytes of the buffer from a place on by the first three, six or nine decimals of a second.
+/// Overwrites the bytes of the buffer from a position on by the first three, six or nine decimals of a second.
 #[inline(always)]
 fn write_decimals(room: &mut [u8], at: usize, nanosecond: Nanoseconds, decimals: u8)
     requires few { decimals ≡ 3 ⊎ decimals ≡ 6 ⊎ decimals ≡ 9 }
@@ -176,7 +176,7 @@ fn put_decimals<B: Before>(room: &mut [u8], nanosecond: Nanoseconds, decimals: u
     };
 }
 
-/// Overwrites the bytes of the buffer from a place on by an offset. The compiler knows
+/// Overwrites the bytes of the buffer from a position on by an offset. The compiler knows
 /// its usual lengths, 1 and 6.
 #[inline(always)]
 #[tactic(auto, using(std::proofs::lemmas::List::take_all))]
@@ -193,7 +193,7 @@ fn write_zone(room: &mut [u8], at: usize, zone: &[u8])
     }
 }
 
-/// Keeps what the texts of the second have in common, if it has texts and is not kept.
+/// Caches what the texts of the second have in common, if it has texts and is not cached.
 fn keep_second(kept: &mut LogCache, seconds: i64, offset: i64)
     ensures { IsKept kept.old → IsKept kept.new }
 {

@@ -153,7 +153,7 @@ pub fn byte_item(byte: u8) -> Item
     }
 }
 
-/// The item of so many bytes of the text, from a place on.
+/// The item of so many bytes of the text, from a position on.
 #[inline(always)]
 #[tactic(auto, using(crate::proofs::ItemLemmas::text_is))]
 pub fn text_item(_text: &[u8], start: usize, len: usize) -> Item

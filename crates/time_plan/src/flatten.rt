@@ -12,7 +12,7 @@ use crate::step::Step;
 use std::alloc::{AllocError, Global};
 use time_below::format_description::{Component, Layer, Node};
 
-/// Adds the nodes in order. A date or a time of day is one step in the place of three.
+/// Adds the nodes in order. A date or a time of day is one step in place of three.
 #[cycle(flatten)]
 pub(crate) fn add_nodes<T: Node>(
     alloc: Global,
@@ -107,7 +107,7 @@ fn add_shown(alloc: Global, steps: &mut Vec<Step>, shown: Shown) -> Result<(), A
     Ok(())
 }
 
-/// Adds a literal to the last step, if that has none yet, or behind no component.
+/// Adds a literal to the last step, if that has none yet, or after no component.
 fn add_literal(
     alloc: Global,
     steps: &mut Vec<Step>,

@@ -1,4 +1,4 @@
-//! Plans: descriptions that are data, flattened once, with what is known of their texts kept.
+//! Plans: descriptions that are data, flattened once, with what is known of their texts cached.
 #![tactic(auto)]
 
 mod flatten;

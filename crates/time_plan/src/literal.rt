@@ -1,4 +1,4 @@
-//! A literal behind a component.
+//! A literal after a component.
 ghost use Rattle.std.specs.Prelude.{◌≡◌, [], IsTrue, IfOk, length};
 ghost use Rattle.time_plan.specs.Literal.{literal_bytes};
 

@@ -16,9 +16,9 @@ use time_below::format_description::{Layer, Metadata, Node};
 use time_fmt::{ComputeMetadata, Format, Formattable, Refused, make_room};
 use time_provide::ComponentProvider;
 
-/// A description that was made of a tree once, with its width kept.
+/// A description that was made of a tree once, with its maximum length cached.
 ///
-/// It has the tree's outcome for every value, its width and its guarantee of UTF-8. Dates and times cost
+/// It has the tree's outcome for every value, its maximum length and its guarantee of UTF-8. Dates and times cost
 /// less than half of what they cost by the tree, so a plan pays where it writes more than a few texts.
 #[derive(Drop)]
 pub struct Plan {
@@ -62,7 +62,7 @@ impl Plan {
         Ok(Plan::of_steps(steps))
     }
 
-    /// The steps, in order: a component or a run of them, and the literal behind it.
+    /// The steps, in order: a component or a run of them, and the literal after it.
     #[inline]
     pub fn steps(&self) -> &[Step]
         ensures outcome { ⟦<Plan as Formattable>⟧.outcome_of self.now ≡ trees_outcome (step_trees result.now) }
@@ -144,7 +144,7 @@ impl Formattable for Plan {
     }
 
     // This becomes part of the caller, so that no result lies in memory. No vector has room for the
-    // greatest `usize`, so that a greater width is refused too.
+    // greatest `usize`, so that a greater maximum length is refused too.
     #[inline]
     fn format_into<V: ComponentProvider>(
         &self,

@@ -11,7 +11,7 @@ ghost use Rattle.time_plan.specs.Steps.{IsAlike, Begins};
 use crate::shown::{Part, Run, Separators};
 use time_below::format_description::{Component, Layer, Node, component_width};
 
-/// The date or the time of day at the front of the nodes, and the nodes behind it.
+/// The date or the time of day at the front of the nodes, and the nodes after it.
 #[inline(always)]
 pub(crate) fn run_of<T: Node>(nodes: &[T]) -> Option<(Run, &[T])>
     ensures begins { IfSome result (λ found. Begins (trees (map T.tree nodes.now)) (run_tree found.0)
@@ -77,7 +77,7 @@ fn byte_of<T: Node>(node: &T) -> Option<u8>
     }
 }
 
-/// The current component in the place of a deprecated one, where it is as wide.
+/// The current component in place of a deprecated one, where its maximum length is the same.
 #[inline]
 pub(crate) fn kept_of(component: Component) -> Component
     ensures outcome { (f : Facts) → component_outcome result f ≡ component_outcome component f }
@@ -94,7 +94,7 @@ pub(crate) fn kept_of(component: Component) -> Component
     }
 }
 
-/// The current component in the place of any one, where it is as wide.
+/// The current component in place of any one, where its maximum length is the same.
 #[cold]
 fn current_if_as_wide(component: Component) -> Component
     ensures outcome { (f : Facts) → component_outcome result f ≡ component_outcome component f }

@@ -7,12 +7,12 @@ use crate::literal::Literal;
 use crate::shown::Shown;
 use time_below::format_description::Metadata;
 
-/// What is shown of a value, and the literal behind it.
+/// What is shown of a value, and the literal after it.
 #[derive(Drop)]
 pub struct Step {
     /// What is shown.
     pub shown: Shown,
-    /// What is written behind it.
+    /// What is written after it.
     pub literal: Literal,
     /// Whether the literal was a text.
     pub is_text: bool,
@@ -35,7 +35,7 @@ impl Step {
         }
     }
 
-    /// Whether there is plainly no literal behind what is shown.
+    /// Whether there is plainly no literal after what is shown.
     #[inline]
     pub(crate) fn has_no_literal(&self) -> bool
         ensures { IsTrue result → (literal_bytes self.now.literal ≡ []) × (self.now.is_text ≡ true) }
@@ -43,7 +43,7 @@ impl Step {
         self.is_text && self.literal.is_nothing()
     }
 
-    /// Puts another literal behind what is shown.
+    /// Puts another literal after what is shown.
     #[inline]
     pub(crate) fn end_with(&mut self, literal: Literal, is_text: bool)
         requires utf8 { is_text ≡ true → IsUtf8 (literal_bytes literal) }

@@ -178,7 +178,7 @@ pub fn end_shown<S: Sink, V: ComponentProvider>(
     }
 }
 
-/// Writes the literal behind a component, and returns the number of bytes. For more than two bytes the sink
+/// Writes the literal after a component, and returns the number of bytes. For more than two bytes the sink
 /// is taken out once more.
 #[inline(always)]
 fn write_literal<S: Sink>(output: &mut S, literal: &Literal) -> usize

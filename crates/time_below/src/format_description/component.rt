@@ -71,7 +71,7 @@ pub enum Component {
     Hour24(modifier::Hour24),
     /// The minute of the hour, 0 to 59, in two places.
     Minute(modifier::Minute),
-    /// The half of the day by two letters: before noon, or from noon on.
+    /// AM or PM by two letters: before noon, or from noon on.
     Period(modifier::Period),
     /// The second of the minute, 0 to 59, in two places.
     Second(modifier::Second),
@@ -125,7 +125,7 @@ macro_rules! one_of {
     ($($name:ident)+) => { $(Component::$name(_))|+ };
 }
 
-// A match with the width of each component that has the same one for all choices. The other arms follow.
+// A match with the maximum length of each component that has the same one for all choices. The other arms follow.
 macro_rules! width_of {
     ($component:expr, $($other:pat => $width:expr),+ $(,)?) => {
         match $component {
@@ -174,7 +174,7 @@ impl Component {
         }
     }
 
-    /// The current component in the place of a deprecated one; any other is itself.
+    /// The current component in place of a deprecated one; any other is itself.
     #[inline(always)]
     pub fn current(self) -> Component
         ensures converted { result ≡ current_component self }
@@ -193,7 +193,7 @@ impl Component {
 }
 
 /// The most bytes of the component's text, over all values. For a deprecated `Year` of the standard range
-/// it is the width of the extended range.
+/// it is that of the extended range.
 #[inline(always)]
 pub fn component_width(component: &Component) -> usize
     ensures { result ≡ component_width component.now }
@@ -208,7 +208,7 @@ pub fn component_width(component: &Component) -> usize
     )
 }
 
-/// A bound of the width, the same whatever the choices are, so that the compiler makes a table of it.
+/// A bound of the maximum length, the same whatever the choices are, so that the compiler makes a table of it.
 #[inline(always)]
 pub fn component_bound(component: &Component) -> usize
     ensures { component_width component.now ≤ result }

@@ -1,4 +1,4 @@
-//! The current component in the place of each deprecated one.
+//! The current component in place of each deprecated one.
 ghost use Rattle.std.specs.Prelude.{◌≡◌, IsTrue};
 ghost use Rattle.time_below.specs.Conversion.{current_component, is_current};
 

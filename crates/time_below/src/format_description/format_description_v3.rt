@@ -67,7 +67,7 @@ pub enum FormatDescriptionV3Inner<'a> {
     Hour24(modifier::Hour24),
     /// The minute of the hour, 0 to 59, in two places.
     Minute(modifier::Minute),
-    /// The half of the day by two letters: before noon, or from noon on.
+    /// AM or PM by two letters: before noon, or from noon on.
     Period(modifier::Period),
     /// The second of the minute, 0 to 59, in two places.
     Second(modifier::Second),

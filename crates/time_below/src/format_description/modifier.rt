@@ -241,7 +241,7 @@ pub struct Minute {
     pub padding: Padding,
 }
 
-/// The half of the day by two letters: before noon, or from noon on.
+/// AM or PM by two letters: before noon, or from noon on.
 #[derive(Debug, Clone, Copy, PartialEq, Eq)]
 pub struct Period {
     /// Whether the letters are capitals.

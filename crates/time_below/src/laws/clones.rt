@@ -27,7 +27,7 @@ pub fn clones_of_values()
     ensures timestamp { AreSame ⟦<Timestamp as Clone>⟧.is_clone }
 {}
 
-/// A clone of a name, or of a half of the day, is the same.
+/// A clone of a name, or of AM or PM, is the same.
 pub fn clones_of_names(
     month: Month,
     other: Month,
