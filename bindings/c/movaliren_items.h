@@ -76,7 +76,7 @@ enum movaliren_kind {
     MOVALIREN_KIND_HOUR = 24,
     /* The minute of the hour, 0 to 59, in two places. [padding] */
     MOVALIREN_KIND_MINUTE = 25,
-    /* The half of the day by two letters: before noon, or from noon on. [flag: upper case] */
+    /* AM or PM by two letters: before noon, or from noon on. [flag: upper case] */
     MOVALIREN_KIND_PERIOD = 26,
     /* The second of the minute, 0 to 59, in two places. [padding] */
     MOVALIREN_KIND_SECOND = 27,

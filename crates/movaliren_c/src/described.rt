@@ -33,7 +33,7 @@ use time_fmt::{
 };
 use time_provide::ComponentProvider;
 
-/// The greatest width or length that is returned. No buffer is so long.
+/// The greatest maximum length or length that is returned. No buffer is so long.
 pub const GREATEST_WIDTH: usize = 0x7fff_ffff_ffff_ffff;
 
 /// The bytes of the array that a text is written to at first, from which a short one is copied.
@@ -538,7 +538,7 @@ fn write_text<S: Sink>(output: &mut S, text: &[u8]) -> usize
     0
 }
 
-/// The width of the items, up to the greatest `isize`, or the reason of the first invalid item.
+/// The maximum length of the items, up to the greatest `isize`, or the first invalid item's reason.
 #[tactic(auto, using(crate::proofs::DescribedLemmas::summed_more))]
 fn width(items: &[Item], texts: &[u8]) -> Result<usize, Reason>
     ensures { result ≡ width_answer (trees_of texts.now items.now) }

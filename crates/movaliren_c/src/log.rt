@@ -40,7 +40,7 @@ pub struct LogCache {
     pub head: [u8; 20],
     /// What stands after them.
     pub zone: [u8; 6],
-    /// How many bytes that has, or 0 where nothing is kept.
+    /// How many bytes that has, or 0 where nothing is cached.
     pub zone_len: u8,
 }
 
@@ -175,7 +175,7 @@ fn put_decimals<B: Before>(room: &mut [u8], nanosecond: Nanoseconds, decimals: u
     };
 }
 
-/// Overwrites the bytes of the buffer from a place on by an offset. The compiler knows
+/// Overwrites the bytes of the buffer from a position on by an offset. The compiler knows
 /// its usual lengths, 1 and 6.
 #[tactic(auto, using(std::proofs::lemmas::List::take_all))]
 fn write_zone(room: &mut [u8], at: usize, zone: &[u8])
@@ -191,7 +191,7 @@ fn write_zone(room: &mut [u8], at: usize, zone: &[u8])
     }
 }
 
-/// Keeps what the texts of the second have in common, if it has texts and is not kept.
+/// Caches what the texts of the second have in common, if it has texts and is not cached.
 fn keep_second(kept: &mut LogCache, seconds: i64, offset: i64)
     ensures { IsKept kept.old → IsKept kept.new }
 {

@@ -73,7 +73,7 @@ fn lenient_flag(profile: Profile) -> u8
     }
 }
 
-/// The place of an error, as C sees it.
+/// The position of an error, as C sees it.
 fn place_of(error: NotRead) -> ReadError
     ensures { result ≡ place_of error }
 {
@@ -101,7 +101,7 @@ fn place_of(error: NotRead) -> ReadError
     }
 }
 
-/// Keeps the value, or the place where the text is none.
+/// Keeps the value, or the position where the text is none.
 fn keep<M: OfValue>(
     reading: Result<OffsetDateTime, NotRead>,
     moment: &mut M,

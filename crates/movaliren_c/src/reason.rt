@@ -34,13 +34,13 @@ pub enum Reason {
     OffsetSeconds = 10,
     /// The seconds of the moment are outside those of the years -999,999 to 999,999.
     MomentSeconds = 11,
-    /// The format has no place for the year, or the local date is outside -999,999 to 999,999.
+    /// The format cannot represent the year, or the local date is outside -999,999 to 999,999.
     FormatYear = 12,
-    /// The format has no place for the hours of the offset.
+    /// The format cannot represent the hours of the offset.
     FormatOffsetHour = 13,
-    /// The format has no place for the minutes of the offset.
+    /// The format cannot represent the minutes of the offset.
     FormatOffsetMinute = 14,
-    /// The format has no place for the seconds of the offset.
+    /// The format cannot represent the seconds of the offset.
     FormatOffsetSecond = 15,
     /// The value lacks a component.
     Insufficient = 16,
@@ -52,15 +52,15 @@ pub enum Reason {
     BadItem = 19,
     /// The text does not fit the buffer.
     BufferTooSmall = 20,
-    /// Memory was refused, or the width has reached the greatest `usize`. No call of C returns it.
+    /// Memory was refused, or the maximum length is the greatest `usize`. No call of C returns it.
     OutOfMemory = 21,
-    /// The format has no place for a component of another name. No call of C returns it.
+    /// The format cannot represent a component of another name. No call of C returns it.
     Other = 22,
     /// The text is none of its format.
     NotRead = 23,
     /// The text is no description.
     BadDescription = 24,
-    /// The description has more items than there is room for.
+    /// The description has more items than the array holds.
     ManyItems = 25,
 }
 

@@ -37,7 +37,7 @@ impl ParseError {
         }
     }
 
-    /// The lack of room for so many items.
+    /// An array that is too short for so many items.
     pub fn many(items: usize) -> ParseError
         ensures { result ≡ many items }
     {

@@ -32,7 +32,7 @@ pub enum Job {
 #[derive(Drop)]
 pub struct Task<'a> {
     pub job: Job,
-    /// The text behind which Unix time is looked for.
+    /// The text after which Unix time is looked for.
     pub after: Option<&'a str>,
     /// Lines are JSON, and stay so.
     pub is_json: bool,

@@ -127,7 +127,7 @@ fn run_by<F: Formattable + Drop>(rt: &HostRuntime, asked: &Asked, description: F
     }
 }
 
-/// Runs by RFC 3339, for which the text of a day is kept, at the clock of a place.
+/// Runs by RFC 3339, for which the text of a day is cached, at the clock of a place.
 fn run_days<P: Place + Drop>(rt: &HostRuntime, task: &Task, place: P) -> ExitCode {
     run(rt, task, Rfc3339InPlace::new(place))
 }

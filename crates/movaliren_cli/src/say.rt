@@ -146,7 +146,7 @@ impl Display for OneLine<'_> {
     }
 }
 
-/// Says why a description is wrong, and shows it with its place marked.
+/// Says why a description is wrong, and shows it with its position marked.
 fn show_mark(rt: &HostRuntime, text: &str, reason: impl Display + Drop, index: usize) -> ExitCode {
     let place = text
         .char_indices()
@@ -157,7 +157,7 @@ fn show_mark(rt: &HostRuntime, text: &str, reason: impl Display + Drop, index: u
     ExitCode::from(USAGE)
 }
 
-/// Says why a text is no description, and marks the place.
+/// Says why a text is no description, and marks the position.
 pub fn refuse_description(rt: &HostRuntime, text: &str, refusal: Refusal) -> ExitCode {
     match refusal {
         Refusal::Name => {

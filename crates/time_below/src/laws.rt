@@ -47,7 +47,7 @@ pub fn weekday_equality(a: Weekday, b: Weekday)
     ensures { IsTrue (⟦<Weekday as PartialEq>⟧.eq a b) ↔ (a ≡ b) }
 {}
 
-/// Two halves of the day are equal exactly if they are the same.
+/// Two values of AM or PM are equal exactly if they are the same.
 pub fn period_equality(a: Period, b: Period)
     ensures { IsTrue (⟦<Period as PartialEq>⟧.eq a b) ↔ (a ≡ b) }
 {}

@@ -61,7 +61,7 @@ impl Weekday {
         }
     }
 
-    /// The place in the week, 1 for Monday to 7 for Sunday.
+    /// The position in the week, 1 for Monday to 7 for Sunday.
     pub fn number_from_monday(self) -> u8
         ensures value { result ≡ days_from_monday self + 1 }
         ensures range { IsInRange 1 7 result }
@@ -69,7 +69,7 @@ impl Weekday {
         self as u8 + 1
     }
 
-    /// The place in a week that begins on Sunday, 1 for Sunday to 7 for Saturday.
+    /// The position in a week that begins on Sunday, 1 for Sunday to 7 for Saturday.
     pub fn number_from_sunday(self) -> u8
         ensures value { result ≡ days_from_sunday self + 1 }
         ensures range { IsInRange 1 7 result }

@@ -1,4 +1,4 @@
-//! Texts of RFC 3339 at the clock of a place, by the text of a day that is kept.
+//! Texts of RFC 3339 at the clock of a place, by the cached text of a day.
 ghost use Rattle.std.specs.Prelude.{◌≡◌, ◌+◌, ◌<◌, ◌≤◌, ◌++◌, ◌-ℤ◌, ◌≤ℤ◌, ◌<ℤ◌, ℕ, List, Option, IfOk, IsTrue, codes, true, false, length, pos, unsigned_abs};
 ghost use Rattle.time_below.specs.Moment.{IsMoment, IsNearTimestampSecond, IsTimestampSecond, moved, utc_date};
 ghost use Rattle.time_below.specs.Offset.{IsOffset, Offset};
@@ -27,8 +27,8 @@ const LENGTH: usize = 11;
 /// The most bytes of a text of RFC 3339.
 const WIDTH: usize = 35;
 
-/// The texts of RFC 3339 by the clock of a place. The text of the last day is kept, so that another moment
-/// of that day costs a copy of it, a time of day and an offset. What is kept changes no byte of any text.
+/// The texts of RFC 3339 by the clock of a place. The text of the last day is cached, so that another moment
+/// of that day costs a copy of it, a time of day and an offset. What is cached changes no byte of any text.
 #[derive(Drop)]
 pub struct Rfc3339InPlace<P: Place + Drop> {
     pub place: P,
@@ -94,7 +94,7 @@ impl DayText {
         Ok(true)
     }
 
-    /// The same by the description, after which the text of the moment's day is kept.
+    /// The same by the description, after which the text of the moment's day is cached.
     #[cold]
     #[inline(never)]
     fn append_anew(

@@ -2,7 +2,7 @@
 ghost use Rattle.std.specs.Prelude.{◌≡◌, ◌≤◌, ◌==◌, length, false, not, ◌&&◌, if◌then◌else◌};
 ghost use Rattle.time_lines.specs.Json.{ends_in_string, has_exponent, is_value_at, quotes_if};
 
-/// Whether the next place is inside of a string of JSON, which a quote begins and ends unless it is escaped.
+/// Whether the next position is inside of a string of JSON, which a quote begins and ends unless it is escaped.
 #[inline(always)]
 fn inside_after(inside: bool, escaped: bool, byte: u8) -> bool
     ensures { result ≡ (if (byte == 34) && not escaped then not inside else inside) }

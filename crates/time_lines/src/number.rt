@@ -82,7 +82,7 @@ fn is_time(numbers: &Numbers, count: usize) -> bool
     count >= numbers.least && unit_of(numbers.unit, count).is_some()
 }
 
-/// Whether a digit stands before this place, or a point behind a digit.
+/// Whether a digit stands before this position, or a point after a digit.
 #[inline(always)]
 fn goes_on(line: &[u8], at: usize) -> bool
     requires { at ≤ length line.now }
@@ -92,7 +92,7 @@ fn goes_on(line: &[u8], at: usize) -> bool
         || at >= 2 && line[at - 1] == b'.' && line[at - 2].is_ascii_digit()
 }
 
-/// The first place from this one on where a digit stands, or where fewer than sixteen bytes are left.
+/// The first position from this one on where a digit stands, or where fewer than sixteen bytes are left.
 #[inline(always)]
 fn past_blocks(line: &[u8], from: usize) -> usize
     requires { from ≤ length line.now }
@@ -111,7 +111,7 @@ fn past_blocks(line: &[u8], from: usize) -> usize
     at
 }
 
-/// The first place from this one on where a digit stands, or the end of the line.
+/// The first position from this one on where a digit stands, or the end of the line.
 #[inline(always)]
 fn next_digit(line: &[u8], from: usize) -> usize
     requires { from ≤ length line.now }
@@ -137,7 +137,7 @@ fn is_number(line: &[u8], at: usize, count: usize, numbers: &Numbers) -> bool
     count > 0 && is_time(numbers, count) && !goes_on(line, at)
 }
 
-/// Where the first time begins from this place on, and how many digits it has.
+/// Where the first time begins from this position on, and how many digits it has.
 #[inline(always)]
 fn number_from(line: &[u8], numbers: &Numbers, from: usize) -> Option<(usize, usize)>
     requires inside { from ≤ length line.now }
@@ -188,7 +188,7 @@ fn first_number(line: &[u8], numbers: &Numbers) -> Option<(usize, usize)>
     number_from(line, numbers, 0)
 }
 
-/// Where the first time begins from this place on, and how many digits it has.
+/// Where the first time begins from this position on, and how many digits it has.
 #[inline(always)]
 pub(crate) fn number_start(line: &[u8], numbers: &Numbers, from: usize) -> Option<(usize, usize)>
     requires from { from ≤ length line.now }
@@ -206,7 +206,7 @@ pub(crate) fn number_start(line: &[u8], numbers: &Numbers, from: usize) -> Optio
     }
 }
 
-/// Whether a minus sign of a number stands before this place.
+/// Whether a minus sign of a number stands before this position.
 pub(crate) fn has_minus(line: &[u8], at: usize) -> bool
     requires { at ≤ length line.now }
     ensures tells { result ≡ has_minus line.now at }
@@ -215,7 +215,7 @@ pub(crate) fn has_minus(line: &[u8], at: usize) -> bool
     at >= 1 && line[at - 1] == b'-' && (at == 1 || !line[at - 2].is_ascii_alphanumeric())
 }
 
-/// The decimals behind a point with which the text begins, which may be none.
+/// The decimals after a point with which the text begins, which may be none.
 pub(crate) fn decimals_of(text: &[u8]) -> &[u8]
     ensures decimals { result.now ≡ decimals_of text.now }
     ensures digits { list_all is_ascii_digit result.now ≡ true }

@@ -5,7 +5,7 @@ ghost use Rattle.time_lines.specs.Passed.{first_kept, one_more, up};
 /// Why a line passed as it was.
 #[derive(Clone, Copy, Debug, PartialEq, Eq)]
 pub enum Why {
-    /// The text behind which a time is looked for is not in it.
+    /// The text after which a time is looked for is not in it.
     NoPlace,
     /// It has no time.
     NoTime,

@@ -10,7 +10,7 @@ use std::simd::prelude::*;
 /// How many bytes are looked at together.
 pub(crate) const LANES: usize = 16;
 
-/// The place of the lowest bit that is set, and the number of bytes where none is.
+/// The position of the lowest bit that is set, and the number of bytes where none is.
 #[inline(always)]
 fn first_set(mask: u64) -> usize
     ensures { result ≡ (if mask == 0 then 16 else trailing_zeros w64 mask) }

@@ -27,7 +27,7 @@ use time_below::Timestamp;
 pub struct UnixJob<'a, S: Shown + Drop> {
     pub shown: S,
     pub numbers: Numbers,
-    /// The text behind whose first occurrence times are looked for, if one is asked for.
+    /// The text after whose first occurrence times are looked for, if one is asked for.
     pub after: Option<Finder<'a>>,
     pub passed: Passed,
 }
@@ -53,7 +53,7 @@ fn first_place(is_negative: bool, start: usize) -> usize
 }
 
 /// Appends some bytes, what is shown of the moment with the marks on both sides, and what follows it. Where there
-/// is no moment, or nothing is shown of it, its own text is appended in the place of these. Says whether a text
+/// is no moment, or nothing is shown of it, its own text is appended in place of these. Says whether a text
 /// took that place.
 #[inline(always)]
 pub(crate) fn append_replaced<S: Shown>(
@@ -179,7 +179,7 @@ fn found_number(numbers: &Numbers, line: &[u8], start: usize, count: usize) -> F
     }
 }
 
-/// The bytes from one place to another, and none where the second one comes before the first.
+/// The bytes from one position to another, and none where the second one comes before the first.
 #[inline(always)]
 fn between(line: &[u8], at: usize, to: usize) -> &[u8]
     requires { to ≤ length line.now }
@@ -188,8 +188,8 @@ fn between(line: &[u8], at: usize, to: usize) -> &[u8]
     if at <= to { &line[at..to] } else { &[] }
 }
 
-/// Appends what becomes of a line from a place to the end of its number, which has so many digits from another
-/// place on.
+/// Appends what becomes of a line from a position to the end of its number, which has so many digits from a
+/// second position on.
 #[inline(always)]
 fn append_piece<S: Shown>(
     shown: &mut S,
@@ -261,7 +261,7 @@ fn append_first<S: Shown>(
     }
 }
 
-/// Appends what becomes of a line from a place on, where at most so many numbers are replaced. Says whether
+/// Appends what becomes of a line from a position on, where at most so many numbers are replaced. Says whether
 /// a text took the place of one.
 #[inline(never)]
 fn append_rest<S: Shown>(
@@ -293,7 +293,7 @@ fn append_rest<S: Shown>(
     Ok(is_any_shown)
 }
 
-/// Appends what becomes of a line behind its first number, which came out so: what follows it, or what becomes of
+/// Appends what becomes of a line after its first number, which came out so: what follows it, or what becomes of
 /// that where each number is replaced. Says why the line passed as it was, if it did.
 #[inline(always)]
 fn append_behind<S: Shown>(
@@ -319,7 +319,7 @@ fn append_behind<S: Shown>(
     Ok(if is_any_shown { None } else { first.stays })
 }
 
-/// Why a line has no time from this place on.
+/// Why a line has no time from this position on.
 #[cold]
 #[inline(never)]
 fn why_none(numbers: &Numbers, line: &[u8], from: usize) -> Why
@@ -335,7 +335,7 @@ fn why_none(numbers: &Numbers, line: &[u8], from: usize) -> Why
     }
 }
 
-/// Appends what a line becomes whose times are looked for from this place on. Says why the line passed as it was,
+/// Appends what a line becomes whose times are looked for from this position on. Says why the line passed as it was,
 /// if it did.
 #[inline(always)]
 fn append_from<S: Shown>(
@@ -359,7 +359,7 @@ fn append_from<S: Shown>(
     append_behind(shown, numbers, output, line, &first)
 }
 
-/// From which place on times of the line are looked for, if the text behind which they stand is in it.
+/// From which position on times of the line are looked for, if the text after which they stand is in it.
 #[inline(always)]
 fn from_place(after: &Option<Finder<'_>>, line: &[u8]) -> Option<usize>
     ensures from { LooksFrom after.now line.now result }

@@ -14,7 +14,7 @@ use crate::step::Step;
 use std::alloc::{AllocError, Global};
 use time_below::format_description::{Component, Layer, Node};
 
-/// Adds the nodes in order. A date or a time of day is one step in the place of three.
+/// Adds the nodes in order. A date or a time of day is one step in place of three.
 #[cycle(flatten)]
 pub(crate) fn add_nodes<T: Node>(
     alloc: Global,

@@ -96,7 +96,7 @@ pub(crate) fn kept_of(component: Component) -> Component
     }
 }
 
-/// The current component in the place of any one, where it is as wide.
+/// The current component in place of any one, where its maximum length is the same.
 #[cold]
 fn current_if_as_wide(component: Component) -> Component
     ensures outcome { (f : Facts) → component_outcome result f ≡ component_outcome component f }

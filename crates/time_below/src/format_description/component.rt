@@ -178,7 +178,7 @@ impl Component {
         }
     }
 
-    /// The current component in the place of a deprecated one; any other is itself.
+    /// The current component in place of a deprecated one; any other is itself.
     #[inline(always)]
     pub fn current(self) -> Component
         ensures converted { result ≡ current_component self }

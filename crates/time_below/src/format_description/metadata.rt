@@ -48,7 +48,7 @@ impl Default for Metadata {
     }
 }
 
-/// One text after another. The sum of the widths stops at the greatest `usize`.
+/// One text after another. The sum of the maximum lengths stops at the greatest `usize`.
 impl Add for Metadata {
     type Output = Metadata;
 
