@@ -58,7 +58,7 @@ ROWS = [
     ("`unix --all`", ["unix", "--all"], RANGE, None, 918),
     ("`read '%H:%M:%S'`", ["read", "%H:%M:%S"], DOCKER, 600, 643),
     ("`read --zone Europe/Berlin`", ["read", "--zone", "Europe/Berlin"], DOCKER, 600, 656),
-    ("`read --from clf`", ["read", "--from", "clf"], Access, 900, 900),
+    ("`read --from clf`", ["read", "--from", "clf"], Access, 900, 1687),
     ("`now`", ["now"], PLAIN, 120, 120),
 ]
 

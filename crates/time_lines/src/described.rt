@@ -163,8 +163,17 @@ fn read_row<Z: Zone>(row: &FormRow<'_>, zone: &Z, years: &Years, text: &[u8]) ->
     Some(front)
 }
 
-/// The text of the first form that reads one at the front of a text.
+/// Whether a text may begin so, where there is one form.
 #[inline(always)]
+fn may_begin(forms: &[FormRow<'_>], text: &[u8]) -> bool {
+    match forms {
+        [row] => row.begins.may_begin(text),
+        _ => true,
+    }
+}
+
+/// The text of the first form that reads one at the front of a text.
+#[inline(never)]
 fn read_forms<Z: Zone>(forms: &[FormRow<'_>], zone: &Z, years: &Years, text: &[u8]) -> Option<Front>
     ensures { IfSome result (ReadsOneOf (Z.has_moment zone.now)
         years.now forms.now text.now) }
@@ -185,6 +194,9 @@ impl<Z: Zone + Drop> Reads for Described<'_, Z> {
 
     #[inline(always)]
     fn read_front(&mut self, text: &[u8]) -> Option<Front> {
+        if !may_begin(self.forms.as_slice(), text) {
+            return None;
+        }
         read_forms(self.forms.as_slice(), &self.zone, &self.years, text)
     }
 }

@@ -28,6 +28,7 @@ pub trait Reads {
 }
 
 /// The moment of the value, if its year is in range.
+#[inline(always)]
 pub(crate) fn moment_of_value(value: OffsetDateTime) -> Option<Timestamp>
     ensures some { IfSome result (λ m. (m ≡ local_moment value) × IsMoment m) }
     ensures none { IfNone result (¬ IsMoment (local_moment value)) }

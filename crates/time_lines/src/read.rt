@@ -112,6 +112,7 @@ fn first_text<R: Reads>(reader: &mut R, line: &[u8]) -> Option<FoundText>
 
 /// Appends the line with what is shown of the moment of a text of it in place of the text. Says whether a
 /// text took its place.
+#[inline(always)]
 fn append_found<S: Shown>(
     shown: &mut S,
     output: &mut Vec<u8>,
