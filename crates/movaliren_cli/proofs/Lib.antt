@@ -1,1 +1,2 @@
+pub mod LocalTimeLemmas
 mod OffsetTextLemmas

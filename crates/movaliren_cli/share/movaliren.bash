@@ -7,19 +7,23 @@ _movaliren() {
         return
     fi
     case $before in
-        --zone | -z)
+        --zone | -z | --from-zone)
             mapfile -t COMPREPLY < <(
                 cd "${TZDIR:-/usr/share/zoneinfo}" 2>/dev/null &&
                     compgen -W "$(find . -type f ! -name '*.*' ! -path './right/*' ! -path './posix/*' -printf '%P\n')" -- "$word"
             )
             return
             ;;
-        --offset | --digits | -d | --after | -a) return ;;
+        --from | -f)
+            mapfile -t COMPREPLY < <(compgen -W "rfc3339 clf syslog log4j rfc2822 iso8601" -- "$word")
+            return
+            ;;
+        --offset | --year | --digits | -d | --after | -a) return ;;
     esac
     options="--utc --offset --zone --local --help"
     case $job in
         unix) options+=" --after --all --json --digits --seconds --milliseconds --microseconds --nanoseconds --quiet" ;;
-        read) options+=" --json --quiet" ;;
+        read) options+=" --from --from-zone --year --json --quiet" ;;
     esac
     if [[ $word == -* ]]; then
         mapfile -t COMPREPLY < <(compgen -W "$options" -- "$word")

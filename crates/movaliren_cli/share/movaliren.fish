@@ -11,7 +11,7 @@ set -l jobs now unix read
 complete -c movaliren -f
 complete -c movaliren -n __fish_use_subcommand -a now -d 'Put the time before each line'
 complete -c movaliren -n __fish_use_subcommand -a unix -d 'Replace Unix time in each line'
-complete -c movaliren -n __fish_use_subcommand -a read -d 'Replace a text of RFC 3339 in each line'
+complete -c movaliren -n __fish_use_subcommand -a read -d 'Replace a text that is a time in each line'
 complete -c movaliren -n __fish_use_subcommand -a help -d 'Print help'
 complete -c movaliren -n __fish_use_subcommand -s V -l version -d 'Print the version'
 complete -c movaliren -s h -l help -d 'Print help'
@@ -25,6 +25,9 @@ complete -c movaliren -n "__fish_seen_subcommand_from unix" -s d -l digits -x -d
 complete -c movaliren -n "__fish_seen_subcommand_from unix read" -F
 complete -c movaliren -n "__fish_seen_subcommand_from unix" -s a -l after -x -d 'Look for numbers behind a text'
 complete -c movaliren -n "__fish_seen_subcommand_from unix" -l all -d 'Replace each number'
+complete -c movaliren -n "__fish_seen_subcommand_from read" -s f -l from -x -a 'rfc3339 clf syslog log4j rfc2822 iso8601' -d 'Read the texts of a description'
+complete -c movaliren -n "__fish_seen_subcommand_from read" -l from-zone -x -a '(__movaliren_zones)' -d 'The zone of texts without an offset'
+complete -c movaliren -n "__fish_seen_subcommand_from read" -l year -x -d 'The year of texts without one'
 complete -c movaliren -n "__fish_seen_subcommand_from unix read" -s j -l json -d 'Keep lines of JSON JSON'
 complete -c movaliren -n "__fish_seen_subcommand_from unix" -l seconds -d 'Numbers are seconds'
 complete -c movaliren -n "__fish_seen_subcommand_from unix" -l milliseconds -d 'Numbers are milliseconds'

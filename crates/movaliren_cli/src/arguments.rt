@@ -1,5 +1,5 @@
 //! What the words of the command line ask for.
-use crate::description;
+use crate::{description, reading};
 use clap::builder::ValueParser;
 use clap::{Arg, ArgAction, ArgMatches, Command, Error};
 use std::alloc::{AllocError, Global};
@@ -24,8 +24,21 @@ pub enum Job {
     Now,
     /// Its first number that is Unix time, or each, is replaced.
     Unix(Numbers),
-    /// Its first text of RFC 3339 is replaced.
+    /// Its first text that is read is replaced.
     Read,
+}
+
+/// The texts that are read.
+#[derive(Clone, Copy)]
+pub struct Texts<'a> {
+    /// Their description, or its name.
+    pub from: &'a str,
+    /// Where the clock stands of which they are, if they show no offset.
+    pub clock: Clock<'a>,
+    /// The clock is asked for by a name of its own.
+    pub has_own_clock: bool,
+    /// Their year, if they show none.
+    pub year: Option<i32>,
 }
 
 /// What is done with the lines of a run.
@@ -34,6 +47,8 @@ pub struct Task<'a> {
     pub job: Job,
     /// The text after which Unix time is looked for.
     pub after: Option<&'a str>,
+    /// The texts that are read.
+    pub texts: Texts<'a>,
     /// Lines are JSON, and stay so.
     pub is_json: bool,
     /// Nothing is said of lines that passed as they were.
@@ -77,6 +92,31 @@ Descriptions:
   unix           1700000000, always seconds since 1970
   a text with %  as of strftime: '%Y-%m-%d %H:%M:%S'
   a text with [  '[year]-[month]-[day] [hour]:[minute]'";
+
+const READ_DESCRIPTIONS: &str = "\
+Descriptions:
+  rfc3339        2023-11-14T22:13:20.123Z
+  rfc2822        Tue, 14 Nov 2023 22:13:20 +0000
+  iso8601        2023-11-14T22:13:20.123000000Z
+  stamp          the same, always in UTC: sorts as the moments do
+  unix           1700000000, always seconds since 1970
+  a text with %  as of strftime: '%Y-%m-%d %H:%M:%S'
+  a text with [  '[year]-[month]-[day] [hour]:[minute]'
+
+Any other word is a file, as is each word behind the first one; - is standard input.
+
+Texts that --from reads:
+  rfc3339        2023-11-14T22:13:20.123Z, of any number of decimals
+  clf            14/Nov/2023:22:13:20 +0000, of nginx and Apache
+  syslog         Nov 14 22:13:20
+  log4j          2023-11-14 22:13:20,123, also of Python's logging
+  rfc2822        Tue, 14 Nov 2023 22:13:20 +0000, of mail
+  iso8601        2023-11-14T22:13:20,123+0000, of none, 3, 6 or 9 decimals
+  a text with % or [, in which times stand as that text writes them
+
+A time without an offset is that of --from-zone. One that its clocks skip is read
+by the offset before the change, and of one that they show twice the first is taken.
+A time without a year is of the latest year in which it is at most a day after now.";
 
 /// What follows the name of an option.
 struct Takes {
@@ -123,6 +163,21 @@ const DIGIT_COUNT: Takes = Takes {
     names: &["N"],
     is_signed: false,
     parser: ValueParser::Signed(1, 19),
+};
+
+/// A year.
+const YEAR_NUMBER: Takes = Takes {
+    action: ArgAction::Set,
+    names: &["N"],
+    is_signed: true,
+    parser: ValueParser::Signed(-9_999, 9_999),
+};
+
+const DESCRIPTION_TEXT: Takes = Takes {
+    action: ArgAction::Set,
+    names: &["DESCRIPTION"],
+    is_signed: false,
+    parser: ValueParser::String,
 };
 
 /// An option of the command line.
@@ -244,6 +299,30 @@ const QUIET: OptionRow = OptionRow {
     help: "Does not print how many lines passed as they were",
 };
 
+const FROM: OptionRow = OptionRow {
+    name: "from",
+    letter: Some('f'),
+    groups: &[],
+    takes: DESCRIPTION_TEXT,
+    help: "Reads the texts of a description: rfc3339 (the default), clf, syslog, log4j, rfc2822, iso8601, or a text with % or [",
+};
+
+const FROM_ZONE: OptionRow = OptionRow {
+    name: "from-zone",
+    letter: None,
+    groups: &[],
+    takes: NAME_TEXT,
+    help: "The zone of texts without an offset, as UTC or Europe/Berlin [default: the one that is shown]",
+};
+
+const YEAR: OptionRow = OptionRow {
+    name: "year",
+    letter: None,
+    groups: &[],
+    takes: YEAR_NUMBER,
+    help: "The year of texts without one [default: the latest in which the time is at most a day after now]",
+};
+
 /// A job, what it does, and its options.
 struct JobRow {
     name: &'static str,
@@ -285,10 +364,12 @@ const JOBS: &[JobRow] = &[
     },
     JobRow {
         name: "read",
-        about: "Replaces the first text of RFC 3339 of each line, such as 2023-11-14T22:13:20Z",
-        options: &[&UTC, &OFFSET, &ZONE, &LOCAL, &READ_JSON, &QUIET],
+        about: "Replaces the first text of each line that is a time, by default one of RFC 3339 such as 2023-11-14T22:13:20Z",
+        options: &[
+            &UTC, &OFFSET, &ZONE, &LOCAL, &FROM, &FROM_ZONE, &YEAR, &READ_JSON, &QUIET,
+        ],
         takes_files: true,
-        descriptions: DESCRIPTIONS,
+        descriptions: READ_DESCRIPTIONS,
     },
 ];
 
@@ -402,6 +483,20 @@ fn job_of(name: &str, words: &ArgMatches<'_>) -> Job {
     }
 }
 
+/// The texts that are read. Where no zone is named for them, they are of the clock that is shown.
+fn texts_of<'a>(matches: &ArgMatches<'a>) -> Texts<'a> {
+    let (clock, has_own_clock) = match matches.get_str("from-zone") {
+        Some(name) => (Clock::Zone(name), true),
+        None => (clock_of(matches), false),
+    };
+    Texts {
+        from: matches.get_str("from").unwrap_or(reading::USUAL),
+        clock,
+        has_own_clock,
+        year: matches.get_one::<i32>("year"),
+    }
+}
+
 /// The description and the files of the words that need no name. Where a job takes files, the first word is a
 /// description if it is the name of a format or has a bracket or a percent sign, and else a file.
 fn words_of<'a>(
@@ -437,6 +532,7 @@ fn asked_of<'a>(
         task: Task {
             job: job_of(name, words),
             after: words.get_str("after"),
+            texts: texts_of(words),
             is_json: words.get_flag("json"),
             is_quiet: words.get_flag("quiet"),
             files,

@@ -3,6 +3,7 @@ use crate::arguments::Clock;
 use crate::zone::{Zone, read_system, read_zone};
 use crate::{offset, say};
 use jiff_core::Error;
+use jiff_tz::TimeZone;
 use std::process::ExitCode;
 
 /// The clock that is asked for, whose zone was read.
@@ -10,6 +11,16 @@ use std::process::ExitCode;
 pub enum FoundClock {
     Utc,
     Zone(Zone),
+}
+
+impl FoundClock {
+    /// The zone of the clock.
+    pub fn as_time_zone(&self) -> TimeZone<'_> {
+        match self {
+            FoundClock::Utc => TimeZone::UTC,
+            FoundClock::Zone(zone) => zone.as_time_zone(),
+        }
+    }
 }
 
 /// The clock at the offset that the text is.

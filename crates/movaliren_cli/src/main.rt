@@ -2,7 +2,7 @@
 //!
 //! `movaliren now` puts before each line the moment at which it was read. `movaliren unix` replaces the
 //! first number of each line that is Unix time, or each, by its text. `movaliren read` does so with the first text
-//! of RFC 3339.
+//! of RFC 3339 or of a description.
 #![tactic(auto)]
 
 mod arguments;
@@ -10,6 +10,7 @@ mod clock;
 mod description;
 mod offset;
 mod place;
+mod reading;
 mod say;
 mod sources;
 mod streams;
@@ -20,7 +21,8 @@ use clock::FoundClock;
 use description::Format;
 use line_streams::{FilterError, LineJob, StandardStreams};
 use memchr::memmem::Finder;
-use place::InZone;
+use place::{InZone, LocalIn};
+use reading::Plans;
 use say::{fail, refuse};
 use std::alloc::AllocError;
 use std::default::Default;
@@ -32,7 +34,8 @@ use time_fmt::parts::UNIX_TIMESTAMP;
 use time_jiff::ZoneClock;
 use time_known::{Iso8601, Rfc2822};
 use time_lines::{
-    InPlace, InUtc, NowJob, Numbers, Passed, Place, ReadJob, Rfc3339InPlace, Shown, UnixJob, Utc,
+    Described, FormRow, InPlace, InUtc, NowJob, Numbers, Passed, Place, ReadJob, Reads,
+    Rfc3339InPlace, Shown, UnixJob, Utc, Years,
 };
 use time_read::LenientReader;
 
@@ -76,14 +79,77 @@ fn run_unix<S: Shown + Drop>(
     sources::run(rt, task, &mut job)
 }
 
-/// Replaces the first text of RFC 3339 of each line.
-fn run_read<S: Shown + Drop>(rt: &HostRuntime, task: &Task, shown: S) -> ExitCode {
+/// Replaces the first text of each line that a reader reads.
+fn run_reader<S: Shown + Drop, R: Reads + Drop>(
+    rt: &HostRuntime,
+    task: &Task,
+    shown: S,
+    reader: R,
+) -> ExitCode {
     let mut job = ReadJob {
         shown,
-        reader: LenientReader::new(),
+        reader,
         passed: Passed::new(),
     };
     sources::run(rt, task, &mut job)
+}
+
+/// Replaces the first text of each line that one of the forms has, where years are these, in the zone that is asked
+/// for.
+fn run_forms<S: Shown + Drop>(
+    rt: &HostRuntime,
+    task: &Task,
+    shown: S,
+    forms: Vec<FormRow<'_>>,
+    years: Years,
+) -> ExitCode {
+    if task.texts.has_own_clock && !reading::are_local(forms.as_slice()) {
+        return refuse(rt, "'--from-zone' is for texts without an offset");
+    }
+    if task.texts.year.is_some() && !reading::are_yearless(forms.as_slice()) {
+        return refuse(rt, "'--year' is for texts without a year");
+    }
+    let found = match clock::find(rt, task.texts.clock) {
+        Ok(found) => found,
+        Err(status) => return status,
+    };
+    let zone = LocalIn(found.as_time_zone());
+    let reader = Described { forms, years, zone };
+    run_reader(rt, task, shown, reader)
+}
+
+/// Replaces the first text of each line that is one of the description that is asked for.
+fn run_described_texts<S: Shown + Drop>(rt: &HostRuntime, task: &Task, shown: S) -> ExitCode {
+    let alloc = rt.alloc();
+    let Ok(now) = Timestamp::now(rt) else {
+        return fail(rt, Err(FilterError::Job));
+    };
+    let years = match task.texts.year {
+        Some(year) => Years::One(year),
+        None => Years::before_day_after(now),
+    };
+    let plans = match Plans::of(alloc, task.texts.from) {
+        Ok(plans) => plans,
+        Err(refused) => return say::refuse_texts(rt, task.texts.from, refused),
+    };
+    match plans.forms(alloc, now.date()) {
+        Ok(forms) => run_forms(rt, task, shown, forms, years),
+        Err(refused) => say::refuse_texts(rt, task.texts.from, refused),
+    }
+}
+
+/// Replaces the first text of each line that is read.
+fn run_read<S: Shown + Drop>(rt: &HostRuntime, task: &Task, shown: S) -> ExitCode {
+    if task.texts.from != reading::USUAL {
+        return run_described_texts(rt, task, shown);
+    }
+    if task.texts.has_own_clock {
+        return refuse(rt, "'--from-zone' is for texts without an offset");
+    }
+    if task.texts.year.is_some() {
+        return refuse(rt, "'--year' is for texts without a year");
+    }
+    run_reader(rt, task, shown, LenientReader::new())
 }
 
 /// Whether what is shown can stand in a string of JSON, by the text of one moment: what a description shows beside

@@ -1,5 +1,6 @@
 //! What is said on standard error, and the status with which the program ends.
 use crate::description::Refusal;
+use crate::reading::NotReadBy;
 use clap::Error as UsageError;
 use clap::error::ErrorKind;
 use jiff_core::Error as ZoneError;
@@ -7,8 +8,9 @@ use line_streams::FilterError;
 use std::fmt::{Display, Formatter, Write};
 use std::process::ExitCode;
 use std::{fmt, io};
-use time_lines::{Passed, Why};
+use time_lines::{NoForm, Passed, Why};
 use time_plan::{InvalidDescription, InvalidStrftime};
+use time_plan_read::NoReader;
 
 /// The status of a failure.
 const FAILURE: u8 = 1;
@@ -173,5 +175,37 @@ pub fn refuse_description(rt: &HostRuntime, text: &str, refusal: Refusal) -> Exi
             show_mark(rt, text, reason, index)
         }
         _ => fail(rt, Err(FilterError::Memory)),
+    }
+}
+
+/// Why the texts of a description have no moments.
+fn form_reason(refused: NoForm) -> &'static str {
+    match refused {
+        NoForm::NoDay => "its texts do not show the day",
+        NoForm::NoTime => "its texts do not show the whole time of day",
+        NoForm::NoYear => "its texts show no year, and more than the month, the day and the time",
+        NoForm::NoReader(NoReader::Ambiguous(_)) => {
+            "a number of no certain width stands before other digits"
+        }
+        NoForm::NoReader(_) => "its texts do not show a moment",
+    }
+}
+
+/// Says why texts of a description are not read, and marks the place where it is wrong.
+pub fn refuse_texts(rt: &HostRuntime, text: &str, refused: NotReadBy) -> ExitCode {
+    match refused {
+        NotReadBy::Memory => fail(rt, Err(FilterError::Memory)),
+        NotReadBy::Refusal(Refusal::Name) => {
+            let _ = eprintln!(rt;
+                "movaliren: no texts have the name '{text}': there are rfc3339, clf, syslog, log4j, rfc2822 and iso8601, and texts with % or ["
+            );
+            ExitCode::from(USAGE)
+        }
+        NotReadBy::Refusal(other) => refuse_description(rt, text, other),
+        NotReadBy::Form(refused) => {
+            let reason = form_reason(refused);
+            let _ = eprintln!(rt; "movaliren: '{text}' is not read: {reason}");
+            ExitCode::from(USAGE)
+        }
     }
 }

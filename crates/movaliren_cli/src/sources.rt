@@ -5,7 +5,7 @@ use crate::streams::{Source, Streams};
 use line_streams::{FilterError, LineJob};
 use std::io::ErrorKind;
 use std::process::ExitCode;
-use time_lines::{Passed, ReadJob, Shown, UnixJob};
+use time_lines::{Passed, ReadJob, Reads, Shown, UnixJob};
 
 /// A job that counts lines that passed as they were.
 pub trait CountingJob: LineJob {
@@ -18,7 +18,7 @@ impl<S: Shown + Drop> CountingJob for UnixJob<'_, S> {
     }
 }
 
-impl<S: Shown + Drop> CountingJob for ReadJob<S> {
+impl<S: Shown + Drop, R: Reads + Drop> CountingJob for ReadJob<S, R> {
     fn passed(&mut self) -> &mut Passed {
         &mut self.passed
     }

@@ -1,4 +1,5 @@
 pub mod DayLemmas
+pub mod DescribedLemmas
 pub mod DigitLemmas
 pub mod NumberLemmas
 pub mod ReadLemmas

@@ -22,12 +22,12 @@ use Rattle.time_read.proofs.Tails.{AreDecimals, decimals_of}
 use Rattle.time_read.proofs.PartLemmas.{reads_full_date}
 use Rattle.time_lines.specs.Number.{digit_count}
 use Rattle.std.proofs.Common.{Option, Some, None}
-use Rattle.std.specs.Prelude.{Result, OnOk, IfSome, IfNone}
-use Rattle.line_streams.specs.Filter.{Adds}
-use Rattle.time_below.specs.Moment.{Moment, IsMoment}
-use Rattle.time_lines.specs.Read.{NoText, NoTextBefore, moment_of_value, offset_length, tail_length, text_length}
-use Rattle.time_lines.specs.Shown.{IsReplaced, Replaces}
-use Rattle.time_lines.proofs.NumberLemmas.{replaces_named}
+use Rattle.std.specs.Prelude.{Result, OnOk}
+use Rattle.line_streams.specs.Filter.{Adds, Stays}
+use Rattle.time_below.specs.Moment.{Moment}
+use Rattle.time_lines.specs.Read.{IsFirstText, NoText, NothingBefore, ReadBecomes, SameReads, offset_length, tail_length, text_length}
+use Rattle.time_lines.specs.Shown.{IsReplaced, SameShown}
+use Rattle.time_lines.specs.declared.front.Front.{Front}
 
 -- ---- the parts of a text have these lengths
 
@@ -238,30 +238,57 @@ pub no_text_refused : (text : List ℕ) (count : ℕ) → count ≡ text_length 
 no_text_refused text count is none count' v le h =
     none v (subst (λ n. Rfc3339Means v (take n text)) (sym (is ∙ (has_length v text count' le h).0)) h)
 
--- none begins here either
-pub none_before_next : (line : List ℕ) (at : ℕ) → NoTextBefore line at → NoText (drop at line) → NoTextBefore line (at + 1)
-none_before_next line at before here k lt = elim (cases_lt k at) [
+-- ---- what a line becomes
+
+-- nothing is read here either
+pub nothing_before_next : (reads : List ℕ → Option Front → Type 0) (line : List ℕ) (at : ℕ) → NothingBefore reads line at
+    → reads (drop at line) None → NothingBefore reads line (at + 1)
+nothing_before_next reads line at before here k lt = elim (cases_lt k at) [
   | inl less ↦ before k less
-  | inr more ↦ let same : k ≡ at = omega (arith, lt, more) in subst (λ n. NoText (drop n line)) (sym same) here
+  | inr more ↦ let same : k ≡ at = omega (arith, lt, more) in subst (λ n. reads (drop n line) None) (sym same) here
 ]
 
-real : (m : Moment) (named : Option Moment) → IfSome named (λ n. (n ≡ m) × IsMoment n)
-    → IfSome named (λ n. (n ≡ m) × IsMoment m)
-real m None some = some
-real m (Some n) some = (some.0, subst IsMoment some.0 some.1)
-
--- what takes the place of the moment of a text of a line takes that of the text
+-- what takes the place of a text of a line
 pub text_is_replaced : {E : Type 0} (shows : Moment → Option (List ℕ) → Type 0) (line : List ℕ) (at count : ℕ)
-    (v : OffsetDateAndTime) (moment : Option Moment) (own after old new : List ℕ) (r : Result Bool E)
-    → own ≡ drop at line → after ≡ drop count (drop at line) → IfSome moment (λ m. (m ≡ moment_of_value v) × IsMoment m)
-    → IfNone moment (¬ IsMoment (moment_of_value v))
+    (moment : Option Moment) (own after old new : List ℕ) (r : Result Bool E)
+    → own ≡ drop at line → after ≡ drop count (drop at line)
     → OnOk r (Adds (IsReplaced shows moment (take at line ++ []) after (take at line ++ own)) old new)
-    → OnOk r (Adds (Replaces shows (IsMoment (moment_of_value v)) (moment_of_value v) (take at line)
-    (drop count (drop at line)) line) old new)
-text_is_replaced shows line at count v moment own after old new r mine behind some none h =
+    → OnOk r (Adds (IsReplaced shows moment (take at line) (drop count (drop at line)) line) old new)
+text_is_replaced shows line at count moment own after old new r mine behind h =
     let whole : take at line ++ own ≡ line = ap (λ o. take at line ++ o) mine ∙ take-append-drop at line in
     let plain = subst (λ b. OnOk r (Adds (IsReplaced shows moment b after (take at line ++ own)) old new)) (append-nil (take at line)) h in
     let full = subst (λ w. OnOk r (Adds (IsReplaced shows moment (take at line) after w) old new)) whole plain in
-    replaces_named shows (IsMoment (moment_of_value v)) (moment_of_value v) moment (take at line) (drop count (drop at line))
-    line old new r (real (moment_of_value v) moment some) none
-    (subst (λ a. OnOk r (Adds (IsReplaced shows moment (take at line) a line) old new)) behind full)
+    subst (λ a. OnOk r (Adds (IsReplaced shows moment (take at line) a line) old new)) behind full
+
+replaced : (shows shows' : Moment → Option (List ℕ) → Type 0) (moment : Option Moment) (before after line text : List ℕ)
+    → ((m : Moment) (t : Option (List ℕ)) → shows m t → shows' m t) → IsReplaced shows moment before after line text
+    → IsReplaced shows' moment before after line text
+replaced shows shows' None before after line text leads b = b
+replaced shows shows' (Some m) before after line text leads (inl b) = inl (b.0, leads m _ b.1, b.2)
+replaced shows shows' (Some m) before after line text leads (inr b) = inr (leads m None b.0, b.1)
+
+nothing_before : (reads reads' : List ℕ → Option Front → Type 0) (line : List ℕ) (bound : ℕ)
+    → ((text : List ℕ) (front : Option Front) → reads text front → reads' text front) → NothingBefore reads line bound
+    → NothingBefore reads' line bound
+nothing_before reads reads' line bound leads none at lt = leads _ None (none at lt)
+
+read_becomes : (reads reads' : List ℕ → Option Front → Type 0) (shows shows' : Moment → Option (List ℕ) → Type 0)
+    (line text : List ℕ) → ((text : List ℕ) (front : Option Front) → reads text front → reads' text front)
+    → ((m : Moment) (t : Option (List ℕ)) → shows m t → shows' m t) → ReadBecomes reads shows line text
+    → ReadBecomes reads' shows' line text
+read_becomes reads reads' shows shows' line text same leads (inl b) = inl (
+  b.0,
+  b.1,
+  record { is = same _ _ b.2.is; first = nothing_before reads reads' line b.0 same b.2.first },
+  replaced shows shows' _ _ _ line text leads b.3,
+)
+read_becomes reads reads' shows shows' line text same leads (inr b) =
+    inr (nothing_before reads reads' line (length line) same b.0, b.1)
+
+-- a line becomes the same where the same is read and shown
+pub read_stays : (reads reads' : List ℕ → Option Front → Type 0) (shows shows' : Moment → Option (List ℕ) → Type 0)
+    → SameReads reads reads' → SameShown shows shows' → Stays (ReadBecomes reads shows) (ReadBecomes reads' shows')
+read_stays reads reads' shows shows' same leads line text = (
+  λ b. read_becomes reads reads' shows shows' line text (λ t f. (same t f).0) (λ m t. (leads m t).0) b,
+  λ b. read_becomes reads' reads shows' shows line text (λ t f. (same t f).1) (λ m t. (leads m t).1) b,
+)

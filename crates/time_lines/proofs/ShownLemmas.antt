@@ -5,7 +5,6 @@ use Rattle.time_below.specs.Moment.{Moment, OffsetDateAndTime, IsMoment, local_a
 use Rattle.time_below.specs.Offset.{Offset}
 use Rattle.time_fmt.specs.Outcome.{Outcome}
 use Rattle.time_lines.specs.Now.{NowBecomes}
-use Rattle.time_lines.specs.Read.{ReadBecomes}
 use Rattle.time_lines.specs.Shown.{AppendsShown, Replaces, SameShown, ShowsAt, text_of}
 use Rattle.time_lines.specs.Unix.{FromBecomes, RestBecomes, UnixBecomes}
 use Rattle.time_lines.specs.declared.number.Numbers.{Numbers}
@@ -65,20 +64,6 @@ pub now_stays : (shows shows' : Moment → Option (List ℕ) → Type 0) → Sam
 now_stays shows shows' same line text = (
   λ b. now_becomes shows shows' line text (λ m t. (same m t).0) b,
   λ b. now_becomes shows' shows line text (λ m t. (same m t).1) b,
-)
-
-read_becomes : (shows shows' : Moment → Option (List ℕ) → Type 0) (line text : List ℕ)
-    → ((m : Moment) (t : Option (List ℕ)) → shows m t → shows' m t) → ReadBecomes shows line text → ReadBecomes shows' line text
-read_becomes shows shows' line text leads (inl b) =
-    inl (b.0, b.1, b.2, b.3, replaces shows shows' _ _ _ _ line text leads b.4)
-read_becomes shows shows' line text leads (inr b) = inr b
-
--- a line becomes the same where the same is shown
-pub read_stays : (shows shows' : Moment → Option (List ℕ) → Type 0) → SameShown shows shows'
-    → Stays (ReadBecomes shows) (ReadBecomes shows')
-read_stays shows shows' same line text = (
-  λ b. read_becomes shows shows' line text (λ m t. (same m t).0) b,
-  λ b. read_becomes shows' shows line text (λ m t. (same m t).1) b,
 )
 
 none_of : (text : Option (List ℕ)) → is_some text ≡ false → text ≡ None

@@ -1,4 +1,5 @@
 pub mod Day
+pub mod Described
 pub mod Json
 pub mod Now
 pub mod Number

@@ -1,34 +1,47 @@
--- What a line becomes whose first text of RFC 3339 is read.
-use Rattle.std.specs.Prelude.{ℕ, ◌≡◌, ◌+◌, ◌<◌, ◌≤◌, ◌⊎◌, List, [], ◌∷◌, Option, ◌||◌, ◌==◌, length, take, drop, if◌then◌else◌}
-use Rattle.time_below.specs.Moment.{Moment, OffsetDateAndTime, IsMoment, local_unix_seconds}
+-- What a line becomes whose first text that is read is replaced.
+use Rattle.std.specs.Prelude.{ℕ, ◌≡◌, ◌↔◌, ◌+◌, ◌<◌, ◌≤◌, ◌⊎◌, List, [], ◌∷◌, Option, Some, None, IfSome, IfNone, ◌||◌, ◌==◌, length, take, drop, if◌then◌else◌}
+use Rattle.time_below.specs.Moment.{Moment, OffsetDateAndTime, IsMoment, local_moment}
 use Rattle.time_lines.specs.Number.{digit_count}
-use Rattle.time_lines.specs.Shown.{Replaces}
+use Rattle.time_lines.specs.Shown.{IsReplaced}
+use Rattle.time_lines.specs.declared.front.Front.{Front}
 use Rattle.time_read.specs.Lenient.{Rfc3339Means}
+
+-- the same may be read at the front of a text as before
+abbrev pub SameReads : (List ℕ → Option Front → Type 0) → (List ℕ → Option Front → Type 0) → Type 0
+SameReads old new = (text : List ℕ) (front : Option Front) → old text front ↔ new text front
+
+-- nothing is read before this place
+abbrev pub NothingBefore : (List ℕ → Option Front → Type 0) → List ℕ → ℕ → Type 0
+NothingBefore reads line bound = (at : ℕ) → at < bound → reads (drop at line) None
+
+-- the first text of a line that is read, and its place
+pub record IsFirstText (reads : List ℕ → Option Front → Type 0) (line : List ℕ) (at : ℕ) (front : Front) : Type 0 where
+  pub is : reads (drop at line) (Some front)
+  pub first : NothingBefore reads line at
+
+-- what a line becomes: its first text is replaced, and one without stays as it is
+abbrev pub ReadBecomes : (List ℕ → Option Front → Type 0) → (Moment → Option (List ℕ) → Type 0) → List ℕ → List ℕ → Type 0
+ReadBecomes reads shows line text =
+    ((at : ℕ) × (front : Front) × IsFirstText reads line at front
+    × IsReplaced shows front.moment (take at line) (drop front.count (drop at line)) line text)
+    ⊎ (NothingBefore reads line (length line) × (text ≡ line))
+
+-- the moment is this one, if it is a moment that a timestamp may have
+abbrev pub IsMomentIfReal : Moment → Option Moment → Type 0
+IsMomentIfReal m found = IfSome found (λ n. (n ≡ m) × IsMoment n) × IfNone found (¬ IsMoment m)
+
+-- ---- RFC 3339
 
 -- no text of RFC 3339 begins the text
 abbrev pub NoText : List ℕ → Type 0
 NoText text = (count : ℕ) (v : OffsetDateAndTime) → count ≤ length text → ¬ Rfc3339Means v (take count text)
 
--- none begins before this place
-abbrev pub NoTextBefore : List ℕ → ℕ → Type 0
-NoTextBefore line bound = (at : ℕ) → at < bound → NoText (drop at line)
-
--- the first text of RFC 3339 of a line: its place, how many bytes it has, and its value
-pub record IsFirstText (line : List ℕ) (at count : ℕ) (v : OffsetDateAndTime) : Type 0 where
-  pub inside : count ≤ length (drop at line)
-  pub means : Rfc3339Means v (take count (drop at line))
-  pub first : NoTextBefore line at
-
--- the moment of a date and a time at an offset
-abbrev pub moment_of_value : OffsetDateAndTime → Moment
-moment_of_value v = record { seconds = local_unix_seconds v; nanosecond = v.time.nanosecond }
-
--- what a line becomes: its first text is replaced, and one without stays as it is
-abbrev pub ReadBecomes : (Moment → Option (List ℕ) → Type 0) → List ℕ → List ℕ → Type 0
-ReadBecomes shows line text =
-    ((at : ℕ) × (count : ℕ) × (v : OffsetDateAndTime) × IsFirstText line at count v
-    × Replaces shows (IsMoment (moment_of_value v)) (moment_of_value v) (take at line) (drop count (drop at line)) line text)
-    ⊎ (NoTextBefore line (length line) × (text ≡ line))
+-- so many first bytes of the text are one of RFC 3339, with its moment
+abbrev pub ReadsRfc3339 : List ℕ → Option Front → Type 0
+ReadsRfc3339 text None = NoText text
+ReadsRfc3339 text (Some front) =
+    (v : OffsetDateAndTime) × (front.count ≤ length text) × Rfc3339Means v (take front.count text)
+    × IsMomentIfReal (local_moment v) front.moment
 
 -- ---- where such a text ends, by its bytes
 

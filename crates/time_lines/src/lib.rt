@@ -1,7 +1,11 @@
 //! Lines in which moments are written as text: what a line becomes, as jobs of `line_streams`.
 #![tactic(auto)]
 
+mod begins;
 mod day;
+mod described;
+mod forms;
+mod front;
 mod json;
 pub mod laws;
 mod now;
@@ -11,11 +15,17 @@ mod read;
 mod runs;
 mod shown;
 mod unix;
+mod until;
+mod years;
 
 pub use day::Rfc3339InPlace;
+pub use described::{Described, Form, FormRow, Zone};
+pub use forms::NoForm;
+pub use front::{Front, Reads};
 pub use now::NowJob;
 pub use number::{Numbers, Unit};
 pub use passed::{FirstPassed, Passed, Why};
 pub use read::ReadJob;
 pub use shown::{InPlace, InUtc, Place, Shown, Utc};
 pub use unix::UnixJob;
+pub use until::{Until, Years};

@@ -1,27 +1,27 @@
-//! Texts of RFC 3339 in lines, read and replaced.
+//! Texts in lines, read and replaced by what is shown of their moments.
 ghost use Rattle.std.specs.Prelude.{◌≡◌, ◌+◌, ◌≤◌, length, take, drop, IfSome, IfNone, OnOk};
 ghost use Rattle.line_streams.specs.Filter.{Adds};
-ghost use Rattle.time_below.specs.Moment.{IsMoment};
-ghost use Rattle.time_lines.specs.Read.{IsFirstText, NoText, NoTextBefore, ReadBecomes, moment_of_value, offset_length, tail_length, text_length};
-ghost use Rattle.time_lines.specs.Shown.{Replaces, SameShown};
+ghost use Rattle.time_lines.specs.Read.{IsFirstText, NoText, NothingBefore, ReadBecomes, ReadsRfc3339, SameReads, offset_length, tail_length, text_length};
+ghost use Rattle.time_lines.specs.Shown.{IsReplaced, SameShown};
 ghost use Rattle.time_read.specs.Lenient.{Rfc3339Means};
 
+use crate::front::{Front, Reads, moment_of_value};
 use crate::passed::{Passed, Why};
 use crate::runs::digit_count;
 use crate::shown::Shown;
 use crate::unix::append_replaced;
 use line_streams::{FilterError, LineJob};
 use std::alloc::AllocError;
-use time_below::{OffsetDateTime, Timestamp};
+use time_below::OffsetDateTime;
 use time_read::LenientReader;
 
-/// Replaces the first text of RFC 3339 of each line, as `read_lenient` of `time_read` reads it, by what is shown
-/// of its moment. A line without one passes as it is, and is counted; so does one of whose moment nothing is
-/// shown.
+/// Replaces the first text of each line that a reader reads by what is shown of its moment. A `LenientReader` of
+/// `time_read` reads those of RFC 3339, and `Described` those of descriptions. A line without one passes as it is,
+/// and is counted; so does one of whose moment nothing is shown.
 #[derive(Drop)]
-pub struct ReadJob<S: Shown + Drop> {
+pub struct ReadJob<S: Shown + Drop, R: Reads + Drop> {
     pub shown: S,
-    pub reader: LenientReader,
+    pub reader: R,
     pub passed: Passed,
 }
 
@@ -75,43 +75,44 @@ fn text_here(reader: &mut LenientReader, text: &[u8]) -> Option<(usize, OffsetDa
     }
 }
 
-/// A text of RFC 3339 in a line: its place, how many bytes it has, and its value.
+impl Reads for LenientReader {
+    ghost reads = { λ _. ReadsRfc3339 };
+
+    #[inline(always)]
+    fn read_front(&mut self, text: &[u8]) -> Option<Front> {
+        let (count, value) = text_here(self, text)?;
+        let moment = moment_of_value(value);
+        Some(Front { count, moment })
+    }
+}
+
+/// A text in a line that was read, and its place.
 #[derive(Drop)]
 struct FoundText {
     at: usize,
-    count: usize,
-    value: OffsetDateTime,
+    front: Front,
 }
 
-/// The first text of RFC 3339 of the line, if it has one.
+/// The first text of the line that is read, if it has one.
 #[inline(always)]
-fn first_text(reader: &mut LenientReader, line: &[u8]) -> Option<FoundText>
-    ensures some { IfSome result (λ r. IsFirstText line.now r.at r.count r.value) }
-    ensures inside { IfSome result (λ r. r.at ≤ length line.now) }
-    ensures none { IfNone result (NoTextBefore line.now (length line.now)) }
+fn first_text<R: Reads>(reader: &mut R, line: &[u8]) -> Option<FoundText>
+    ensures same { SameReads (R.reads reader.old) (R.reads reader.new) }
+    ensures some { IfSome result (λ r. IsFirstText (R.reads reader.old) line.now r.at r.front) }
+    ensures at { IfSome result (λ r. r.at ≤ length line.now) }
+    ensures count { IfSome result (λ r. r.front.count ≤ length (drop r.at line.now)) }
+    ensures none { IfNone result (NothingBefore (R.reads reader.old) line.now (length line.now)) }
 {
     for at in 0..line.len() {
-        if let Some((count, value)) = text_here(reader, &line[at..]) {
-            return Some(FoundText { at, count, value });
+        if let Some(front) = reader.read_front(&line[at..]) {
+            return Some(FoundText { at, front });
         }
     }
     None
 }
 
-/// The moment of the value, if its year is in range.
-fn moment_of_value(value: OffsetDateTime) -> Option<Timestamp>
-    ensures some { IfSome result (λ m. (m ≡ moment_of_value value) × IsMoment m) }
-    ensures none { IfNone result (¬ IsMoment (moment_of_value value)) }
-{
-    let (_, _, _, nanosecond) = value.time().as_hms_nano();
-    match Timestamp::new(value.unix_timestamp(), nanosecond) {
-        Ok(moment) => Some(moment),
-        Err(_) => None,
-    }
-}
-
-/// Appends the line with what is shown of the value of a text of it in place of the text. Says whether a
+/// Appends the line with what is shown of the moment of a text of it in place of the text. Says whether a
 /// text took its place.
+#[inline(always)]
 fn append_found<S: Shown>(
     shown: &mut S,
     output: &mut Vec<u8>,
@@ -119,15 +120,14 @@ fn append_found<S: Shown>(
     found: &FoundText,
 ) -> Result<bool, AllocError>
     requires at { found.now.at ≤ length line.now }
-    requires count { found.now.count ≤ length (drop found.now.at line.now) }
+    requires count { found.now.front.count ≤ length (drop found.now.at line.now) }
     ensures same { SameShown (S.shows shown.old) (S.shows shown.new) }
-    ensures appended { OnOk result (Adds (Replaces (S.shows shown.old)
-        (IsMoment (moment_of_value found.now.value)) (moment_of_value found.now.value)
-        (take found.now.at line.now) (drop found.now.count (drop found.now.at line.now)) line.now)
+    ensures appended { OnOk result (Adds (IsReplaced (S.shows shown.old) found.now.front.moment
+        (take found.now.at line.now) (drop found.now.front.count (drop found.now.at line.now)) line.now)
         output.old.items output.new.items) }
 {
     let rest = &line[found.at..];
-    let after = &rest[found.count..];
+    let after = &rest[found.front.count..];
     append_replaced(
         shown,
         output,
@@ -135,24 +135,24 @@ fn append_found<S: Shown>(
         &[],
         rest,
         after,
-        moment_of_value(found.value),
+        found.front.moment,
     )
 }
 
-/// Why a text of this value stays in its place, unless what is shown of it took that.
+/// Why a text stays in its place, unless what is shown of it took that.
 #[inline(always)]
-fn why_stays(value: &OffsetDateTime, is_shown: bool) -> Option<Why> {
+fn why_stays(front: &Front, is_shown: bool) -> Option<Why> {
     if is_shown {
         return None;
     }
-    match moment_of_value(*value) {
+    match front.moment {
         Some(_) => Some(Why::NoText),
         None => Some(Why::NoMoment),
     }
 }
 
-impl<S: Shown + Drop> LineJob for ReadJob<S> {
-    ghost becomes = { λ job. ReadBecomes (S.shows job.shown) };
+impl<S: Shown + Drop, R: Reads + Drop> LineJob for ReadJob<S, R> {
+    ghost becomes = { λ job. ReadBecomes (R.reads job.reader) (S.shows job.shown) };
 
     ghost is_ready = { λ _. Unit {0} };
 
@@ -167,7 +167,7 @@ impl<S: Shown + Drop> LineJob for ReadJob<S> {
             return Ok(());
         };
         let is_shown = append_found(&mut self.shown, output, line, &found)?;
-        self.passed.count_line(why_stays(&found.value, is_shown));
+        self.passed.count_line(why_stays(&found.front, is_shown));
         Ok(())
     }
 }

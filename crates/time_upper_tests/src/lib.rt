@@ -23,6 +23,8 @@ mod parse_calls;
 #[cfg(test)]
 mod read_back;
 #[cfg(test)]
+mod read_lines;
+#[cfg(test)]
 mod recipes;
 #[cfg(test)]
 mod serde_moments;

@@ -1,6 +1,8 @@
-use Rattle.time_lines.specs.Read.{NoTextBefore}
+use Rattle.time_lines.specs.Read.{NothingBefore, SameReads}
 use Rattle.time_lines.proofs.read.first_text.Given as goal
 
--- no text begins before this place
+-- nothing is read before this place
 abbrev pub invariant-loop-at : goal.invariant-loop-at
-invariant-loop-at l = NoTextBefore l.line l.at
+invariant-loop-at g l =
+    SameReads (g.R.Reads.reads l.initial.reader) (g.R.Reads.reads l.reader)
+    × NothingBefore (g.R.Reads.reads l.initial.reader) l.line l.at

@@ -1,0 +1,100 @@
+-- Which moments the texts of descriptions have, read back.
+use Rattle.std.specs.Prelude.{ℕ, zero, suc, ℤ, pos, ◌≡◌, ◌+◌, ◌&&◌, ◌+ℤ◌, ◌-ℤ◌, ◌≤ℤ◌, ◌<ℤ◌, ◌<◌, ◌≤◌, ◌⊎◌, List, [], ◌∷◌, Option, Some, None, IfSome, Bool, false, length, take, get_or}
+use Rattle.std.specs.Char.{is_ascii_digit}
+use Rattle.time_below.specs.Calendar.{IsYear, IsDayOfMonth, date_of, day_of, month_of}
+use Rattle.time_below.specs.Facts.{Facts, facts_of_offset_date_time, facts_of_plain_date_time, facts_of_timestamp}
+use Rattle.time_below.specs.Moment.{DateAndTime, Moment, OffsetDateAndTime, day_seconds, local_moment, utc_date}
+use Rattle.time_fmt.specs.Description.{trees_outcome}
+use Rattle.time_fmt.specs.Outcome.{Outcome, done}
+use Rattle.time_lines.specs.Read.{IsMomentIfReal}
+use Rattle.time_lines.specs.declared.described.Form.{Form}
+use Rattle.time_lines.specs.declared.described.Form.TheVariants.{AtOffset, AtMoment, Local, Yearless}
+use Rattle.time_lines.specs.declared.described.FormRow.{FormRow}
+use Rattle.time_lines.specs.declared.front.Front.{Front}
+use Rattle.time_lines.specs.declared.until.Years.{Years}
+use Rattle.time_lines.specs.declared.until.Years.TheVariants.{One, Latest}
+use Rattle.time_lines.specs.declared.until.Until.{Until}
+use Rattle.time_plan.specs.Steps.{step_trees}
+use Rattle.time_plan.specs.declared.plan.Plan.{Plan}
+
+-- what a plan writes of a value
+abbrev pub written : Plan → Facts → Outcome
+written plan = trees_outcome (step_trees plan.steps.items)
+
+-- so many first bytes of the text are the complete text of an outcome
+abbrev pub IsFront : Outcome → List ℕ → ℕ → Type 0
+IsFront outcome text count = (count ≤ length text) × (outcome ≡ done (take count text))
+
+-- so many first bytes end with a digit, and another one follows
+abbrev pub is_cut : List ℕ → ℕ → Bool
+is_cut text zero = false
+is_cut text (suc count) = is_ascii_digit (get_or text count 0) && is_ascii_digit (get_or text (count + 1) 0)
+
+-- the year has the month and the day of the date
+abbrev pub HasDay : ℤ → DateAndTime → Type 0
+HasDay year t = IsYear year × IsDayOfMonth year (month_of t.date) (day_of t.date)
+
+-- the same month, day and time of another year
+abbrev pub in_year : ℤ → DateAndTime → DateAndTime
+in_year year t = record { date = date_of year (month_of t.date) (day_of t.date); time = t.time }
+
+-- how many years are tried: in any so many that follow one another a leap year is
+abbrev pub years_tried : ℕ
+years_tried = 10
+
+-- the years that are tried begin with the next one
+abbrev pub tried_year : Until → ℕ → ℤ
+tried_year until back = (until.year +ℤ pos 1) -ℤ pos back
+
+-- this moment is that of the date and time in the year, and not later than the second
+abbrev pub IsPastIn : (DateAndTime → Option Moment → Type 0) → ℤ → ℤ → DateAndTime → Moment → Type 0
+IsPastIn at second year t m = HasDay year t × at (in_year year t) (Some m) × (m.seconds ≤ℤ second)
+
+-- in the year there is no such moment
+abbrev pub NoPastIn : (DateAndTime → Option Moment → Type 0) → ℤ → ℤ → DateAndTime → Type 0
+NoPastIn at second year t =
+    HasDay year t → (found : Option Moment) × at (in_year year t) found × IfSome found (λ m. second <ℤ m.seconds)
+
+-- in none of the first so many years
+abbrev pub NoPastBefore : (DateAndTime → Option Moment → Type 0) → Until → DateAndTime → ℕ → Type 0
+NoPastBefore at until t bound = (back : ℕ) → back < bound → NoPastIn at until.second (tried_year until back) t
+
+-- the moment of a date and time of which the year is not known
+abbrev pub HasYearlessMoment : (DateAndTime → Option Moment → Type 0) → Years → DateAndTime → Option Moment → Type 0
+HasYearlessMoment at (One year) t found =
+    (HasDay year t × at (in_year year t) found) ⊎ ((HasDay year t → ⊥) × (found ≡ None))
+HasYearlessMoment at (Latest until) t found =
+    ((back : ℕ) × (m : Moment) × (found ≡ Some m) × IsPastIn at until.second (tried_year until back) t m
+    × (back < years_tried) × NoPastBefore at until t back)
+    ⊎ ((found ≡ None) × NoPastBefore at until t years_tried)
+
+-- the plan of a form
+abbrev pub plan_of : Form → Plan
+plan_of (AtOffset reader) = reader.plan.now
+plan_of (AtMoment reader) = reader.plan.now
+plan_of (Local reader) = reader.plan.now
+plan_of (Yearless reader) = reader.plan.now
+
+-- the plan of a form writes so many first bytes of the text of a value that has the moment
+abbrev pub ReadsForm : (DateAndTime → Option Moment → Type 0) → Years → Form → List ℕ → Front → Type 0
+ReadsForm at years (AtOffset reader) text front =
+    (v : OffsetDateAndTime) × IsFront (written reader.plan.now (facts_of_offset_date_time v)) text front.count
+    × IsMomentIfReal (local_moment v) front.moment
+ReadsForm at years (AtMoment reader) text front =
+    (m : Moment) × IsFront (written reader.plan.now (facts_of_timestamp m)) text front.count × (front.moment ≡ Some m)
+ReadsForm at years (Local reader) text front =
+    (t : DateAndTime) × IsFront (written reader.plan.now (facts_of_plain_date_time t)) text front.count × at t front.moment
+ReadsForm at years (Yearless reader) text front =
+    (t : DateAndTime) × IsFront (written reader.plan.now (facts_of_plain_date_time t)) text front.count
+    × HasYearlessMoment at years t front.moment
+
+-- the same of one of several forms, where no number is cut off
+abbrev pub ReadsOneOf : (DateAndTime → Option Moment → Type 0) → Years → List FormRow → List ℕ → Front → Type 0
+ReadsOneOf at years [] text front = ⊥
+ReadsOneOf at years (row ∷ rows) text front =
+    (ReadsForm at years row.form text front × (is_cut text front.count ≡ false)) ⊎ ReadsOneOf at years rows text front
+
+-- the latest year in which a moment is at most a day after this one
+abbrev pub IsUntilDayAfter : Moment → Years → Type 0
+IsUntilDayAfter now (One year) = ⊥
+IsUntilDayAfter now (Latest until) = (until.year ≡ (utc_date now.seconds).year) × (until.second ≡ now.seconds +ℤ pos day_seconds)
