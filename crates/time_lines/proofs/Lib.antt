@@ -1,5 +1,6 @@
 pub mod DayLemmas
 pub mod DigitLemmas
+pub mod JsonLemmas
 pub mod NumberLemmas
 pub mod ReadLemmas
 pub mod RunLemmas
