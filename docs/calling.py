@@ -19,7 +19,8 @@ TOP = pathlib.Path(__file__).resolve().parent.parent
 CALLERS = TOP / "crates/time_callers"
 # Libraries without a page: of programs, of tests and of C, and some that stand in a README.md alone.
 WITHOUT = {
-    "time_answers", "time_callers", "time_compare", "time_fmt_tests", "time_known_tests", "time_upper_tests", "movaliren_c",
+    "time_answers", "time_callers", "time_compare", "time_fmt_tests", "time_known_tests", "time_lines_tests",
+    "time_upper_tests", "movaliren_c",
 }
 HEAD = re.compile(r"^(?:impl|(?:pub )?trait)\b.*$", re.M)
 FUNCTION = re.compile(r"^( *)(?:(?:pub(?:\(\w+\))?|final|const|unsafe) )*fn (\w+)", re.M)

@@ -61,47 +61,6 @@ next-line bytes fed rest end whole ends =
     whole ∙ ap (λ more. fed ++ more) ends.whole
     ∙ sym (append_assoc fed (with_line_feed (take end rest)) (drop (end + 1) rest))
 
--- one more line was appended
-pub line_is_appended : (R Q S : List ℕ → List ℕ → Type 0) (text fed rest : List ℕ) (end : ℕ) (o0 o1 o2 : List ℕ)
-    → text ≡ fed ++ rest → unended_of fed ≡ [] → Stays R Q → Adds (Become R (ended_lines_of fed)) o0 o1
-    → EndsAt rest end → Stays Q S → Adds (Q (take (end + 1) rest)) o1 o2
-    → (more : List ℕ) × (text ≡ more ++ take (length rest - (end + 1)) (drop (end + 1) rest)) × (unended_of more ≡ [])
-    × Stays R S × Adds (Become R (ended_lines_of more)) o0 o2
-line_is_appended R Q S text fed rest end o0 o1 o2 whole none stays so_far ends on appended = (
-  fed ++ with_line_feed (take end rest),
-  rw (slice-end (end + 1) rest) (next-line text fed rest end whole ends),
-  unended_of-fed fed (take end rest) ends.front,
-  Stays-then R Q S stays on,
-  (
-    so_far.0 ++ appended.0,
-    appended.1 ∙ ap (λ o. o ++ appended.0) so_far.1 ∙ append_assoc o0 so_far.0 appended.0,
-    subst (λ lines. Become R lines (so_far.0 ++ appended.0)) (sym (one_more_line fed (take end rest) none ends.front))
-        (Become-append R (ended_lines_of fed) (with_line_feed (take end rest) ∷ []) so_far.0 appended.0 so_far.2
-        (Become-one R (with_line_feed (take end rest)) appended.0
-        ((stays (with_line_feed (take end rest)) appended.0).1
-        (subst (λ line. Q line appended.0) ends.line appended.2)))),
-  ),
-)
-
-drop_front : (fed rest : List ℕ) → drop (length (fed ++ rest) - length rest) (fed ++ rest) ≡ rest
-drop_front fed rest =
-    let e : length (fed ++ rest) - length rest ≡ length fed = omega (arith, length-append fed rest) in
-    rw e (drop-append_seam fed rest)
-
--- the rest has no line feed
-pub rest_of_text : (text fed rest : List ℕ) → text ≡ fed ++ rest → unended_of fed ≡ [] → IsOneLine rest
-    → drop (length text - length rest) text ≡ unended_of text
-rest_of_text text fed rest whole none one =
-    rw whole (drop_front fed rest ∙ sym (unended_of-more fed rest one ∙ ap (λ x. x ++ rest) none))
-
--- all lines were appended where the rest has no line feed
-pub all_is_appended : (R : List ℕ → List ℕ → Type 0) (text fed rest o0 o1 : List ℕ) → text ≡ fed ++ rest → IsOneLine rest
-    → Adds (Become R (ended_lines_of fed)) o0 o1 → Adds (Become R (ended_lines_of text)) o0 o1
-all_is_appended R text fed rest o0 o1 whole one so_far =
-    let same : ended_lines_of text ≡ ended_lines_of fed =
-    ap (λ lines. map with_line_feed lines) (ap whole_lines_of whole ∙ whole_lines_of-more fed rest one) in
-    (so_far.0, so_far.1, subst (λ lines. Become R lines so_far.0) (sym same) so_far.2)
-
 -- ---- a block whose first bytes end the line that waits
 
 -- the line that waits, with its end
@@ -127,6 +86,74 @@ lines_of_block old block end one ends =
     ∙ ended_lines_of-append (with_line_feed line) (drop (end + 1) block)
     ∙ rw (whole_lines_of-ended line is_one, unended_of-ended line is_one) refl
 
+-- the first line of a text, and the others
+lines_of_front : (rest : List ℕ) (end : ℕ) → EndsAt rest end
+    → ended_lines_of rest ≡ take (end + 1) rest ∷ ended_lines_of (take (length rest - (end + 1)) (drop (end + 1) rest))
+lines_of_front rest end ends =
+    lines_of_block [] rest end tt ends ∙ rw (slice-end (end + 1) rest, ends.line) refl
+
+-- so much was appended, and where what is left becomes more, all lines become both
+abbrev pub HasGone : (List ℕ → List ℕ → Type 0) → List ℕ → List ℕ → List ℕ → List ℕ → List ℕ → List ℕ → Type 0
+HasGone R first text line rest o0 o1 =
+    (done : List ℕ) × (o1 ≡ o0 ++ done)
+    × ((more : List ℕ) → Become R (line ∷ ended_lines_of rest) more → Become R (first ∷ ended_lines_of text) (done ++ more))
+
+pub none_gone : (R : List ℕ → List ℕ → Type 0) (first text o0 : List ℕ) → HasGone R first text first text o0 o0
+none_gone R first text o0 = ([], sym (append-nil o0), λ more h. h)
+
+-- the text of one line more, before what those behind it become
+line_and_more : (R Q : List ℕ → List ℕ → Type 0) (line : List ℕ) (lines : List (List ℕ)) (t more : List ℕ) → Stays R Q
+    → Q line t → Become R lines more → Become R (line ∷ lines) (t ++ more)
+line_and_more R Q line lines t more stays made h = (t, more, refl, (stays line t).1 made, h)
+
+-- one line was appended, and another is at the front of what is left
+pub line_has_gone : (R Q S : List ℕ → List ℕ → Type 0) (first text line fed rest : List ℕ) (end : ℕ) (o0 o1 o2 : List ℕ)
+    → text ≡ fed ++ rest → unended_of fed ≡ [] → Stays R Q → HasGone R first text line rest o0 o1 → EndsAt rest end
+    → Stays Q S → Adds (Q line) o1 o2
+    → (more : List ℕ) × (text ≡ more ++ take (length rest - (end + 1)) (drop (end + 1) rest)) × (unended_of more ≡ [])
+    × Stays R S
+    × HasGone R first text (take (end + 1) rest) (take (length rest - (end + 1)) (drop (end + 1) rest)) o0 o2
+line_has_gone R Q S first text line fed rest end o0 o1 o2 whole none stays gone ends on made =
+    let lines : ended_lines_of rest ≡ take (end + 1) rest ∷ ended_lines_of (take (length rest - (end + 1)) (drop (end + 1) rest)) =
+    lines_of_front rest end ends in (
+      fed ++ with_line_feed (take end rest),
+      rw (slice-end (end + 1) rest) (next-line text fed rest end whole ends),
+      unended_of-fed fed (take end rest) ends.front,
+      Stays-then R Q S stays on,
+      (
+        gone.0 ++ made.0,
+        made.1 ∙ ap (λ o. o ++ made.0) gone.1 ∙ append_assoc o0 gone.0 made.0,
+        λ more h. subst (λ t. Become R (first ∷ ended_lines_of text) t) (sym (append_assoc gone.0 made.0 more))
+            (gone.2 (made.0 ++ more)
+            (line_and_more R Q line (ended_lines_of rest) made.0 more stays made.2
+            (subst (λ ls. Become R ls more) (sym lines) h))),
+      ),
+    )
+
+-- one line was appended, and no other ends
+pub all_has_gone : (R Q : List ℕ → List ℕ → Type 0) (first text line rest o0 o1 o2 : List ℕ) → Stays R Q
+    → HasGone R first text line rest o0 o1 → IsOneLine rest → Adds (Q line) o1 o2
+    → Adds (Become R (first ∷ ended_lines_of text)) o0 o2
+all_has_gone R Q first text line rest o0 o1 o2 stays gone one made =
+    let none : ended_lines_of rest ≡ [] = ap (λ lines. map with_line_feed lines) (whole_lines_of-one rest one) in (
+      gone.0 ++ made.0,
+      made.1 ∙ ap (λ o. o ++ made.0) gone.1 ∙ append_assoc o0 gone.0 made.0,
+      gone.2 made.0
+          (subst (λ ls. Become R (line ∷ ls) made.0) (sym none)
+          (Become-one R line made.0 ((stays line made.0).1 made.2))),
+    )
+
+drop_front : (fed rest : List ℕ) → drop (length (fed ++ rest) - length rest) (fed ++ rest) ≡ rest
+drop_front fed rest =
+    let e : length (fed ++ rest) - length rest ≡ length fed = omega (arith, length-append fed rest) in
+    rw e (drop-append_seam fed rest)
+
+-- the rest has no line feed
+pub rest_of_text : (text fed rest : List ℕ) → text ≡ fed ++ rest → unended_of fed ≡ [] → IsOneLine rest
+    → drop (length text - length rest) text ≡ unended_of text
+rest_of_text text fed rest whole none one =
+    rw whole (drop_front fed rest ∙ sym (unended_of-more fed rest one ∙ ap (λ x. x ++ rest) none))
+
 pub rest_of_block : (old block : List ℕ) (end : ℕ) → IsOneLine old → EndsAt block end
     → unended_of (drop (end + 1) block) ≡ unended_of (old ++ block)
 rest_of_block old block end one ends =
@@ -137,22 +164,17 @@ rest_of_block old block end one ends =
     ∙ ap (λ p. unended_of (p ++ drop (end + 1) block)) (unended_of-ended line is_one))
 
 -- what the lines of the block became was appended
-pub block_is_appended : (R Q : List ℕ → List ℕ → Type 0) (old block line rest : List ℕ) (end : ℕ) (o0 o1 o2 : List ℕ)
-    → IsOneLine old → EndsAt block end → line ≡ old ++ take (end + 1) block → rest ≡ drop (end + 1) block → Stays R Q
-    → Adds (R line) o0 o1 → Adds (Become Q (ended_lines_of rest)) o1 o2
-    → Adds (Become R (ended_lines_of (old ++ block))) o0 o2
-block_is_appended R Q old block line rest end o0 o1 o2 one ends is left stays first others = (
-  first.0 ++ others.0,
-  others.1 ∙ ap (λ o. o ++ others.0) first.1 ∙ append_assoc o0 first.0 others.0,
-  subst (λ lines. Become R lines (first.0 ++ others.0)) (sym (lines_of_block old block end one ends)) (
-    first.0,
-    others.0,
-    refl,
-    subst (λ l. R l first.0) (is ∙ ended_line old block end ends) first.2,
-    subst (λ r. Become R (ended_lines_of r) others.0) left
-        (Become-before R Q (ended_lines_of rest) others.0 stays others.2),
-  ),
-)
+pub block_is_appended : (R : List ℕ → List ℕ → Type 0) (old block line rest : List ℕ) (end : ℕ) (o0 o1 : List ℕ)
+    → IsOneLine old → EndsAt block end → line ≡ old ++ take (end + 1) block → rest ≡ drop (end + 1) block
+    → Adds (Become R (line ∷ ended_lines_of rest)) o0 o1 → Adds (Become R (ended_lines_of (old ++ block))) o0 o1
+block_is_appended R old block line rest end o0 o1 one ends is left made =
+    let first : line ≡ with_line_feed (old ++ take end block) = is ∙ ended_line old block end ends in (
+      made.0,
+      made.1,
+      subst (λ lines. Become R lines made.0) (sym (lines_of_block old block end one ends))
+          (subst (λ l. Become R (l ∷ ended_lines_of (drop (end + 1) block)) made.0) first
+          (subst (λ r. Become R (line ∷ ended_lines_of r) made.0) left made.2)),
+    )
 
 -- what waits after the block
 pub block_waits : (old block rest cleared all : List ℕ) (end whole : ℕ) → IsOneLine old → EndsAt block end

@@ -1,5 +1,5 @@
 -- A run that writes what each line becomes before it reads on.
-use Rattle.std.proofs.Common.{ℕ, ◌≡◌, ◌++◌, List, [], Option, Some, None, Result, Ok, Err, OnErr, refl, ap, sym, subst, ◌∙◌, append_assoc, append-nil}
+use Rattle.std.proofs.Common.{ℕ, ◌≡◌, ◌++◌, List, [], ◌∷◌, Option, Some, None, Result, Ok, Err, OnErr, refl, ap, sym, subst, ◌∙◌, append_assoc, append-nil}
 use Rattle.line_streams.specs.Lines.{unended_of, last_line_of, IsOneLine}
 use Rattle.line_streams.specs.Filter.{all_lines_of, ended_lines_of, Adds, Become, Stays}
 use Rattle.line_streams.specs.Prompt.{BreaksOff, Grows, GrowsInPart, HasBegun, HasFiltered, IsPrompt, Knows, Writes}
@@ -74,12 +74,12 @@ BreaksOff-texts R Q lines put put' o0 o1 bytes none same stays made cut =
 
 -- a line alone
 pub last_made : (Q : List ℕ → List ℕ → Type 0) (pending line : List ℕ) (o0 o1 : List ℕ) → (pending ≡ [] → ⊥) → line ≡ pending
-    → Adds (Q line) o0 o1 → Adds (Become Q (last_line_of pending)) o0 o1
+    → Adds (Become Q (line ∷ [])) o0 o1 → Adds (Become Q (last_line_of pending)) o0 o1
 last_made Q pending line o0 o1 some same made = (
   made.0,
   made.1,
   subst (λ lines. Become Q lines made.0) (sym (last_is_one pending some))
-      (Become-one Q pending made.0 (subst (λ l. Q l made.0) same made.2)),
+      (subst (λ l. Become Q (l ∷ []) made.0) same made.2),
 )
 
 -- ---- a run

@@ -28,8 +28,7 @@ fn append_block<J: LineJob>(
 {
     let rest = &block[end + 1..];
     pending.extend_from_slice(&block[..end + 1])?;
-    job.append(texts, pending.as_slice())?;
-    let whole = append_lines(job, texts, rest)?;
+    let whole = append_lines(job, texts, pending.as_slice(), rest)?;
     pending.clear();
     pending.extend_from_slice(&rest[whole..])?;
     Ok(())
@@ -85,7 +84,7 @@ fn take_last<J: LineJob, S: Exchange>(
     }
     job.prepare()?;
     texts.clear();
-    job.append(texts, pending.as_slice())?;
+    append_lines(job, texts, pending.as_slice(), &[])?;
     exchange.write_all(texts.as_slice())?;
     Ok(())
 }

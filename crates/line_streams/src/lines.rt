@@ -1,5 +1,5 @@
 //! What is done with each line.
-ghost use Rattle.std.specs.Prelude.{◌≡◌, ◌==◌, ◌≤◌, ℕ, List, ◌++◌, length, position, OnOk, IfOk, drop};
+ghost use Rattle.std.specs.Prelude.{◌≡◌, ◌==◌, ◌≤◌, ℕ, List, ◌∷◌, ◌++◌, length, position, OnOk, IfOk, drop};
 ghost use Rattle.line_streams.specs.Lines.{unended_of};
 ghost use Rattle.line_streams.specs.Filter.{ended_lines_of, Adds, Become, Stays};
 
@@ -36,24 +36,31 @@ pub fn place_of_end(bytes: &[u8]) -> Option<usize>
     memchr(b'\n', bytes)
 }
 
-/// Appends what each line of the text that has its line feed becomes, and returns how many bytes
-/// these lines have.
+/// Appends what a first line becomes, and what each line of the text that has its line feed becomes. Returns how
+/// many bytes of the text these lines have. The job is called at one place alone, so that the compiler makes it part
+/// of the loop.
 pub(crate) fn append_lines<J: LineJob>(
     job: &mut J,
     output: &mut Vec<u8>,
+    first: &[u8],
     text: &[u8],
 ) -> Result<usize, AllocError>
     requires ready { J.is_ready job.old }
     ensures stays { Stays (J.becomes job.old) (J.becomes job.new) }
     ensures inside { IfOk result (λ count. count ≤ length text.now) }
     ensures rest { IfOk result (λ count. drop count text.now ≡ unended_of text.now) }
-    ensures appended { OnOk result (Adds (Become (J.becomes job.old) (ended_lines_of text.now))
+    ensures appended { OnOk result (Adds
+        (Become (J.becomes job.old) (first.now ∷ ended_lines_of text.now))
         output.old.items output.new.items) }
 {
+    let mut line = first;
     let mut rest = text;
-    while let Some(end) = place_of_end(rest) {
-        job.append(output, &rest[..end + 1])?;
+    loop {
+        job.append(output, line)?;
+        let Some(end) = place_of_end(rest) else {
+            return Ok(text.len() - rest.len());
+        };
+        line = &rest[..end + 1];
         rest = &rest[end + 1..];
     }
-    Ok(text.len() - rest.len())
 }

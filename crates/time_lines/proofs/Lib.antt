@@ -1,6 +1,7 @@
 pub mod DayLemmas
 pub mod DescribedLemmas
 pub mod DigitLemmas
+pub mod JsonLemmas
 pub mod NumberLemmas
 pub mod ReadLemmas
 pub mod RunLemmas

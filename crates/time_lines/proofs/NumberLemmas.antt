@@ -10,7 +10,7 @@ use Rattle.time_lines.specs.Shown.{IsReplaced, Replaces, bytes_of}
 use Rattle.std.proofs.lemmas.List.Sums.{prefix_len_passes}
 use Rattle.std.specs.Char.{is_ascii_digit}
 use Rattle.std.specs.Str.Parse.{digits_value}
-use Rattle.time_below.specs.Moment.{Moment, IsMoment}
+use Rattle.time_below.specs.Moment.{Moment}
 use Rattle.time_lines.specs.Number.{begins, decimals_of, digit_count, digits_of, first_place, goes_on, has_minus, is_digit_at, moment_after, moment_of, number_at, with_sign}
 use Rattle.time_lines.specs.declared.number.Unit.{Unit as UnixUnit}
 

@@ -1,12 +1,12 @@
 -- What a line becomes whose numbers are replaced one after another.
-use Rattle.std.proofs.Common.{ℕ, zero, suc, ◌≡◌, ◌+◌, ◌-◌, ◌<◌, ◌≤◌, ◌++◌, ◌&&◌, Bool, true, false, Option, Some, None, List, [], length, take, drop, inl, inr, refl, sym, ap, subst, ◌∙◌, append-nil, append_assoc, arith}
-use Rattle.std.specs.Prelude.{Result, Ok, Err, OnOk, IfSome, IfNone, if◌then◌else◌}
+use Rattle.std.proofs.Common.{ℕ, zero, suc, ◌≡◌, ◌+◌, ◌-◌, ◌<◌, ◌≤◌, ◌++◌, ◌&&◌, ◌||◌, Bool, true, false, Option, Some, None, List, [], length, take, drop, inl, inr, refl, sym, ap, subst, ◌∙◌, append-nil, append_assoc, arith}
+use Rattle.std.specs.Prelude.{Result, Ok, Err, OnOk, IfSome, IfNone, is_some, if◌then◌else◌}
 use Rattle.line_streams.specs.Filter.{Adds}
 use Rattle.time_below.specs.Moment.{Moment, IsMoment}
 use Rattle.time_lines.specs.Json.{has_exponent, quotes_if}
 use Rattle.time_lines.specs.Number.{begins, decimals_length, decimals_of, digit_count, digits_of, first_place, has_minus, is_time, moment_after, moment_of, number_at, number_start, unit_for, with_sign}
 use Rattle.time_lines.specs.Shown.{IsReplaced, SameShown}
-use Rattle.time_lines.specs.Unix.{FromBecomes, HasText, PieceBecomes, RestBecomes, between, is_quoted, moment_of_time}
+use Rattle.time_lines.specs.Unix.{FromBecomes, HasText, PieceBecomes, RestBecomes, UnixBecomes, between, is_quoted, moment_of_time}
 use Rattle.time_lines.specs.declared.number.Numbers.{Numbers}
 use Rattle.time_lines.specs.declared.number.Unit.{Unit as UnixUnit}
 use Rattle.time_lines.proofs.NumberLemmas.{moment_is, replaces_named, rest_of_number}
@@ -82,8 +82,33 @@ pub none_more : (shows : Moment → Option (List ℕ) → Type 0) (numbers : Num
     → left ≡ 0 → RestBecomes shows numbers left line at from (drop at line)
 none_more shows numbers left line at from is = subst (λ n. RestBecomes shows numbers n line at from (drop at line)) (sym is) refl
 
+apart : (b : Bool) → b ≡ true → b ≡ false → ⊥
+apart b p q = cc
+
 never_some : (start : ℕ) → None ≡ Some start → ⊥
 never_some start e = cc
+
+-- a line without a number
+pub timeless : {T : Type 0} {E : Type 0} (r : Result T E) (shows : Moment → Option (List ℕ) → Type 0) (numbers : Numbers)
+    (line : List ℕ) (from : ℕ) (o0 o1 : List ℕ) → number_start (is_time numbers.unit numbers.least) line from ≡ None
+    → OnOk r (o1 ≡ o0 ++ line) → OnOk r (Adds (FromBecomes shows numbers (Some from) line) o0 o1)
+timeless (Ok v) shows numbers line from o0 o1 none is =
+    (line, is, none_left shows numbers (if numbers.is_all then length line else 1) line 0 from none)
+timeless (Err e) shows numbers line from o0 o1 none is = is
+
+first_of : (a b c : Bool) → ((a || b) || c) ≡ false → a ≡ false
+first_of true b c none = none
+first_of false b c none = refl
+
+-- where no text is asked for, numbers are looked for from the start of the line
+pub unasked : {T : Type 0} {E : Type 0} (r : Result T E) (shows : Moment → Option (List ℕ) → Type 0) (numbers : Numbers)
+    (after : Option (List ℕ)) (asked all json : Bool) (line : List ℕ) (o0 o1 : List ℕ) → asked ≡ is_some after
+    → ((asked || all) || json) ≡ false → OnOk r (Adds (FromBecomes shows numbers (Some 0) line) o0 o1)
+    → OnOk r (Adds (UnixBecomes shows numbers after line) o0 o1)
+unasked (Ok v) shows numbers None asked all json line o0 o1 is none h = (h.0, h.1, (Some 0, refl, h.2))
+unasked (Ok v) shows numbers (Some t) asked all json line o0 o1 is none h =
+    absurd (apart asked is (first_of asked all json none))
+unasked (Err e) shows numbers after asked all json line o0 o1 is none h = h
 
 -- a line with a number is not empty
 long_enough : (p : ℕ → Bool) (n from start : ℕ) → first_place p (n - from) from ≡ Some start → 1 ≤ n
@@ -121,6 +146,31 @@ first_and_rest shows shows' numbers line from start end o0 o1 o2 (Ok v) same is 
           )),
     )
 first_and_rest shows shows' numbers line from start end o0 o1 o2 (Err e) same is to piece rest = rest
+
+-- numbers of which no text is put in quotes, with this said
+abbrev without_json : Numbers → Numbers
+without_json numbers =
+    record { unit = numbers.unit; least = numbers.least; is_all = numbers.is_all; is_json = false }
+
+unchanged : (numbers : Numbers) → numbers.is_json ≡ false → without_json numbers ≡ numbers
+unchanged numbers none =
+    ap (λ json. record { unit = numbers.unit; least = numbers.least; is_all = numbers.is_all; is_json = json }) (sym none)
+
+-- the first number of a line, where it alone is replaced, and what is behind it
+pub first_alone : (shows shows' : Moment → Option (List ℕ) → Type 0) (numbers : Numbers) (line : List ℕ)
+    (start end : ℕ) (o0 o1 o2 : List ℕ) → SameShown shows shows' → numbers.is_all ≡ false → numbers.is_json ≡ false
+    → number_start (is_time numbers.unit numbers.least) line 0 ≡ Some start → end ≡ (number_at line start).end
+    → Adds (PieceBecomes shows (without_json numbers) line 0 start) o0 o1
+    → o2 ≡ o1 ++ take (length line - end) (drop end line) → Adds (FromBecomes shows numbers (Some 0) line) o0 o2
+first_alone shows shows' numbers line start end o0 o1 o2 same one none is to piece rest =
+    let r : Result Bool ℕ = Ok true in
+    let mine : Adds (PieceBecomes shows numbers line 0 start) o0 o1 =
+    subst (λ n. Adds (PieceBecomes shows n line 0 start) o0 o1) (unchanged numbers none) piece in
+    first_and_rest {E = ℕ} shows shows' numbers line 0 start end o0 o1 o2 r same is to mine (
+      drop end line,
+      rest ∙ ap (λ t. o1 ++ t) (slice-end end line),
+      subst (λ all. RestBecomes shows' numbers (if all then length line - 1 else 0) line end end (drop end line)) (sym one) refl,
+    )
 
 -- whether a number stays, as its slices tell it
 pub stops_is : (numbers : Numbers) (line : List ℕ) (start count len : ℕ) (decimals : List ℕ) (value stays : Bool)

@@ -1,5 +1,5 @@
 -- Where strings of JSON stand in a line, and which bytes a text in quotes may have.
-use Rattle.std.specs.Prelude.{ℕ, ◌≤◌, ◌≢◌, List, [], ◌∷◌, Bool, not, true, false, ◌&&◌, ◌||◌, ◌==◌, take, if◌then◌else◌}
+use Rattle.std.specs.Prelude.{ℕ, List, [], ◌∷◌, Bool, not, false, ◌&&◌, ◌||◌, ◌==◌, take, if◌then◌else◌}
 
 -- whether the text ends inside of a string (quotes are 34), where it begins inside of one or not, and perhaps behind a
 -- backslash (92), whose next byte ends no string

@@ -1,12 +1,12 @@
 -- The lines of a run, and the first of them that passed as it was.
-use Rattle.std.specs.Prelude.{ℕ, ◌+◌, min, Option, Some, None}
+use Rattle.std.specs.Prelude.{ℕ, ◌+◌, ◌%◌, ◌^◌, Option, Some, None}
 use Rattle.time_lines.specs.declared.passed.FirstPassed.{FirstPassed}
 use Rattle.time_lines.specs.declared.passed.Passed.{Passed}
 use Rattle.time_lines.specs.declared.passed.Why.{Why}
 
--- one more, up to the greatest number of 64 bits
+-- one more, modulo 2^64
 abbrev pub up : ℕ → ℕ
-up count = min (count + 1) 0xffff_ffff_ffff_ffff
+up count = (count + 1) % 2 ^ 64
 
 -- what is kept where there is one more: the one that was kept before, if there is one
 abbrev pub first_kept : Option FirstPassed → FirstPassed → Option FirstPassed

@@ -1,6 +1,8 @@
 //! Where values of JSON stand in a line.
-ghost use Rattle.std.specs.Prelude.{◌≡◌, ◌≤◌, ◌==◌, length, false, not, ◌&&◌, if◌then◌else◌};
+ghost use Rattle.std.specs.Prelude.{◌≡◌, ◌≤◌, ◌==◌, ◌%◌, length, take, count_by, false, not, ◌&&◌, if◌then◌else◌};
 ghost use Rattle.time_lines.specs.Json.{ends_in_string, has_exponent, is_value_at, quotes_if};
+
+use crate::runs::{LANES, count_in_lanes};
 
 /// Whether the next position is inside of a string of JSON, which a quote begins and ends unless it is escaped.
 #[inline(always)]
@@ -22,11 +24,11 @@ fn escaped_after(inside: bool, escaped: bool, byte: u8) -> bool
     inside && (byte == b'\\' && !escaped)
 }
 
-/// Whether the text ends inside of a string of JSON.
-fn ends_in_string(text: &[u8]) -> bool
-    ensures { result ≡ ends_in_string false false text.now }
+/// Whether the text ends inside of a string of JSON, byte by byte, where it begins inside of one or not.
+fn ends_in_string_after(begins_inside: bool, text: &[u8]) -> bool
+    ensures { result ≡ ends_in_string begins_inside false text.now }
 {
-    let mut inside = false;
+    let mut inside = begins_inside;
     let mut escaped = false;
     for byte in text {
         let is_inside = inside_after(inside, escaped, *byte);
@@ -35,6 +37,33 @@ fn ends_in_string(text: &[u8]) -> bool
         escaped = is_escaped;
     }
     inside
+}
+
+/// Whether the next position is inside of a string, behind sixteen bytes of which none is escaped.
+#[inline(always)]
+fn inside_after_lanes(inside: bool, text: &[u8]) -> bool
+    requires { 16 ≤ length text.now }
+    ensures { result
+        ≡ (if count_by (λ b. b == 34) (take 16 text.now) % 2 == 1 then not inside else inside) }
+{
+    if count_in_lanes(text, b'"') % 2 == 1 {
+        !inside
+    } else {
+        inside
+    }
+}
+
+/// Whether the text ends inside of a string of JSON. Sixteen bytes without a backslash are looked at together.
+fn ends_in_string(text: &[u8]) -> bool
+    ensures { result ≡ ends_in_string false false text.now }
+{
+    let mut inside = false;
+    let mut rest = text;
+    while rest.len() >= LANES && count_in_lanes(rest, b'\\') == 0 {
+        inside = inside_after_lanes(inside, rest);
+        rest = &rest[LANES..];
+    }
+    ends_in_string_after(inside, rest)
 }
 
 /// Whether a value of JSON stands here, in no string of the line.

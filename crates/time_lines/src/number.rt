@@ -74,12 +74,12 @@ pub(crate) fn unit_for(asked: Option<Unit>, count: usize) -> Unit
     }
 }
 
-/// Whether a number of so many digits is a time.
+/// Whether a number of so many digits is a time. Most have ten, which is told first.
 #[inline(always)]
 fn is_time(numbers: &Numbers, count: usize) -> bool
     ensures { result ≡ is_time numbers.now.unit numbers.now.least count }
 {
-    count >= numbers.least && unit_of(numbers.unit, count).is_some()
+    count >= numbers.least && (count == 10 || unit_of(numbers.unit, count).is_some())
 }
 
 /// Whether a digit stands before this position, or a point after a digit.

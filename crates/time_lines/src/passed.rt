@@ -29,9 +29,9 @@ pub struct FirstPassed {
 /// The lines of a run, and those that passed as they were.
 #[derive(Clone, Copy, Debug)]
 pub struct Passed {
-    /// How many lines there were, up to the greatest `u64`.
+    /// How many lines there were, modulo 2^64.
     pub lines: u64,
-    /// How many of them passed as they were.
+    /// How many of them passed as they were, modulo 2^64.
     pub count: u64,
     /// The first of these, if there is one.
     pub first: Option<FirstPassed>,
@@ -54,21 +54,21 @@ impl Passed {
     pub(crate) fn count_line(&mut self, stays: Option<Why>)
         ensures { self.new ≡ one_more self.old stays }
     {
-        self.lines = self.lines.saturating_add(1);
+        self.lines = self.lines.wrapping_add(1);
         if let Some(why) = stays {
             self.pass(why);
         }
     }
 
     /// Counts a line that passed as it was, which is among the lines already.
-    #[inline(never)]
+    #[inline(always)]
     fn pass(&mut self, why: Why)
         ensures lines { self.new.lines ≡ self.old.lines }
         ensures count { self.new.count ≡ up self.old.count }
         ensures first { self.new.first
             ≡ first_kept self.old.first (record { line = self.old.lines; why = why }) }
     {
-        self.count = self.count.saturating_add(1);
+        self.count = self.count.wrapping_add(1);
         if self.first.is_none() {
             self.first = Some(FirstPassed {
                 line: self.lines,

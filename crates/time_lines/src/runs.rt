@@ -1,5 +1,5 @@
 //! Runs of digits in a text, found by sixteen bytes at a time.
-ghost use Rattle.std.specs.Prelude.{◌≡◌, ◌+◌, ◌≤◌, ◌==◌, not, length, take, drop, if◌then◌else◌};
+ghost use Rattle.std.specs.Prelude.{◌≡◌, ◌+◌, ◌≤◌, ◌==◌, not, length, take, drop, count_by, if◌then◌else◌};
 ghost use Rattle.std.specs.Char.{is_ascii_digit};
 ghost use Rattle.std.specs.Int.{w64, trailing_zeros};
 ghost use Rattle.std.specs.List.{prefix_len};
@@ -30,6 +30,18 @@ pub(crate) fn others_in_lanes(text: &[u8], at: usize) -> usize
 {
     let values = u8x16::from_slice(&text[at..]) - u8x16::splat(b'0');
     first_set(values.simd_lt(u8x16::splat(10)).to_bitmask())
+}
+
+/// How many of the first sixteen bytes are this one.
+#[inline(always)]
+pub(crate) fn count_in_lanes(text: &[u8], byte: u8) -> u32
+    requires { 16 ≤ length text.now }
+    ensures { result ≡ count_by (λ b. b == byte) (take 16 text.now) }
+{
+    u8x16::from_slice(text)
+        .simd_eq(u8x16::splat(byte))
+        .to_bitmask()
+        .count_ones()
 }
 
 /// How many of the first sixteen bytes are digits, before the first that is none.

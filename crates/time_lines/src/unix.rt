@@ -179,6 +179,28 @@ fn found_number(numbers: &Numbers, line: &[u8], start: usize, count: usize) -> F
     }
 }
 
+/// The same. Most numbers begin their lines and have ten digits, and the copy for these alone is the shorter one.
+#[inline(always)]
+fn number_found(numbers: &Numbers, line: &[u8], start: usize, count: usize) -> FoundNumber
+    requires inside { start ≤ length line.now }
+    requires digits { count ≤ length line.now - start }
+    requires count { count ≡ digit_count (drop start line.now) }
+    ensures first { result.first ≡ (number_at line.now start).first }
+    ensures end { result.end ≡ (number_at line.now start).end }
+    ensures value { result.is_value ≡ is_quoted numbers.now line.now start }
+    ensures some { IfSome result.moment (λ m. (m ≡ moment_of_time numbers.now line.now start)
+        × HasText numbers.now line.now start) }
+    ensures none { IfNone result.moment (¬ HasText numbers.now line.now start) }
+    ensures order { result.first ≤ result.end }
+    ensures inside { result.end ≤ length line.now }
+{
+    if start == 0 && count == 10 {
+        found_number(numbers, line, 0, 10)
+    } else {
+        found_number(numbers, line, start, count)
+    }
+}
+
 /// The bytes from one position to another, and none where the second one comes before the first.
 #[inline(always)]
 fn between(line: &[u8], at: usize, to: usize) -> &[u8]
@@ -210,7 +232,7 @@ fn append_piece<S: Shown>(
         (PieceBecomes (S.shows shown.old) numbers.now line.now at start)
         output.old.items output.new.items) }
 {
-    let found = found_number(numbers, line, start, count);
+    let found = number_found(numbers, line, start, count);
     let before = between(line, at, found.first);
     let own = between(line, found.first, found.end);
     let marks = quotes_if(found.is_value);
@@ -231,33 +253,6 @@ fn why_stays(has_moment: bool, is_shown: bool) -> Option<Why> {
         Some(Why::NoText)
     } else {
         Some(Why::NoMoment)
-    }
-}
-
-/// The same of the first number of a line. Most begin their lines, and a call for these alone is the shorter one.
-#[inline(always)]
-fn append_first<S: Shown>(
-    shown: &mut S,
-    numbers: &Numbers,
-    output: &mut Vec<u8>,
-    line: &[u8],
-    start: usize,
-    count: usize,
-) -> Result<Piece, AllocError>
-    requires inside { start ≤ length line.now }
-    requires digits { count ≤ length line.now - start }
-    requires count { count ≡ digit_count (drop start line.now) }
-    ensures same { SameShown (S.shows shown.old) (S.shows shown.new) }
-    ensures end { IfOk result (λ piece. piece.end ≡ (number_at line.now start).end) }
-    ensures inside { IfOk result (λ piece. piece.end ≤ length line.now) }
-    ensures appended { OnOk result (Adds
-        (PieceBecomes (S.shows shown.old) numbers.now line.now 0 start)
-        output.old.items output.new.items) }
-{
-    if start == 0 {
-        append_piece(shown, numbers, output, line, 0, 0, count)
-    } else {
-        append_piece(shown, numbers, output, line, 0, start, count)
     }
 }
 
@@ -319,7 +314,7 @@ fn append_behind<S: Shown>(
     Ok(if is_any_shown { None } else { first.stays })
 }
 
-/// Why a line has no time from this position on.
+/// Why a line has no time from this position on. It is looked up for the first such line alone.
 #[cold]
 #[inline(never)]
 fn why_none(numbers: &Numbers, line: &[u8], from: usize) -> Why
@@ -335,16 +330,38 @@ fn why_none(numbers: &Numbers, line: &[u8], from: usize) -> Why
     }
 }
 
-/// Appends what a line becomes whose times are looked for from this position on. Says why the line passed as it was,
-/// if it did.
+/// Appends a line that has no time from this position on, and counts it.
+#[inline(always)]
+fn append_timeless(
+    numbers: &Numbers,
+    passed: &mut Passed,
+    output: &mut Vec<u8>,
+    line: &[u8],
+    from: usize,
+) -> Result<(), AllocError>
+    requires { from ≤ length line.now }
+    ensures { OnOk result (output.new.items ≡ output.old.items ++ line.now) }
+{
+    output.extend_from_slice(line)?;
+    let why = if passed.first.is_none() {
+        why_none(numbers, line, from)
+    } else {
+        Why::NoTime
+    };
+    passed.count_line(Some(why));
+    Ok(())
+}
+
+/// Appends what a line becomes whose times are looked for from this position on, and counts it.
 #[inline(always)]
 fn append_from<S: Shown>(
     shown: &mut S,
     numbers: &Numbers,
+    passed: &mut Passed,
     output: &mut Vec<u8>,
     line: &[u8],
     from: usize,
-) -> Result<Option<Why>, AllocError>
+) -> Result<(), AllocError>
     requires from { from ≤ length line.now }
     ensures same { SameShown (S.shows shown.old) (S.shows shown.new) }
     ensures appended { OnOk result (Adds
@@ -352,11 +369,12 @@ fn append_from<S: Shown>(
         output.old.items output.new.items) }
 {
     let Some((start, count)) = number_start(line, numbers, from) else {
-        output.extend_from_slice(line)?;
-        return Ok(Some(why_none(numbers, line, from)));
+        return append_timeless(numbers, passed, output, line, from);
     };
-    let first = append_first(shown, numbers, output, line, start, count)?;
-    append_behind(shown, numbers, output, line, &first)
+    let first = append_piece(shown, numbers, output, line, 0, start, count)?;
+    let stays = append_behind(shown, numbers, output, line, &first)?;
+    passed.count_line(stays);
+    Ok(())
 }
 
 /// From which position on times of the line are looked for, if the text after which they stand is in it.
@@ -372,15 +390,16 @@ fn from_place(after: &Option<Finder<'_>>, line: &[u8]) -> Option<usize>
     Some(at + text.needle().len())
 }
 
-/// Appends what a line becomes. Says why it passed as it was, if it did.
-#[inline(always)]
-fn append_line<S: Shown>(
+/// Appends what a line becomes by all that may be asked for, and counts it.
+#[inline(never)]
+fn append_asked<S: Shown>(
     shown: &mut S,
     numbers: &Numbers,
     after: &Option<Finder<'_>>,
+    passed: &mut Passed,
     output: &mut Vec<u8>,
     line: &[u8],
-) -> Result<Option<Why>, AllocError>
+) -> Result<(), AllocError>
     ensures same { SameShown (S.shows shown.old) (S.shows shown.new) }
     ensures appended { OnOk result (Adds
         (UnixBecomes (S.shows shown.old) numbers.now after.now line.now)
@@ -388,9 +407,40 @@ fn append_line<S: Shown>(
 {
     let Some(from) = from_place(after, line) else {
         output.extend_from_slice(line)?;
-        return Ok(Some(Why::NoPlace));
+        passed.count_line(Some(Why::NoPlace));
+        return Ok(());
     };
-    append_from(shown, numbers, output, line, from)
+    append_from(shown, numbers, passed, output, line, from)
+}
+
+/// The same where the first time of each line is replaced, and no JSON is read. The compiler drops from the copy of
+/// the numbers what else may be asked for, as long as no call is handed it.
+#[inline(always)]
+fn append_usual<S: Shown>(
+    shown: &mut S,
+    numbers: &Numbers,
+    passed: &mut Passed,
+    output: &mut Vec<u8>,
+    line: &[u8],
+) -> Result<(), AllocError>
+    requires first { numbers.now.is_all ≡ false }
+    requires text { numbers.now.is_json ≡ false }
+    ensures same { SameShown (S.shows shown.old) (S.shows shown.new) }
+    ensures appended { OnOk result (Adds
+        (FromBecomes (S.shows shown.old) numbers.now (Some 0) line.now)
+        output.old.items output.new.items) }
+{
+    let usual = Numbers {
+        is_json: false,
+        ..*numbers
+    };
+    let Some((start, count)) = number_start(line, &usual, 0) else {
+        return append_timeless(numbers, passed, output, line, 0);
+    };
+    let first = append_piece(shown, &usual, output, line, 0, start, count)?;
+    output.extend_from_slice(&line[first.end..])?;
+    passed.count_line(first.stays);
+    Ok(())
 }
 
 impl<S: Shown + Drop> LineJob for UnixJob<'_, S> {
@@ -404,8 +454,12 @@ impl<S: Shown + Drop> LineJob for UnixJob<'_, S> {
 
     #[inline(always)]
     fn append(&mut self, output: &mut Vec<u8>, line: &[u8]) -> Result<(), AllocError> {
-        let stays = append_line(&mut self.shown, &self.numbers, &self.after, output, line)?;
-        self.passed.count_line(stays);
-        Ok(())
+        let numbers = &self.numbers;
+        let passed = &mut self.passed;
+        if self.after.is_some() | numbers.is_all | numbers.is_json {
+            append_asked(&mut self.shown, numbers, &self.after, passed, output, line)
+        } else {
+            append_usual(&mut self.shown, numbers, passed, output, line)
+        }
     }
 }

@@ -1,5 +1,5 @@
 //! Tests of the crates above the formatter by public calls: of `time_describe`, `time_plan`,
-//! `time_plan_read`, `time`, `line_streams`, `time_lines`, `time_jiff`, `log_time` and `time_serde`, of
+//! `time_plan_read`, `time`, `time_jiff` and `time_serde`, of
 //! the lines of `docs/RATTLE.md` in Rattle, and of the recipes. One library reads all crates below once,
 //! and `time_describe` stands on `time_below` alone.
 #![tactic(auto)]
@@ -15,10 +15,6 @@ mod from_time;
 #[cfg(test)]
 mod jiff_values;
 #[cfg(test)]
-mod lines;
-#[cfg(test)]
-mod log_lines;
-#[cfg(test)]
 mod parse_calls;
 #[cfg(test)]
 mod read_back;
@@ -30,8 +26,6 @@ mod recipes;
 mod serde_moments;
 #[cfg(test)]
 mod shown;
-#[cfg(test)]
-mod streams;
 #[cfg(test)]
 mod time_calls;
 #[cfg(test)]

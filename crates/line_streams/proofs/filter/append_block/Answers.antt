@@ -11,7 +11,7 @@ returns-clause-waits g c =
 
 pub returns-clause-appended : goal.returns-clause-appended
 returns-clause-appended g c =
-    block_is_appended (g.J.LineJob.becomes c.args.job.now) (g.J.LineJob.becomes c.append.new.self)
-    c.args.pending.now.items c.args.block.now c.as_slice.result.now _ c.args.end _ _ _ c.requires.held c.requires.found
+    block_is_appended (g.J.LineJob.becomes c.args.job.now) c.args.pending.now.items c.args.block.now
+    c.as_slice.result.now _ c.args.end _ _ c.requires.held c.requires.found
     (c.as_slice.ensures.value ∙ c.in_ok-extend_from_slice.ensures.items) (slice-end (c.args.end + 1) c.args.block.now)
-    c.in_ok-append.ensures.stays c.in_ok-append.ensures.appended c.in_ok-whole.ensures.appended
+    c.in_ok-whole.ensures.appended

@@ -6,9 +6,9 @@ pub returns-in_err-prepare-clause-cut : goal.returns-in_err-prepare-clause-cut
 returns-in_err-prepare-clause-cut g c =
     on_error c.from_residual.result (BreaksOff-none (g.J.LineJob.becomes c.args.job.now) _ _ _ refl)
 
-pub returns-in_err-append-clause-cut : goal.returns-in_err-append-clause-cut
-returns-in_err-append-clause-cut g c =
-    on_error c.from_residual-in_err-append.result (BreaksOff-none (g.J.LineJob.becomes c.args.job.now) _ _ _ refl)
+pub returns-in_err-append_lines-clause-cut : goal.returns-in_err-append_lines-clause-cut
+returns-in_err-append_lines-clause-cut g c =
+    on_error c.from_residual-in_err-append_lines.result (BreaksOff-none (g.J.LineJob.becomes c.args.job.now) _ _ _ refl)
 
 pub returns-clause-written : goal.returns-clause-written
 returns-clause-written g c =
@@ -16,7 +16,7 @@ returns-clause-written g c =
     Writes-texts (g.J.LineJob.becomes c.args.job.now) (g.J.LineJob.becomes c.prepare.new.self) _ _ _ _ _ _
     c.clear.ensures.items c.as_slice-2.ensures.value c.in_ok-prepare.ensures.stays
     (last_made (g.J.LineJob.becomes c.prepare.new.self) c.args.pending.now.items c.as_slice.result.now _ _ some
-    c.as_slice.ensures.value c.in_ok-append.ensures.appended)
+    c.as_slice.ensures.value c.in_ok-append_lines.ensures.appended)
     c.in_ok-write_all.ensures.put
 
 pub returns-in_err-write_all-clause-cut : goal.returns-in_err-write_all-clause-cut
@@ -26,5 +26,5 @@ returns-in_err-write_all-clause-cut g c =
     (BreaksOff-texts (g.J.LineJob.becomes c.args.job.now) (g.J.LineJob.becomes c.prepare.new.self) _ _ _ _ _ _
     c.clear.ensures.items c.as_slice-2.ensures.value c.in_ok-prepare.ensures.stays
     (last_made (g.J.LineJob.becomes c.prepare.new.self) c.args.pending.now.items c.as_slice.result.now _ _ some
-    c.as_slice.ensures.value c.in_ok-append.ensures.appended)
+    c.as_slice.ensures.value c.in_ok-append_lines.ensures.appended)
     c.in_err-write_all.ensures.cut)

@@ -1,8 +1,10 @@
-use Rattle.std.proofs.Common.{◌≡◌, drop, false}
+use Rattle.std.proofs.Common.{◌≡◌, false, length}
 use Rattle.time_lines.specs.Json.{ends_in_string}
 use Rattle.time_lines.proofs.json.ends_in_string.Given as goal
 
--- from here on the rest of the text ends where the whole of it does
-abbrev pub invariant-loop-byte : goal.invariant-loop-byte
-invariant-loop-byte l =
-    ends_in_string l.inside l.escaped (drop l.byte-index l.text) ≡ ends_in_string false false l.text
+-- the rest of the text ends where the whole of it does
+abbrev pub invariant-loop-rest : goal.invariant-loop-rest
+invariant-loop-rest l = ends_in_string l.inside false l.rest ≡ ends_in_string false false l.text
+
+abbrev pub decreases-loop-rest : goal.decreases-loop-rest
+decreases-loop-rest l = length l.rest

@@ -1,5 +1,5 @@
 use Rattle.std.proofs.Common.{sym, ap, length, ◌∙◌}
-use Rattle.time_lines.proofs.NumberLemmas.{line_is_left, nothing_is_put, text_is_put}
+use Rattle.time_lines.proofs.NumberLemmas.{line_is_left, text_is_put}
 use Rattle.time_lines.proofs.unix.append_replaced.Goals as goal
 
 pub returns-then-branch-clause-appended : goal.returns-then-branch-clause-appended

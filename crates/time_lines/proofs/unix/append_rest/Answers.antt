@@ -1,5 +1,5 @@
 use Rattle.std.proofs.Common.{◌≡◌, ◌-◌, arith}
-use Rattle.time_lines.proofs.UnixLemmas.{done_all, done_more, done_none, none_left, none_more}
+use Rattle.time_lines.proofs.UnixLemmas.{done_all, done_more, none_left, none_more}
 use Rattle.time_lines.proofs.unix.append_rest.Goals as goal
 
 pub returns-in_default-clause-appended : goal.returns-in_default-clause-appended

@@ -1,7 +1,7 @@
 //! Lines of a log with their times. The forms are those of `env_logger`, whose documentation shows
 //! `[2018-11-03T06:09:06Z INFO  default] starting up`, and of `log`. Moments are those of GNU
 //! `date -d @SECONDS`.
-use crate::values::assert_that;
+use crate::asserted::assert_that;
 use jiff::tz::TimeZone;
 use log::{Level, Log, Logged, Metadata, debug, error, info, trace, warn};
 use log_time::{TimePlace, Timed, Times, ZoneTimes};

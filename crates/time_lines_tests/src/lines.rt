@@ -1,7 +1,7 @@
 //! Lines and what they become. The texts of moments are those of GNU `date -u`.
 ghost use Rattle.std.specs.Prelude.{◌≡◌};
 
-use crate::values::assert_that;
+use crate::asserted::assert_that;
 use line_streams::LineJob;
 use memchr::memmem::Finder;
 use std::alloc::Global;

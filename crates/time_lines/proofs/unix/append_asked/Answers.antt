@@ -1,5 +1,5 @@
-use Rattle.std.proofs.Common.{Some, None, refl}
-use Rattle.time_lines.proofs.unix.append_line.Goals as goal
+use Rattle.std.proofs.Common.{None, refl}
+use Rattle.time_lines.proofs.unix.append_asked.Goals as goal
 
 pub returns-in_default-clause-appended : goal.returns-in_default-clause-appended
 returns-in_default-clause-appended g c =

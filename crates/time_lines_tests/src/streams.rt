@@ -1,7 +1,7 @@
 //! Runs over a source and a sink in memory, which give and take few bytes and may fail once.
 ghost use Rattle.std.specs.Prelude.{None};
 
-use crate::values::assert_that;
+use crate::asserted::assert_that;
 use line_streams::{Exchange, FilterError, LineJob, run};
 use std::alloc::{AllocError, Global};
 use std::process::Abort;
