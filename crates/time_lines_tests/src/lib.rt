@@ -8,4 +8,6 @@ mod lines;
 #[cfg(test)]
 mod log_lines;
 #[cfg(test)]
+mod read_lines;
+#[cfg(test)]
 mod streams;

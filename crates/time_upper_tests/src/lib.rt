@@ -19,8 +19,6 @@ mod parse_calls;
 #[cfg(test)]
 mod read_back;
 #[cfg(test)]
-mod read_lines;
-#[cfg(test)]
 mod recipes;
 #[cfg(test)]
 mod serde_moments;

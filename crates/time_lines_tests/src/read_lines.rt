@@ -1,5 +1,5 @@
 //! Lines whose texts are read by descriptions. The seconds are those of GNU `date`.
-use crate::values::assert_that;
+use crate::asserted::assert_that;
 use line_streams::LineJob;
 use std::alloc::Global;
 use std::process::Abort;
