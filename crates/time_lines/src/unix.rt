@@ -234,7 +234,7 @@ fn append_piece<S: Shown>(
 {
     let found = number_found(numbers, line, start, count);
     let before = between(line, at, found.first);
-    let own = between(line, found.first, found.end);
+    let own = &line[found.first..found.end];
     let marks = quotes_if(found.is_value);
     let has_moment = found.moment.is_some();
     let is_shown = append_replaced(shown, output, before, marks, own, &[], found.moment)?;
