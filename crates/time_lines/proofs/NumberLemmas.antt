@@ -1,7 +1,7 @@
 -- Where the first number of a line begins, and the moment that it names.
 use Rattle.std.proofs.Common.{ℕ, zero, suc, ◌≡◌, ◌+◌, ◌-◌, ◌<◌, ◌≤◌, ◌++◌, ◌&&◌, ◌||◌, not, nat_le, Bool, true, false, Option, Some, None, List, length, take, drop, is_some, inl, inr, refl, sym, ap, subst, ◌∙◌, append-nil, append_assoc, arith}
 use Rattle.std.proofs.lemmas.Bool.{le-leb}
-use Rattle.std.proofs.lemmas.List.{drop-drop, get_or-drop}
+use Rattle.std.proofs.lemmas.List.{drop-drop, get_or-drop, length-drop, length-take}
 use Rattle.std.proofs.Math.Seq.{take-append_seam}
 use Rattle.line_streams.specs.Filter.{Adds}
 use Rattle.line_streams.proofs.LinesLemmas.{slice-end}
@@ -97,6 +97,15 @@ pub digits_of_number : (line : List ℕ) (start count : ℕ) → count ≡ digit
 digits_of_number line start count is =
     let same : start + count - start ≡ digit_count (drop start line) = omega (arith, is) in
     ap (λ n. take n (drop start line)) same
+
+-- and they are as many
+pub digits_length : (line : List ℕ) (start count : ℕ) → count ≤ length line - start → count ≡ digit_count (drop start line)
+    → length (take (start + count - start) (drop start line)) ≡ digit_count (drop start line)
+digits_length line start count room is =
+    let same : start + count - start ≡ count = omega arith in
+    let long : length (take count (drop start line)) ≡ count =
+    omega (arith, length-take count (drop start line), length-drop start line, room) in
+    ap (λ n. length (take n (drop start line))) same ∙ long ∙ is
 
 -- the moment that was made of the parts of a number is the one that it names
 pub moment_is : (unit : UnixUnit) (line : List ℕ) (start : ℕ) (minus : Bool) (digits decimals rest : List ℕ)

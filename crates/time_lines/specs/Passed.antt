@@ -13,12 +13,6 @@ abbrev pub first_kept : Option FirstPassed → FirstPassed → Option FirstPasse
 first_kept (Some kept) more = Some kept
 first_kept None more = Some more
 
--- after one more line, which passed as it was if there is a reason
-abbrev pub one_more : Passed → Option Why → Passed
-one_more passed None = record { lines = up passed.lines; count = passed.count; first = passed.first }
-one_more passed (Some why) =
-    record {
-      lines = up passed.lines;
-      count = up passed.count;
-      first = first_kept passed.first (record { line = up passed.lines; why = why });
-    }
+-- after one more line
+abbrev pub begun : Passed → Passed
+begun passed = record { lines = up passed.lines; count = passed.count; first = passed.first }

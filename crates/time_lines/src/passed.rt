@@ -1,6 +1,6 @@
 //! The lines of a run that passed as they were.
 ghost use Rattle.std.specs.Prelude.{◌≡◌, None};
-ghost use Rattle.time_lines.specs.Passed.{first_kept, one_more, up};
+ghost use Rattle.time_lines.specs.Passed.{begun, first_kept, up};
 
 /// Why a line passed as it was.
 #[derive(Clone, Copy, Debug, PartialEq, Eq)]
@@ -49,20 +49,17 @@ impl Passed {
         }
     }
 
-    /// Counts a line, and one that passed as it was where there is a reason. The first of these is kept.
+    /// Counts a line.
     #[inline(always)]
-    pub(crate) fn count_line(&mut self, stays: Option<Why>)
-        ensures { self.new ≡ one_more self.old stays }
+    pub(crate) fn begin_line(&mut self)
+        ensures { self.new ≡ begun self.old }
     {
         self.lines = self.lines.wrapping_add(1);
-        if let Some(why) = stays {
-            self.pass(why);
-        }
     }
 
     /// Counts a line that passed as it was, which is among the lines already.
     #[inline(always)]
-    fn pass(&mut self, why: Why)
+    pub(crate) fn pass(&mut self, why: Why)
         ensures lines { self.new.lines ≡ self.old.lines }
         ensures count { self.new.count ≡ up self.old.count }
         ensures first { self.new.first
@@ -74,6 +71,14 @@ impl Passed {
                 line: self.lines,
                 why,
             });
+        }
+    }
+
+    /// Counts a line that passed as it was, if there is a reason.
+    #[inline(always)]
+    pub(crate) fn pass_if(&mut self, stays: Option<Why>) {
+        if let Some(why) = stays {
+            self.pass(why);
         }
     }
 }

@@ -161,13 +161,14 @@ impl<S: Shown + Drop, R: Reads + Drop> LineJob for ReadJob<S, R> {
     }
 
     fn append(&mut self, output: &mut Vec<u8>, line: &[u8]) -> Result<(), AllocError> {
+        self.passed.begin_line();
         let Some(found) = first_text(&mut self.reader, line) else {
-            self.passed.count_line(Some(Why::NoTime));
+            self.passed.pass(Why::NoTime);
             output.extend_from_slice(line)?;
             return Ok(());
         };
         let is_shown = append_found(&mut self.shown, output, line, &found)?;
-        self.passed.count_line(why_stays(&found.front, is_shown));
+        self.passed.pass_if(why_stays(&found.front, is_shown));
         Ok(())
     }
 }

@@ -6,7 +6,7 @@ ghost use Rattle.std.specs.List.{list_all};
 ghost use Rattle.std.specs.Str.Parse.{digits_value};
 ghost use Rattle.time_below.specs.Moment.{IsMoment};
 ghost use Rattle.time_lines.specs.Json.{has_exponent};
-ghost use Rattle.time_lines.specs.Number.{digit_count, moment_after, number_at, with_sign};
+ghost use Rattle.time_lines.specs.Number.{digit_count, moment_after, number_at, unit_for, with_sign};
 ghost use Rattle.time_lines.specs.Shown.{IsReplaced, SameShown};
 ghost use Rattle.time_lines.specs.Unix.{FromBecomes, HasText, LooksFrom, PieceBecomes, RestBecomes, UnixBecomes, between, is_quoted, moment_of_time};
 
@@ -148,6 +148,34 @@ fn moment_unless(
     moment_of(unit, is_negative, digits, decimals)
 }
 
+/// The same by the unit that is asked for, or by the number of digits.
+#[inline(always)]
+fn moment_by(
+    asked: Option<Unit>,
+    stays: bool,
+    is_negative: bool,
+    digits: &[u8],
+    decimals: &[u8],
+) -> Option<Timestamp>
+    requires digits { list_all is_ascii_digit digits.now ≡ true }
+    requires decimals { list_all is_ascii_digit decimals.now ≡ true }
+    ensures some { IfSome result (λ m. (length digits.now ≤ 19) × IsMoment m
+        × (m ≡ with_sign is_negative
+        (moment_after (unit_for asked (length digits.now)) (digits_value 10 digits.now) decimals.now))
+        × (stays ≡ false)) }
+    ensures none { IfNone result (length digits.now ≤ 19 → stays ≡ false
+        → ¬ IsMoment (with_sign is_negative
+        (moment_after (unit_for asked (length digits.now)) (digits_value 10 digits.now) decimals.now))) }
+{
+    match asked {
+        Some(unit) => moment_unless(stays, unit, is_negative, digits, decimals),
+        None => {
+            let unit = unit_for(None, digits.len());
+            moment_unless(stays, unit, is_negative, digits, decimals)
+        }
+    }
+}
+
 /// The number that has so many digits from here on.
 #[inline(always)]
 fn found_number(numbers: &Numbers, line: &[u8], start: usize, count: usize) -> FoundNumber
@@ -169,8 +197,8 @@ fn found_number(numbers: &Numbers, line: &[u8], start: usize, count: usize) -> F
     let is_negative = has_minus(line, start);
     let is_value = is_quoted(numbers, line, start);
     let stays = is_value_with_exponent(is_value, &line[end..]);
-    let unit = unit_for(numbers.unit, count);
-    let moment = moment_unless(stays, unit, is_negative, &line[start..digits_end], decimals);
+    let digits = &line[start..digits_end];
+    let moment = moment_by(numbers.unit, stays, is_negative, digits, decimals);
     FoundNumber {
         first: first_place(is_negative, start),
         end,
@@ -330,7 +358,7 @@ fn why_none(numbers: &Numbers, line: &[u8], from: usize) -> Why
     }
 }
 
-/// Appends a line that has no time from this position on, and counts it.
+/// Appends a line that has no time from this position on, and counts that it passed.
 #[inline(always)]
 fn append_timeless(
     numbers: &Numbers,
@@ -348,11 +376,11 @@ fn append_timeless(
     } else {
         Why::NoTime
     };
-    passed.count_line(Some(why));
+    passed.pass(why);
     Ok(())
 }
 
-/// Appends what a line becomes whose times are looked for from this position on, and counts it.
+/// Appends what a line becomes whose times are looked for from this position on, and counts a line that passed.
 #[inline(always)]
 fn append_from<S: Shown>(
     shown: &mut S,
@@ -373,7 +401,7 @@ fn append_from<S: Shown>(
     };
     let first = append_piece(shown, numbers, output, line, 0, start, count)?;
     let stays = append_behind(shown, numbers, output, line, &first)?;
-    passed.count_line(stays);
+    passed.pass_if(stays);
     Ok(())
 }
 
@@ -390,7 +418,7 @@ fn from_place(after: &Option<Finder<'_>>, line: &[u8]) -> Option<usize>
     Some(at + text.needle().len())
 }
 
-/// Appends what a line becomes by all that may be asked for, and counts it.
+/// Appends what a line becomes by all that may be asked for, and counts a line that passed.
 #[inline(never)]
 fn append_asked<S: Shown>(
     shown: &mut S,
@@ -407,7 +435,7 @@ fn append_asked<S: Shown>(
 {
     let Some(from) = from_place(after, line) else {
         output.extend_from_slice(line)?;
-        passed.count_line(Some(Why::NoPlace));
+        passed.pass(Why::NoPlace);
         return Ok(());
     };
     append_from(shown, numbers, passed, output, line, from)
@@ -439,7 +467,7 @@ fn append_usual<S: Shown>(
     };
     let first = append_piece(shown, &usual, output, line, 0, start, count)?;
     output.extend_from_slice(&line[first.end..])?;
-    passed.count_line(first.stays);
+    passed.pass_if(first.stays);
     Ok(())
 }
 
@@ -456,6 +484,7 @@ impl<S: Shown + Drop> LineJob for UnixJob<'_, S> {
     fn append(&mut self, output: &mut Vec<u8>, line: &[u8]) -> Result<(), AllocError> {
         let numbers = &self.numbers;
         let passed = &mut self.passed;
+        passed.begin_line();
         if self.after.is_some() | numbers.is_all | numbers.is_json {
             append_asked(&mut self.shown, numbers, &self.after, passed, output, line)
         } else {
