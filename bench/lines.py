@@ -54,7 +54,7 @@ ROWS = [
      ["unix", "[year]-[month]-[day] [hour]:[minute]:[second]"], LINE, 520, 435),
     ("`unix`, the number inside", ["unix"], AUDIT, 500, 481),
     ("`unix`, no number", ["unix", "-q"], PLAIN, None, 200),
-    ("`unix --json --after '\"ts\":'`", ["unix", "--json", "--after", '"ts":'], JSON, 500, 500),
+    ("`unix --json --after '\"ts\":'`", ["unix", "--json", "--after", '"ts":'], JSON, 500, 1062),
     ("`unix --all`", ["unix", "--all"], RANGE, None, 918),
     ("`read '%H:%M:%S'`", ["read", "%H:%M:%S"], DOCKER, 600, 643),
     ("`read --zone Europe/Berlin`", ["read", "--zone", "Europe/Berlin"], DOCKER, 600, 656),
