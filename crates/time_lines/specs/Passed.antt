@@ -2,7 +2,6 @@
 use Rattle.std.specs.Prelude.{ℕ, ◌+◌, ◌%◌, ◌^◌, Option, Some, None}
 use Rattle.time_lines.specs.declared.passed.FirstPassed.{FirstPassed}
 use Rattle.time_lines.specs.declared.passed.Passed.{Passed}
-use Rattle.time_lines.specs.declared.passed.Why.{Why}
 
 -- one more, modulo 2^64
 abbrev pub up : ℕ → ℕ

@@ -65,7 +65,7 @@ fn unit_of(asked: Option<Unit>, count: usize) -> Option<Unit>
 
 /// The same, and seconds where it has none.
 #[inline(always)]
-pub(crate) fn unit_for(asked: Option<Unit>, count: usize) -> Unit
+fn unit_for(asked: Option<Unit>, count: usize) -> Unit
     ensures { result ≡ unit_for asked count }
 {
     match unit_of(asked, count) {
@@ -326,6 +326,20 @@ fn parts_after(unit: Unit, value: u64, decimals: &[u8]) -> (u64, u32)
     }
 }
 
+/// The same by the unit that is asked for, or by the number of digits.
+#[inline(always)]
+fn parts_by(asked: Option<Unit>, count: usize, value: u64, decimals: &[u8]) -> (u64, u32)
+    requires digits { list_all is_ascii_digit decimals.now ≡ true }
+    ensures value { moment_after (unit_for asked count) value decimals.now
+        ≡ record { seconds = pos result.0; nanosecond = result.1 } }
+    ensures small { result.1 < 1_000_000_000 }
+{
+    match asked {
+        Some(unit) => parts_after(unit, value, decimals),
+        None => parts_after(unit_for(None, count), value, decimals),
+    }
+}
+
 /// The moment of so many seconds and nanoseconds after 1970, or before it.
 #[inline(always)]
 fn signed_moment(is_negative: bool, seconds: u64, nanosecond: u32) -> Option<Timestamp>
@@ -351,10 +365,10 @@ fn signed_moment(is_negative: bool, seconds: u64, nanosecond: u32) -> Option<Tim
     }
 }
 
-/// The moment that a number of these digits and decimals names.
+/// The moment that a number of these digits and decimals names, by the unit that is asked for or by its digits.
 #[inline(always)]
 pub(crate) fn moment_of(
-    unit: Unit,
+    asked: Option<Unit>,
     is_negative: bool,
     digits: &[u8],
     decimals: &[u8],
@@ -362,13 +376,15 @@ pub(crate) fn moment_of(
     requires digits { list_all is_ascii_digit digits.now ≡ true }
     requires decimals { list_all is_ascii_digit decimals.now ≡ true }
     ensures some { IfSome result (λ m. (length digits.now ≤ 19) × IsMoment m
-        × (m ≡ with_sign is_negative (moment_after unit (digits_value 10 digits.now) decimals.now))) }
+        × (m ≡ with_sign is_negative
+        (moment_after (unit_for asked (length digits.now)) (digits_value 10 digits.now) decimals.now))) }
     ensures none { IfNone result (length digits.now ≤ 19
-        → ¬ IsMoment (with_sign is_negative (moment_after unit (digits_value 10 digits.now) decimals.now))) }
+        → ¬ IsMoment (with_sign is_negative
+        (moment_after (unit_for asked (length digits.now)) (digits_value 10 digits.now) decimals.now))) }
 {
     if digits.len() > 19 {
         return None;
     }
-    let (seconds, nanosecond) = parts_after(unit, value_of(digits), decimals);
+    let (seconds, nanosecond) = parts_by(asked, digits.len(), value_of(digits), decimals);
     signed_moment(is_negative, seconds, nanosecond)
 }

@@ -12,7 +12,7 @@ ghost use Rattle.time_lines.specs.Unix.{FromBecomes, HasText, LooksFrom, PieceBe
 
 use crate::json::{has_exponent, is_value_at, quotes_if};
 use crate::number::{
-    Numbers, Unit, decimals_length, decimals_of, has_minus, moment_of, number_start, unit_for,
+    Numbers, Unit, decimals_length, decimals_of, has_minus, moment_of, number_start,
 };
 use crate::passed::{Passed, Why};
 use crate::shown::Shown;
@@ -129,30 +129,7 @@ fn is_value_with_exponent(is_value: bool, rest: &[u8]) -> bool
 #[inline(always)]
 fn moment_unless(
     stays: bool,
-    unit: Unit,
-    is_negative: bool,
-    digits: &[u8],
-    decimals: &[u8],
-) -> Option<Timestamp>
-    requires digits { list_all is_ascii_digit digits.now ≡ true }
-    requires decimals { list_all is_ascii_digit decimals.now ≡ true }
-    ensures some { IfSome result (λ m. (length digits.now ≤ 19) × IsMoment m
-        × (m ≡ with_sign is_negative (moment_after unit (digits_value 10 digits.now) decimals.now))
-        × (stays ≡ false)) }
-    ensures none { IfNone result (length digits.now ≤ 19 → stays ≡ false
-        → ¬ IsMoment (with_sign is_negative (moment_after unit (digits_value 10 digits.now) decimals.now))) }
-{
-    if stays {
-        return None;
-    }
-    moment_of(unit, is_negative, digits, decimals)
-}
-
-/// The same by the unit that is asked for, or by the number of digits.
-#[inline(always)]
-fn moment_by(
     asked: Option<Unit>,
-    stays: bool,
     is_negative: bool,
     digits: &[u8],
     decimals: &[u8],
@@ -167,13 +144,10 @@ fn moment_by(
         → ¬ IsMoment (with_sign is_negative
         (moment_after (unit_for asked (length digits.now)) (digits_value 10 digits.now) decimals.now))) }
 {
-    match asked {
-        Some(unit) => moment_unless(stays, unit, is_negative, digits, decimals),
-        None => {
-            let unit = unit_for(None, digits.len());
-            moment_unless(stays, unit, is_negative, digits, decimals)
-        }
+    if stays {
+        return None;
     }
+    moment_of(asked, is_negative, digits, decimals)
 }
 
 /// The number that has so many digits from here on.
@@ -198,7 +172,7 @@ fn found_number(numbers: &Numbers, line: &[u8], start: usize, count: usize) -> F
     let is_value = is_quoted(numbers, line, start);
     let stays = is_value_with_exponent(is_value, &line[end..]);
     let digits = &line[start..digits_end];
-    let moment = moment_by(numbers.unit, stays, is_negative, digits, decimals);
+    let moment = moment_unless(stays, numbers.unit, is_negative, digits, decimals);
     FoundNumber {
         first: first_place(is_negative, start),
         end,

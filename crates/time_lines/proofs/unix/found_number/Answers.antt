@@ -5,8 +5,8 @@ use Rattle.time_lines.proofs.UnixLemmas.{named_time, no_time, stops_is}
 use Rattle.time_lines.specs.Number.{unit_for}
 use Rattle.time_lines.proofs.unix.found_number.Goals as goal
 
-pub moment_by-moment-requires-clause-digits : goal.moment_by-moment-requires-clause-digits
-moment_by-moment-requires-clause-digits c =
+pub moment_unless-moment-requires-clause-digits : goal.moment_unless-moment-requires-clause-digits
+moment_unless-moment-requires-clause-digits c =
     rw (digits_of_number c.args.line.now c.args.start c.args.count c.requires.count)
     (digits_of-all (drop c.args.start c.args.line.now))
 
@@ -19,7 +19,7 @@ returns-clause-some c =
     (rest_of_number line start c.args.count c.requires.count) c.decimals_of-decimals.ensures.decimals (stops_is c.args.numbers.now line start c.args.count c.decimals_length.result c.decimals_of-decimals.result.now
     c.is_quoted-is_value.result _ c.requires.count c.decimals_of-decimals.ensures.decimals c.decimals_length.ensures
     c.is_quoted-is_value.ensures c.is_value_with_exponent-stays.ensures)
-    c.moment_by-moment.ensures.some
+    c.moment_unless-moment.ensures.some
 
 pub returns-clause-none : goal.returns-clause-none
 returns-clause-none c =
@@ -30,4 +30,4 @@ returns-clause-none c =
     (rest_of_number line start c.args.count c.requires.count) c.decimals_of-decimals.ensures.decimals (stops_is c.args.numbers.now line start c.args.count c.decimals_length.result c.decimals_of-decimals.result.now
     c.is_quoted-is_value.result _ c.requires.count c.decimals_of-decimals.ensures.decimals c.decimals_length.ensures
     c.is_quoted-is_value.ensures c.is_value_with_exponent-stays.ensures)
-    c.moment_by-moment.ensures.none
+    c.moment_unless-moment.ensures.none
