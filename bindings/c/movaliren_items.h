@@ -76,7 +76,7 @@ enum movaliren_kind {
     MOVALIREN_KIND_HOUR = 24,
     /* The minute of the hour, 0 to 59, in two places. [padding] */
     MOVALIREN_KIND_MINUTE = 25,
-    /* AM or PM by two letters: before noon, or from noon on. [flag: upper case] */
+    /* AM or PM, by two letters: before noon, or from noon on. [flag: upper case] */
     MOVALIREN_KIND_PERIOD = 26,
     /* The second of the minute, 0 to 59, in two places. [padding] */
     MOVALIREN_KIND_SECOND = 27,
@@ -166,7 +166,7 @@ enum movaliren_parse_error_kind {
      * begins: the first one past them. In the syntax of strftime, the part that begins here has the
      * 65,537th item. */
     MOVALIREN_PARSE_ERROR_TOO_MANY_ITEMS = 11,
-    /* A `%`, or a flag behind one, ends the text. The byte is its `%`. */
+    /* A `%`, or a flag after one, ends the text. The byte is its `%`. */
     MOVALIREN_PARSE_ERROR_UNFINISHED = 12,
     /* No conversion has this letter, or a colon stands elsewhere than in `%:z`. The byte is that
      * letter, or a colon before it. */

@@ -75,7 +75,7 @@ pub enum Kind {
     Hour = 24,
     /// The minute of the hour, 0 to 59, in two places.
     Minute = 25,
-    /// AM or PM by two letters: before noon, or from noon on.
+    /// AM or PM, by two letters: before noon, or from noon on.
     Period = 26,
     /// The second of the minute, 0 to 59, in two places.
     Second = 27,

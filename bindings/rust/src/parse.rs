@@ -36,7 +36,7 @@ pub enum FaultReason {
     /// begins: the first one past them. In the syntax of strftime, the part that begins here has
     /// the 65,537th item.
     TooManyItems = 11,
-    /// A `%`, or a flag behind one, ends the text. The byte is its `%`.
+    /// A `%`, or a flag after one, ends the text. The byte is its `%`.
     Unfinished = 12,
     /// No conversion has this letter, or a colon stands elsewhere than in `%:z`. The byte is that
     /// letter, or a colon before it.
