@@ -12,6 +12,7 @@ import pathlib
 import random
 import sys
 
+sys.dont_write_bytecode = True  # before the import, which would write it
 from compare_program import date, lines_of, run, told
 
 TOP = pathlib.Path(__file__).resolve().parent.parent
