@@ -1,12 +1,13 @@
 #!/usr/bin/env python3
-"""Compares what `movaliren` makes of seven kinds of logs with GNU `date`, and prints how many lines differ.
+"""Compares what `movaliren` makes of seven kinds of logs, and of numbers in JSON, with GNU `date`, and prints how many lines differ.
 
 compare_date.py [PROGRAM [LINES]]
 
 PROGRAM is the one that `rt run` leaves in crates/movaliren_cli/out. LINES (1,000,000) lines of each kind are made, of 2001
 to 2037, a quarter of them in each of four zones. Their times are written by `date`, and so are the local times that
-they become, by the system's zone files.
+they become, by the system's zone files. Lines of JSON are read by a parser, too.
 """
+import json
 import os
 import pathlib
 import random
@@ -29,6 +30,7 @@ KINDS = [
      '127.0.0.1 - frank [{}] "GET /apache_pb.gif HTTP/1.0" 200 {}', ""),
     ("syslog", ["read", "--from", "syslog"], "%b %e %H:%M:%S", None, "<34>{} mymachine su[{}]: 'su root' failed", ""),
     ("docker", ["read", "--json"], "%Y-%m-%dT%H:%M:%S.123456789Z", "UTC0", '{{"log":"{1}\\\\n","time":"{0}"}}', ".123456789"),
+    ("numbers in JSON", ["unix", "--json", "--after", '"ts":'], "%s.123", "UTC0", '{{"id":1234567890,"ts":{},"msg":"up \\"{}\\""}}', ".123"),
     ("log4j", ["read", "--from", "log4j"], "%Y-%m-%d %H:%M:%S,120", None, "{} [main] INFO  com.example.App - {}", ".12"),
     ("mail", ["read", "--from", "rfc2822"], "%a, %d %b %Y %H:%M:%S %z", None, "Date: {}; {}", ""),
 ]
@@ -55,8 +57,17 @@ def in_year(year, count):
     return [random.randrange(begin + 3 * 86_400, begin + 360 * 86_400) for _ in range(count)]
 
 
+def is_json(line):
+    """Whether a parser reads the line, and finds an object."""
+    try:
+        return isinstance(json.loads(line), dict)
+    except ValueError:
+        return False
+
+
 def compared(program, kind, zone, count):
     what, words, form, written_in, line, decimals = kind
+    quote = '"' if what == "numbers in JSON" else ""
     words = [program, *words, "-q", "--zone", zone]
     if what == "syslog":
         words += ["--year", "2024"]
@@ -65,10 +76,11 @@ def compared(program, kind, zone, count):
         seconds = [random.randrange(1_000_000_000, 2_145_916_800) for _ in range(count)]
     texts = date(seconds, form, written_in or zone)
     moments = first(seconds, form, zone) if what in ("syslog", "log4j") else seconds
-    wanted = [line.format(shown(it, decimals), n) for n, it in enumerate(date(moments, LOCAL, zone))]
+    wanted = [line.format(quote + shown(it, decimals) + quote, n) for n, it in enumerate(date(moments, LOCAL, zone))]
     given = "".join(line.format(it, n) + "\n" for n, it in enumerate(texts)).encode()
     ours = [it.decode() for it in lines_of(run(words, given))]
-    return told(f"{what} in {zone}", ours, wanted)
+    broken = 0 if "--json" not in words else sum(not is_json(it) for it in ours)
+    return broken + told(f"{what} in {zone}", ours, wanted)
 
 
 def main():
