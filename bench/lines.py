@@ -77,9 +77,12 @@ def text(line, count):
 
 
 def counted(words, line, count):
-    with tempfile.NamedTemporaryFile() as log:
+    """The instructions of a run over so many lines of a file, of which each read is a whole block, whatever else runs."""
+    with tempfile.NamedTemporaryFile() as log, tempfile.TemporaryFile() as given:
+        given.write(text(line, count))
+        given.seek(0)
         subprocess.run(["valgrind", "--tool=callgrind", f"--callgrind-out-file={log.name}", *words],
-                       input=text(line, count), stdout=subprocess.DEVNULL, stderr=subprocess.DEVNULL, check=True)
+                       stdin=given, stdout=subprocess.DEVNULL, stderr=subprocess.DEVNULL, check=True)
         return int(re.search(r"^(?:summary|totals): (\d+)", log.read().decode(), re.M)[1])
 
 
