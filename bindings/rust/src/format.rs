@@ -97,6 +97,7 @@ pub trait Format<V>: raw::Call<V> {
     /// println!("{text} opened");
     /// # Ok::<(), movaliren::Error>(())
     /// ```
+    #[inline]
     fn text(&self, value: &V) -> Result<Text, Error> {
         Text::written(self, value)
     }
@@ -108,6 +109,7 @@ pub trait Format<V>: raw::Call<V> {
     /// # Errors
     ///
     /// The value has no text, or an allocation failed: [`Error::OutOfMemory`].
+    #[inline]
     fn format_into(&self, output: &mut Vec<u8>, value: &V) -> Result<usize, Error> {
         raw::append(self, value, self.width(), output)
     }
@@ -128,6 +130,7 @@ pub trait Format<V>: raw::Call<V> {
     /// assert_eq!(line, "opened 2026-11-22T00:00:00Z");
     /// # Ok::<(), movaliren::Error>(())
     /// ```
+    #[inline]
     fn format_into_string(&self, output: &mut String, value: &V) -> Result<usize, Error> {
         raw::append_str(self, value, self.width(), output)
     }
@@ -137,6 +140,7 @@ pub trait Format<V>: raw::Call<V> {
     /// # Errors
     ///
     /// Those of [`Format::format_into`].
+    #[inline]
     fn format(&self, value: &V) -> Result<String, Error> {
         let mut output = String::new();
         self.format_into_string(&mut output, value)?;

@@ -689,6 +689,7 @@ pub(crate) fn write_all<V>(
 }
 
 /// Appends the text of the value, which has at most this many bytes.
+#[inline]
 pub(crate) fn append<V>(
     format: &(impl Call<V> + ?Sized),
     value: &V,
@@ -726,6 +727,7 @@ pub(crate) fn append_all<V>(
 }
 
 /// Appends the text of the value, which has at most this many bytes.
+#[inline]
 pub(crate) fn append_str<V>(
     format: &(impl Call<V> + ?Sized),
     value: &V,

@@ -34,6 +34,7 @@ impl Text {
     pub const CAPACITY: usize = 64;
 
     /// The text of the value by the format.
+    #[inline]
     pub(crate) fn written<V>(format: &(impl Call<V> + ?Sized), value: &V) -> Result<Text, Error> {
         let mut bytes = [0; Text::CAPACITY];
         // The length is at most 64.
