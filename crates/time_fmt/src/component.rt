@@ -1,7 +1,7 @@
 //! The engine for one component.
 //!
-//! Without `inline(always)` the compiler leaves calls of the functions that have it. `cold` and
-//! `inline(never)` keep long or rare bodies out of their callers.
+//! Without `inline(always)` the compiler leaves calls of the functions that have it.
+//! `inline(never)` keeps the writers of rare components out of their caller.
 ghost use Rattle.std.specs.Prelude.{◌≡◌, ◌+◌, ◌≤◌, IsUtf8, MatchOption, false, vec_len};
 ghost use Rattle.time_below.specs.Conversion.{is_current};
 ghost use Rattle.time_below.specs.Width.{component_width};
@@ -85,7 +85,6 @@ pub(crate) fn write_current<S: Sink, V: ComponentProvider>(
 
 // Appends the text of a component that is not deprecated, by a call that is not inlined, as of one
 // that is seldom met. Returns its refusal, if it is refused.
-#[cold]
 #[inline(never)]
 fn write_rare<M: Modifier, S: Sink, V: ComponentProvider>(
     part: M,

@@ -14,7 +14,7 @@ use crate::formattable::{Formattable, make_room};
 use crate::metadata::ComputeMetadata;
 use crate::modifier::{Modifier, write_part};
 use crate::writers::{put_back, take_out, write_each};
-use time_below::format_description::Metadata;
+use time_below::format_description::{Metadata, component_width};
 use time_provide::ComponentProvider;
 
 /// A text as it is, of this many bytes. It is guaranteed to be UTF-8 if it is ASCII.
@@ -126,13 +126,13 @@ impl<M: Modifier> ComputeMetadata for M {
 
     fn compute_metadata(&self) -> Metadata {
         Metadata {
-            max_bytes_needed: self.group_and_width().1,
+            max_bytes_needed: component_width(&self.component()),
             guaranteed_utf8: true,
         }
     }
 
     fn width(&self) -> usize {
-        self.group_and_width().1
+        component_width(&self.component())
     }
 }
 

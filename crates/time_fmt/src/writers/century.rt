@@ -1,25 +1,20 @@
-//! Centuries and the last two digits of a year: their texts, maximum lengths and writers.
-//!
-//! The calendar year and the year of the week calendar have the same texts.
+//! Centuries and the last two digits of a year, of the calendar and of the week calendar.
 #![tactic(auto, using(crate::proofs::TextLemmas::signed_lengths))]
 
-ghost use Rattle.std.specs.Prelude.{◌≡◌, ◌<◌, ◌≤◌, ◌%◌, ◌++◌, MatchOption, decimal, int_lt, length};
-ghost use Rattle.std.specs.Prelude.{pos, true, unsigned_abs};
+ghost use Rattle.std.specs.Prelude.{◌≡◌, ◌<◌, ◌≤◌, ◌%◌, MatchOption, int_lt, length, pos};
+ghost use Rattle.std.specs.Prelude.{unsigned_abs};
 ghost use Rattle.time_below.specs.declared.format_description.component.Component.TheVariants as component;
-ghost use Rattle.time_fmt.specs.Kind.{kind_text, extended_century, standard_century, century_of};
 ghost use Rattle.time_fmt.specs.Ends.{EndsWhole};
+ghost use Rattle.time_fmt.specs.Kind.{kind_text, extended_century, standard_century, century_of};
 ghost use Rattle.time_fmt.specs.Sink.{Fits, Puts};
-ghost use Rattle.time_fmt.specs.Text.{padded_text, sign_text};
+ghost use Rattle.time_fmt.specs.Text.{padded_text};
 
+use crate::kind::{Century, TextKind, TwoDigitCentury, TwoDigits};
 use crate::modifier::Modifier;
 use crate::refused::Refused;
 use crate::sink::Sink;
-use crate::writers::digits::{fmt_sign, format_two_digits};
-use crate::writers::plain::write_many;
-use time_below::format_description::modifier::Padding;
-use time_below::format_description::{Group, modifier};
-use time_digits::num_fmt::one_to_four_digits_no_padding;
-use time_digits::{ri8, ri16, ru8, ru16};
+use time_below::format_description::{Component, modifier};
+use time_digits::{ru8, ru16};
 use time_provide::ComponentProvider;
 use time_provide::ranges::{ExtendedCentury, LastTwo, StandardCentury, Year};
 
@@ -41,26 +36,36 @@ pub fn fmt_calendar_year_century_extended_range<S: Sink>(
         (kind_text (extended_century modifier.padding modifier.sign_is_mandatory
         is_negative (unsigned_abs century))) }
 {
-    let (padding, sign) = (modifier.padding, modifier.sign_is_mandatory);
-    write_extended_century(output, century.abs(), is_negative, padding, sign)
+    let text = Century {
+        padding: modifier.padding,
+        sign_is_mandatory: modifier.sign_is_mandatory,
+        is_negative,
+        century: century.abs(),
+    };
+    text.put(output)
 }
 
 impl Modifier for modifier::CalendarYearCenturyExtendedRange {
+    type Kind = Century;
+
     ghost component_of = { component.CalendarYearCenturyExtendedRange };
 
-    fn group_and_width(self) -> (Group, usize) {
-        (Group::Date, 5)
+    fn component(self) -> Component {
+        Component::CalendarYearCenturyExtendedRange(self)
     }
 
-    fn write_supplied<S: Sink, V: ComponentProvider>(
+    fn kind<V: ComponentProvider>(
         self,
-        output: &mut S,
         value: &V,
         state: &mut V::State,
-    ) -> Result<(), Refused> {
+    ) -> Result<Century, Refused> {
         let (century, is_negative) = century_of(value.calendar_year(state));
-        fmt_calendar_year_century_extended_range(output, century, is_negative, self);
-        Ok(())
+        Ok(Century {
+            padding: self.padding,
+            sign_is_mandatory: self.sign_is_mandatory,
+            is_negative,
+            century,
+        })
     }
 }
 
@@ -82,28 +87,38 @@ pub fn fmt_calendar_year_century_standard_range<S: Sink>(
         (kind_text (standard_century modifier.padding modifier.sign_is_mandatory
         is_negative (unsigned_abs century))) }
 {
-    let (padding, sign) = (modifier.padding, modifier.sign_is_mandatory);
-    write_standard_century(output, century.abs(), is_negative, padding, sign)
+    let text = TwoDigitCentury {
+        padding: modifier.padding,
+        sign_is_mandatory: modifier.sign_is_mandatory,
+        is_negative,
+        century: century.abs(),
+    };
+    text.put(output)
 }
 
 impl Modifier for modifier::CalendarYearCenturyStandardRange {
+    type Kind = TwoDigitCentury;
+
     ghost component_of = { component.CalendarYearCenturyStandardRange };
 
-    fn group_and_width(self) -> (Group, usize) {
-        (Group::Date, 3)
+    fn component(self) -> Component {
+        Component::CalendarYearCenturyStandardRange(self)
     }
 
-    fn write_supplied<S: Sink, V: ComponentProvider>(
+    fn kind<V: ComponentProvider>(
         self,
-        output: &mut S,
         value: &V,
         state: &mut V::State,
-    ) -> Result<(), Refused> {
+    ) -> Result<TwoDigitCentury, Refused> {
         let Some((century, is_negative)) = standard_century_of(value.calendar_year(state)) else {
             return Err(Refused::YearOutOfRange);
         };
-        fmt_calendar_year_century_standard_range(output, century, is_negative, self);
-        Ok(())
+        Ok(TwoDigitCentury {
+            padding: self.padding,
+            sign_is_mandatory: self.sign_is_mandatory,
+            is_negative,
+            century,
+        })
     }
 }
 
@@ -125,26 +140,36 @@ pub fn fmt_iso_year_century_extended_range<S: Sink>(
         (kind_text (extended_century modifier.padding modifier.sign_is_mandatory
         is_negative (unsigned_abs century))) }
 {
-    let (padding, sign) = (modifier.padding, modifier.sign_is_mandatory);
-    write_extended_century(output, century.abs(), is_negative, padding, sign)
+    let text = Century {
+        padding: modifier.padding,
+        sign_is_mandatory: modifier.sign_is_mandatory,
+        is_negative,
+        century: century.abs(),
+    };
+    text.put(output)
 }
 
 impl Modifier for modifier::IsoYearCenturyExtendedRange {
+    type Kind = Century;
+
     ghost component_of = { component.IsoYearCenturyExtendedRange };
 
-    fn group_and_width(self) -> (Group, usize) {
-        (Group::Date, 5)
+    fn component(self) -> Component {
+        Component::IsoYearCenturyExtendedRange(self)
     }
 
-    fn write_supplied<S: Sink, V: ComponentProvider>(
+    fn kind<V: ComponentProvider>(
         self,
-        output: &mut S,
         value: &V,
         state: &mut V::State,
-    ) -> Result<(), Refused> {
+    ) -> Result<Century, Refused> {
         let (century, is_negative) = century_of(value.iso_year(state));
-        fmt_iso_year_century_extended_range(output, century, is_negative, self);
-        Ok(())
+        Ok(Century {
+            padding: self.padding,
+            sign_is_mandatory: self.sign_is_mandatory,
+            is_negative,
+            century,
+        })
     }
 }
 
@@ -166,32 +191,43 @@ pub fn fmt_iso_year_century_standard_range<S: Sink>(
         (kind_text (standard_century modifier.padding modifier.sign_is_mandatory
         is_negative (unsigned_abs century))) }
 {
-    let (padding, sign) = (modifier.padding, modifier.sign_is_mandatory);
-    write_standard_century(output, century.abs(), is_negative, padding, sign)
+    let text = TwoDigitCentury {
+        padding: modifier.padding,
+        sign_is_mandatory: modifier.sign_is_mandatory,
+        is_negative,
+        century: century.abs(),
+    };
+    text.put(output)
 }
 
 impl Modifier for modifier::IsoYearCenturyStandardRange {
+    type Kind = TwoDigitCentury;
+
     ghost component_of = { component.IsoYearCenturyStandardRange };
 
-    fn group_and_width(self) -> (Group, usize) {
-        (Group::Date, 3)
+    fn component(self) -> Component {
+        Component::IsoYearCenturyStandardRange(self)
     }
 
-    fn write_supplied<S: Sink, V: ComponentProvider>(
+    fn kind<V: ComponentProvider>(
         self,
-        output: &mut S,
         value: &V,
         state: &mut V::State,
-    ) -> Result<(), Refused> {
+    ) -> Result<TwoDigitCentury, Refused> {
         let Some((century, is_negative)) = standard_century_of(value.iso_year(state)) else {
             return Err(Refused::YearOutOfRange);
         };
-        fmt_iso_year_century_standard_range(output, century, is_negative, self);
-        Ok(())
+        Ok(TwoDigitCentury {
+            padding: self.padding,
+            sign_is_mandatory: self.sign_is_mandatory,
+            is_negative,
+            century,
+        })
     }
 }
 
 /// Appends the last two digits of the year, 0 to 99, padded to two places as `modifier` says.
+#[tactic(auto, using(crate::proofs::TextLemmas::text_lengths))]
 pub fn fmt_calendar_year_last_two<S: Sink>(
     output: &mut S,
     last_two: LastTwo,
@@ -202,30 +238,38 @@ pub fn fmt_calendar_year_last_two<S: Sink>(
     ensures ends { EndsWhole 2 (S.buffer output.old) (S.buffer output.new)
         (padded_text modifier.padding 2 last_two) }
 {
-    format_two_digits(output, last_two, modifier.padding)
+    let text = TwoDigits {
+        padding: modifier.padding,
+        number: last_two,
+    };
+    text.put(output)
 }
 
 impl Modifier for modifier::CalendarYearLastTwo {
+    type Kind = TwoDigits;
+
     ghost component_of = { component.CalendarYearLastTwo };
 
-    fn group_and_width(self) -> (Group, usize) {
-        (Group::Date, 2)
+    fn component(self) -> Component {
+        Component::CalendarYearLastTwo(self)
     }
 
     #[tactic(auto, using(crate::proofs::TextLemmas::text_lengths))]
-    fn write_supplied<S: Sink, V: ComponentProvider>(
+    fn kind<V: ComponentProvider>(
         self,
-        output: &mut S,
         value: &V,
         state: &mut V::State,
-    ) -> Result<(), Refused> {
-        fmt_calendar_year_last_two(output, last_two(value.calendar_year(state)), self);
-        Ok(())
+    ) -> Result<TwoDigits, Refused> {
+        Ok(TwoDigits {
+            padding: self.padding,
+            number: last_two(value.calendar_year(state)),
+        })
     }
 }
 
 /// Appends the last two digits of the week calendar's year, 0 to 99, padded to two places as
 /// `modifier` says.
+#[tactic(auto, using(crate::proofs::TextLemmas::text_lengths))]
 pub fn fmt_iso_year_last_two<S: Sink>(
     output: &mut S,
     last_two: LastTwo,
@@ -236,101 +280,58 @@ pub fn fmt_iso_year_last_two<S: Sink>(
     ensures ends { EndsWhole 2 (S.buffer output.old) (S.buffer output.new)
         (padded_text modifier.padding 2 last_two) }
 {
-    format_two_digits(output, last_two, modifier.padding)
+    let text = TwoDigits {
+        padding: modifier.padding,
+        number: last_two,
+    };
+    text.put(output)
 }
 
 impl Modifier for modifier::IsoYearLastTwo {
+    type Kind = TwoDigits;
+
     ghost component_of = { component.IsoYearLastTwo };
 
-    fn group_and_width(self) -> (Group, usize) {
-        (Group::Date, 2)
+    fn component(self) -> Component {
+        Component::IsoYearLastTwo(self)
     }
 
     #[tactic(auto, using(crate::proofs::TextLemmas::text_lengths))]
-    fn write_supplied<S: Sink, V: ComponentProvider>(
+    fn kind<V: ComponentProvider>(
         self,
-        output: &mut S,
         value: &V,
         state: &mut V::State,
-    ) -> Result<(), Refused> {
-        fmt_iso_year_last_two(output, last_two(value.iso_year(state)), self);
-        Ok(())
+    ) -> Result<TwoDigits, Refused> {
+        Ok(TwoDigits {
+            padding: self.padding,
+            number: last_two(value.iso_year(state)),
+        })
     }
-}
-
-#[tactic(auto, using(crate::proofs::TextLemmas::signed_lengths, crate::proofs::TextLemmas::small_century, crate::proofs::TextLemmas::great_century, crate::proofs::TextLemmas::whole_century))]
-fn write_extended_century<S: Sink>(
-    output: &mut S,
-    century: ru16<0, 9_999>,
-    is_negative: bool,
-    padding: Padding,
-    sign_is_mandatory: bool,
-) -> usize
-    requires room { Fits (S.buffer output.old)
-        (length (kind_text (extended_century padding sign_is_mandatory is_negative century))) }
-    ensures writes { Puts (S.buffer output.old) (S.buffer output.new) result
-        (kind_text (extended_century padding sign_is_mandatory is_negative century)) }
-    ensures ends { EndsWhole 5 (S.buffer output.old) (S.buffer output.new)
-        (kind_text (extended_century padding sign_is_mandatory is_negative century)) }
-{
-    let number = century.get();
-    if number < 100 {
-        let few = ru8::within(number as u8);
-        return write_standard_century(output, few, is_negative, padding, sign_is_mandatory);
-    }
-    write_long_century(output, century, is_negative)
-}
-
-// Appends a sign and all digits of a century from 100 on.
-fn write_long_century<S: Sink>(output: &mut S, century: ru16<0, 9_999>, is_negative: bool) -> usize
-    requires long { 100 ≤ century }
-    requires room { Fits (S.buffer output.old) (length (sign_text is_negative true ++ decimal century)) }
-    ensures writes { Puts (S.buffer output.old) (S.buffer output.new) result
-        (sign_text is_negative true ++ decimal century) }
-{
-    let sign = fmt_sign(output, is_negative, true);
-    sign + write_many(output, &one_to_four_digits_no_padding(century))
-}
-
-fn write_standard_century<S: Sink>(
-    output: &mut S,
-    century: ru8<0, 99>,
-    is_negative: bool,
-    padding: Padding,
-    sign_is_mandatory: bool,
-) -> usize
-    requires room { Fits (S.buffer output.old)
-        (length (kind_text (standard_century padding sign_is_mandatory is_negative century))) }
-    ensures writes { Puts (S.buffer output.old) (S.buffer output.new) result
-        (kind_text (standard_century padding sign_is_mandatory is_negative century)) }
-    ensures ends { EndsWhole 3 (S.buffer output.old) (S.buffer output.new)
-        (kind_text (standard_century padding sign_is_mandatory is_negative century)) }
-{
-    let sign = fmt_sign(output, is_negative, sign_is_mandatory);
-    sign + format_two_digits(output, century, padding)
 }
 
 // The year without its last two digits and without its sign, and whether the year is negative.
-fn century_of(year: Year) -> (ExtendedCentury, bool)
-    ensures century { unsigned_abs result.0 ≡ century_of year }
+fn century_of(year: Year) -> (ru16<0, 9_999>, bool)
+    ensures century { result.0 ≡ century_of year }
     ensures sign { result.1 ≡ int_lt year (pos 0) }
 {
     let number = year.get();
-    let century = ri16::within((number.unsigned_abs() / 100) as i16);
-    (century, number < 0)
+    (
+        ru16::within((number.unsigned_abs() / 100) as u16),
+        number < 0,
+    )
 }
 
 // The same of a year of at most four digits.
-fn standard_century_of(year: Year) -> Option<(StandardCentury, bool)>
+fn standard_century_of(year: Year) -> Option<(ru8<0, 99>, bool)>
     ensures { MatchOption result (99 < century_of year)
-        (λ both. (unsigned_abs both.0 ≡ century_of year) × (both.1 ≡ int_lt year (pos 0)) × (century_of year ≤ 99)) }
+        (λ both. (both.0 ≡ century_of year) × (both.1 ≡ int_lt year (pos 0)) × (century_of year ≤ 99)) }
 {
     let number = year.get();
     let century = number.unsigned_abs() / 100;
     if century > 99 {
         return None;
     }
-    Some((ri8::within(century as i8), number < 0))
+    Some((ru8::within(century as u8), number < 0))
 }
 
 // The last two digits of the year.

@@ -68,7 +68,7 @@ pub fn format_two_digits<S: Sink>(output: &mut S, value: ru8<0, 99>, padding: Pa
 
 /// Appends two places of rare padding to a sink that is taken out, since most numbers have zeros
 /// in front.
-pub(super) fn write_two_rarely<S: Sink>(
+pub(crate) fn write_two_rarely<S: Sink>(
     output: &mut S,
     value: ru8<0, 99>,
     padding: Padding,

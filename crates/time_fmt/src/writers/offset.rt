@@ -1,31 +1,26 @@
-//! The components of an offset from UTC: their texts, maximum lengths and writers.
+//! The components of an offset from UTC.
 //!
-//! Without `inline(always)` the compiler leaves calls of the functions that have it.
+//! With `inline(always)` a component that is met often is written without a call.
 #![tactic(auto, using(crate::proofs::TextLemmas::text_lengths))]
 
 ghost use Rattle.std.specs.Prelude.{length, unsigned_abs};
 ghost use Rattle.time_below.specs.declared.format_description.component.Component.TheVariants as component;
-ghost use Rattle.time_fmt.specs.Kind.{kind_text, offset_hour};
 ghost use Rattle.time_fmt.specs.Ends.{EndsWhole};
+ghost use Rattle.time_fmt.specs.Kind.{kind_text, offset_hour};
 ghost use Rattle.time_fmt.specs.Sink.{Fits, Puts};
 ghost use Rattle.time_fmt.specs.Text.{padded_text};
 
+use crate::kind::{Magnitude, SignedMagnitude, TextKind};
 use crate::modifier::Modifier;
 use crate::refused::Refused;
 use crate::sink::Sink;
-use crate::writers::digits::{fmt_sign, write_two_rarely};
-use crate::writers::plain::write_pair;
-use time_below::format_description::modifier::Padding;
-use time_below::format_description::{Group, modifier};
-use time_digits::num_fmt::magnitude_zero_padded;
-use time_digits::ri8;
+use time_below::format_description::{Component, modifier};
 use time_provide::ComponentProvider;
 use time_provide::ranges::{OffsetHours, OffsetMinutes, OffsetSeconds};
 
 /// Appends the hour of the offset, 0 to 25, padded to two places as `modifier` says, after a sign
 /// if the whole offset is negative or `modifier` wants one.
-#[inline(always)]
-#[tactic(auto, using(crate::proofs::TextLemmas::signed_parts))]
+#[tactic(auto, using(crate::proofs::TextLemmas::signed_lengths))]
 pub fn fmt_offset_hour<S: Sink>(
     output: &mut S,
     is_negative: bool,
@@ -40,35 +35,46 @@ pub fn fmt_offset_hour<S: Sink>(
     ensures ends { EndsWhole 3 (S.buffer output.old) (S.buffer output.new)
         (kind_text (offset_hour modifier.padding modifier.sign_is_mandatory is_negative hour)) }
 {
-    let _room = output.room();
-    let sign = fmt_sign(output, is_negative, modifier.sign_is_mandatory);
-    sign + format_magnitude(output, hour.expand(), modifier.padding)
+    let text = SignedMagnitude {
+        is_negative,
+        sign_is_mandatory: modifier.sign_is_mandatory,
+        magnitude: Magnitude {
+            padding: modifier.padding,
+            part: hour.expand(),
+        },
+    };
+    text.put(output)
 }
 
 impl Modifier for modifier::OffsetHour {
+    type Kind = SignedMagnitude;
+
     ghost component_of = { component.OffsetHour };
 
-    fn group_and_width(self) -> (Group, usize) {
-        (Group::Offset, 3)
+    fn component(self) -> Component {
+        Component::OffsetHour(self)
     }
 
-    #[inline(always)]
     #[tactic(auto, using(crate::proofs::TextLemmas::signed_lengths))]
-    fn write_supplied<S: Sink, V: ComponentProvider>(
+    #[inline(always)]
+    fn kind<V: ComponentProvider>(
         self,
-        output: &mut S,
         value: &V,
         state: &mut V::State,
-    ) -> Result<(), Refused> {
-        let is_negative = value.offset_is_negative(state);
-        fmt_offset_hour(output, is_negative, value.offset_hour(state), self);
-        Ok(())
+    ) -> Result<SignedMagnitude, Refused> {
+        Ok(SignedMagnitude {
+            is_negative: value.offset_is_negative(state),
+            sign_is_mandatory: self.sign_is_mandatory,
+            magnitude: Magnitude {
+                padding: self.padding,
+                part: value.offset_hour(state).expand(),
+            },
+        })
     }
 }
 
 /// Appends the minute of the offset, 0 to 59, without a sign, padded to two places as `modifier`
 /// says.
-#[inline(always)]
 pub fn fmt_offset_minute<S: Sink>(
     output: &mut S,
     minute: OffsetMinutes,
@@ -81,25 +87,32 @@ pub fn fmt_offset_minute<S: Sink>(
     ensures ends { EndsWhole 2 (S.buffer output.old) (S.buffer output.new)
         (padded_text modifier.padding 2 (unsigned_abs minute)) }
 {
-    format_magnitude(output, minute, modifier.padding)
+    let text = Magnitude {
+        padding: modifier.padding,
+        part: minute,
+    };
+    text.put(output)
 }
 
 impl Modifier for modifier::OffsetMinute {
+    type Kind = Magnitude;
+
     ghost component_of = { component.OffsetMinute };
 
-    fn group_and_width(self) -> (Group, usize) {
-        (Group::Offset, 2)
+    fn component(self) -> Component {
+        Component::OffsetMinute(self)
     }
 
     #[inline(always)]
-    fn write_supplied<S: Sink, V: ComponentProvider>(
+    fn kind<V: ComponentProvider>(
         self,
-        output: &mut S,
         value: &V,
         state: &mut V::State,
-    ) -> Result<(), Refused> {
-        fmt_offset_minute(output, value.offset_minute(state), self);
-        Ok(())
+    ) -> Result<Magnitude, Refused> {
+        Ok(Magnitude {
+            padding: self.padding,
+            part: value.offset_minute(state),
+        })
     }
 }
 
@@ -117,39 +130,30 @@ pub fn fmt_offset_second<S: Sink>(
     ensures ends { EndsWhole 2 (S.buffer output.old) (S.buffer output.new)
         (padded_text modifier.padding 2 (unsigned_abs second)) }
 {
-    format_magnitude(output, second, modifier.padding)
+    let text = Magnitude {
+        padding: modifier.padding,
+        part: second,
+    };
+    text.put(output)
 }
 
 impl Modifier for modifier::OffsetSecond {
+    type Kind = Magnitude;
+
     ghost component_of = { component.OffsetSecond };
 
-    fn group_and_width(self) -> (Group, usize) {
-        (Group::Offset, 2)
+    fn component(self) -> Component {
+        Component::OffsetSecond(self)
     }
 
-    fn write_supplied<S: Sink, V: ComponentProvider>(
+    fn kind<V: ComponentProvider>(
         self,
-        output: &mut S,
         value: &V,
         state: &mut V::State,
-    ) -> Result<(), Refused> {
-        fmt_offset_second(output, value.offset_second(state), self);
-        Ok(())
-    }
-}
-
-// Appends the magnitude of a part of an offset, padded to two places as `padding` says. Mostly it
-// has zeros in front, and then no sign is taken away.
-#[inline(always)]
-fn format_magnitude<S: Sink>(output: &mut S, part: ri8<59>, padding: Padding) -> usize
-    requires room { Fits (S.buffer output.old) (length (padded_text padding 2 (unsigned_abs part))) }
-    ensures writes { Puts (S.buffer output.old) (S.buffer output.new) result
-        (padded_text padding 2 (unsigned_abs part)) }
-    ensures ends { EndsWhole 2 (S.buffer output.old) (S.buffer output.new)
-        (padded_text padding 2 (unsigned_abs part)) }
-{
-    match padding {
-        Padding::Zero => write_pair(output, magnitude_zero_padded(part)),
-        rare => write_two_rarely(output, part.abs().expand(), rare),
+    ) -> Result<Magnitude, Refused> {
+        Ok(Magnitude {
+            padding: self.padding,
+            part: value.offset_second(state),
+        })
     }
 }

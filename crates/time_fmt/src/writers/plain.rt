@@ -156,7 +156,7 @@ pub fn write<S: Sink>(output: &mut S, text: &str) -> usize
 
 // Appends a text of two bytes. What becomes part of a large function is counted before anything is
 // folded, so this has no case for other lengths.
-pub(super) fn write_pair<S: Sink>(output: &mut S, text: &str) -> usize
+pub(crate) fn write_pair<S: Sink>(output: &mut S, text: &str) -> usize
     requires pair { length text.now ≡ 2 }
     requires room { Fits (S.buffer output.old) 2 }
     ensures writes { Puts (S.buffer output.old) (S.buffer output.new) result text.now }
@@ -170,7 +170,7 @@ pub(super) fn write_pair<S: Sink>(output: &mut S, text: &str) -> usize
 
 // Appends three bytes, as of a short name, without a loop over blocks.
 #[inline(always)]
-pub(super) fn write_three<S: Sink>(output: &mut S, bytes: &[u8]) -> usize
+pub(crate) fn write_three<S: Sink>(output: &mut S, bytes: &[u8]) -> usize
     requires three { length bytes.now ≡ 3 }
     requires room { Fits (S.buffer output.old) 3 }
     ensures writes { Puts (S.buffer output.old) (S.buffer output.new) result bytes.now }
@@ -184,7 +184,7 @@ pub(super) fn write_three<S: Sink>(output: &mut S, bytes: &[u8]) -> usize
 
 // Appends the first of nine bytes, as of a name. Mostly there is room for all nine.
 #[inline(always)]
-pub(super) fn write_first<S: Sink>(output: &mut S, bytes: &[u8; 9], count: usize) -> usize
+pub(crate) fn write_first<S: Sink>(output: &mut S, bytes: &[u8; 9], count: usize) -> usize
     requires most { count ≤ 9 }
     requires room { Fits (S.buffer output.old) count }
     ensures writes { Puts (S.buffer output.old) (S.buffer output.new) result (take count bytes.now) }

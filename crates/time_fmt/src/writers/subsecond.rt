@@ -1,17 +1,14 @@
-//! The decimals of the second: their texts, maximum length and writer.
+//! The decimals of the second.
 //!
 //! Without `inline(always)` the compiler leaves calls of the functions that have it. `cold` and
 //! `inline(never)` keep long or rare bodies out of their callers.
 ghost use Rattle.std.specs.Prelude.{◌≡◌, ◌<◌, length, take};
-ghost use Rattle.time_below.specs.declared.format_description.component.Component.TheVariants as component;
 ghost use Rattle.time_below.specs.declared.format_description.modifier.SubsecondDigits.TheVariants as SubsecondDigits;
 ghost use Rattle.time_digits.specs.Digits.{fixed, zero_padded};
 ghost use Rattle.time_digits.specs.Fraction.{trimmed_fraction};
 ghost use Rattle.time_fmt.specs.Sink.{Fits, Puts};
 ghost use Rattle.time_fmt.specs.Text.{subsecond_text};
 
-use crate::modifier::Modifier;
-use crate::refused::Refused;
 use crate::sink::Sink;
 use crate::writers::digits::{
     format_five_digits_pad_zero, format_four_digits_pad_zero, format_single_digit,
@@ -19,54 +16,12 @@ use crate::writers::digits::{
 };
 use crate::writers::plain::{write, write_pair};
 use time_below::format_description::modifier::{Padding, SubsecondDigits};
-use time_below::format_description::{Group, modifier, subsecond_width};
 use time_digits::num_fmt::{three_digits_zero_padded, truncated_subsecond_from_nanos};
 use time_digits::{ru8, ru16, ru32};
-use time_provide::ComponentProvider;
 use time_provide::ranges::Nanoseconds;
 
-/// Appends the first decimals of the second, one to nine, or as many as are needed, at least one.
-#[inline(always)]
-pub fn fmt_subsecond<S: Sink>(
-    output: &mut S,
-    nanosecond: Nanoseconds,
-    modifier: modifier::Subsecond,
-) -> usize
-    requires room { Fits (S.buffer output.old) (length (subsecond_text modifier.digits nanosecond)) }
-    ensures writes { Puts (S.buffer output.old) (S.buffer output.new) result
-        (subsecond_text modifier.digits nanosecond) }
-{
-    match modifier.digits {
-        SubsecondDigits::Three => write_three_decimals(output, nanosecond),
-        // Mostly the last of the nine is not zero.
-        SubsecondDigits::Nine | SubsecondDigits::OneOrMore if nanosecond.get() % 10 != 0 => {
-            write_nine_digits(output, nanosecond)
-        }
-        rare => write_rare_decimals(output, nanosecond, rare),
-    }
-}
-
-impl Modifier for modifier::Subsecond {
-    ghost component_of = { component.Subsecond };
-
-    fn group_and_width(self) -> (Group, usize) {
-        (Group::Time, subsecond_width(self.digits))
-    }
-
-    #[inline(always)]
-    fn write_supplied<S: Sink, V: ComponentProvider>(
-        self,
-        output: &mut S,
-        value: &V,
-        state: &mut V::State,
-    ) -> Result<(), Refused> {
-        fmt_subsecond(output, value.nanosecond(state), self);
-        Ok(())
-    }
-}
-
 // Any number of decimals, apart, since few texts have another than three or as many as are needed.
-fn write_rare_decimals<S: Sink>(
+pub(crate) fn write_rare_decimals<S: Sink>(
     output: &mut S,
     nanosecond: Nanoseconds,
     digits: SubsecondDigits,

@@ -1,27 +1,25 @@
-//! The hour, the minute, the second, and AM or PM: their texts, maximum lengths and writers.
+//! The hour, the minute, the second and its decimals, and AM or PM.
 //!
-//! Without `inline(always)` the compiler leaves calls of the functions that have it.
+//! With `inline(always)` a component that is met often is written without a call.
 #![tactic(auto, using(crate::proofs::TextLemmas::text_lengths))]
 
 ghost use Rattle.std.specs.Prelude.{◌≡◌, length};
 ghost use Rattle.time_below.specs.declared.format_description.component.Component.TheVariants as component;
 ghost use Rattle.time_fmt.specs.Ends.{EndsWhole};
 ghost use Rattle.time_fmt.specs.Sink.{Fits, Puts};
-ghost use Rattle.time_fmt.specs.Text.{padded_text, hour_12, period_text};
+ghost use Rattle.time_fmt.specs.Text.{padded_text, hour_12, period_text, subsecond_text};
 
+use crate::kind::{Decimals, HalfDay, TextKind, TwoDigits};
 use crate::modifier::Modifier;
 use crate::refused::Refused;
 use crate::sink::Sink;
-use crate::writers::digits::format_two_digits;
-use crate::writers::plain::write;
 use time_below::Period;
-use time_below::format_description::{Group, modifier};
+use time_below::format_description::{Component, modifier};
 use time_digits::ru8;
 use time_provide::ComponentProvider;
-use time_provide::ranges::{Hours, Minutes, Seconds};
+use time_provide::ranges::{Hours, Minutes, Nanoseconds, Seconds};
 
 /// Appends the hour of the 12-hour clock, 1 to 12, padded to two places as `modifier` says.
-#[inline(always)]
 pub fn fmt_hour_12<S: Sink>(output: &mut S, hour: Hours, modifier: modifier::Hour12) -> usize
     requires room { Fits (S.buffer output.old) (length (padded_text modifier.padding 2 (hour_12 hour))) }
     ensures writes { Puts (S.buffer output.old) (S.buffer output.new) result
@@ -29,85 +27,104 @@ pub fn fmt_hour_12<S: Sink>(output: &mut S, hour: Hours, modifier: modifier::Hou
     ensures ends { EndsWhole 2 (S.buffer output.old) (S.buffer output.new)
         (padded_text modifier.padding 2 (hour_12 hour)) }
 {
-    format_two_digits(output, on_the_dial(hour), modifier.padding)
+    let text = TwoDigits {
+        padding: modifier.padding,
+        number: on_the_dial(hour),
+    };
+    text.put(output)
 }
 
 impl Modifier for modifier::Hour12 {
+    type Kind = TwoDigits;
+
     ghost component_of = { component.Hour12 };
 
-    fn group_and_width(self) -> (Group, usize) {
-        (Group::Time, 2)
+    fn component(self) -> Component {
+        Component::Hour12(self)
     }
 
     #[inline(always)]
-    fn write_supplied<S: Sink, V: ComponentProvider>(
+    fn kind<V: ComponentProvider>(
         self,
-        output: &mut S,
         value: &V,
         state: &mut V::State,
-    ) -> Result<(), Refused> {
-        fmt_hour_12(output, value.hour(state), self);
-        Ok(())
+    ) -> Result<TwoDigits, Refused> {
+        Ok(TwoDigits {
+            padding: self.padding,
+            number: on_the_dial(value.hour(state)),
+        })
     }
 }
 
 /// Appends the hour, 0 to 23, padded to two places as `modifier` says.
-#[inline(always)]
 pub fn fmt_hour_24<S: Sink>(output: &mut S, hour: Hours, modifier: modifier::Hour24) -> usize
     requires room { Fits (S.buffer output.old) (length (padded_text modifier.padding 2 hour)) }
     ensures writes { Puts (S.buffer output.old) (S.buffer output.new) result (padded_text modifier.padding 2 hour) }
     ensures ends { EndsWhole 2 (S.buffer output.old) (S.buffer output.new)
         (padded_text modifier.padding 2 hour) }
 {
-    format_two_digits(output, hour.expand(), modifier.padding)
+    let text = TwoDigits {
+        padding: modifier.padding,
+        number: hour.expand(),
+    };
+    text.put(output)
 }
 
 impl Modifier for modifier::Hour24 {
+    type Kind = TwoDigits;
+
     ghost component_of = { component.Hour24 };
 
-    fn group_and_width(self) -> (Group, usize) {
-        (Group::Time, 2)
+    fn component(self) -> Component {
+        Component::Hour24(self)
     }
 
     #[inline(always)]
-    fn write_supplied<S: Sink, V: ComponentProvider>(
+    fn kind<V: ComponentProvider>(
         self,
-        output: &mut S,
         value: &V,
         state: &mut V::State,
-    ) -> Result<(), Refused> {
-        fmt_hour_24(output, value.hour(state), self);
-        Ok(())
+    ) -> Result<TwoDigits, Refused> {
+        Ok(TwoDigits {
+            padding: self.padding,
+            number: value.hour(state).expand(),
+        })
     }
 }
 
 /// Appends the minute, 0 to 59, padded to two places as `modifier` says.
-#[inline(always)]
 pub fn fmt_minute<S: Sink>(output: &mut S, minute: Minutes, modifier: modifier::Minute) -> usize
     requires room { Fits (S.buffer output.old) (length (padded_text modifier.padding 2 minute)) }
     ensures writes { Puts (S.buffer output.old) (S.buffer output.new) result (padded_text modifier.padding 2 minute) }
     ensures ends { EndsWhole 2 (S.buffer output.old) (S.buffer output.new)
         (padded_text modifier.padding 2 minute) }
 {
-    format_two_digits(output, minute.expand(), modifier.padding)
+    let text = TwoDigits {
+        padding: modifier.padding,
+        number: minute.expand(),
+    };
+    text.put(output)
 }
 
 impl Modifier for modifier::Minute {
+    type Kind = TwoDigits;
+
     ghost component_of = { component.Minute };
 
-    fn group_and_width(self) -> (Group, usize) {
-        (Group::Time, 2)
+    fn component(self) -> Component {
+        Component::Minute(self)
     }
 
     #[inline(always)]
-    fn write_supplied<S: Sink, V: ComponentProvider>(
+    fn kind<V: ComponentProvider>(
         self,
-        output: &mut S,
         value: &V,
         state: &mut V::State,
-    ) -> Result<(), Refused> {
-        fmt_minute(output, value.minute(state), self);
-        Ok(())
+    ) -> Result<TwoDigits, Refused> {
+        Ok(TwoDigits {
+            padding: self.padding,
+            number: value.minute(state).expand(),
+        })
     }
 }
 
@@ -117,61 +134,108 @@ pub fn fmt_period<S: Sink>(output: &mut S, period: Period, modifier: modifier::P
     ensures writes { Puts (S.buffer output.old) (S.buffer output.new) result
         (period_text period modifier.is_uppercase) }
 {
-    let text = match (period, modifier.is_uppercase) {
-        (Period::Am, true) => "AM",
-        (Period::Am, false) => "am",
-        (Period::Pm, true) => "PM",
-        (Period::Pm, false) => "pm",
+    let text = HalfDay {
+        period,
+        is_uppercase: modifier.is_uppercase,
     };
-    write(output, text)
+    text.put(output)
 }
 
 impl Modifier for modifier::Period {
+    type Kind = HalfDay;
+
     ghost component_of = { component.Period };
 
-    fn group_and_width(self) -> (Group, usize) {
-        (Group::Time, 2)
+    fn component(self) -> Component {
+        Component::Period(self)
     }
 
     #[inline(always)]
-    fn write_supplied<S: Sink, V: ComponentProvider>(
+    fn kind<V: ComponentProvider>(
         self,
-        output: &mut S,
         value: &V,
         state: &mut V::State,
-    ) -> Result<(), Refused> {
-        fmt_period(output, value.period(state), self);
-        Ok(())
+    ) -> Result<HalfDay, Refused> {
+        Ok(HalfDay {
+            period: value.period(state),
+            is_uppercase: self.is_uppercase,
+        })
     }
 }
 
 /// Appends the second, 0 to 59, padded to two places as `modifier` says.
-#[inline(always)]
 pub fn fmt_second<S: Sink>(output: &mut S, second: Seconds, modifier: modifier::Second) -> usize
     requires room { Fits (S.buffer output.old) (length (padded_text modifier.padding 2 second)) }
     ensures writes { Puts (S.buffer output.old) (S.buffer output.new) result (padded_text modifier.padding 2 second) }
     ensures ends { EndsWhole 2 (S.buffer output.old) (S.buffer output.new)
         (padded_text modifier.padding 2 second) }
 {
-    format_two_digits(output, second.expand(), modifier.padding)
+    let text = TwoDigits {
+        padding: modifier.padding,
+        number: second.expand(),
+    };
+    text.put(output)
 }
 
 impl Modifier for modifier::Second {
+    type Kind = TwoDigits;
+
     ghost component_of = { component.Second };
 
-    fn group_and_width(self) -> (Group, usize) {
-        (Group::Time, 2)
+    fn component(self) -> Component {
+        Component::Second(self)
     }
 
     #[inline(always)]
-    fn write_supplied<S: Sink, V: ComponentProvider>(
+    fn kind<V: ComponentProvider>(
         self,
-        output: &mut S,
         value: &V,
         state: &mut V::State,
-    ) -> Result<(), Refused> {
-        fmt_second(output, value.second(state), self);
-        Ok(())
+    ) -> Result<TwoDigits, Refused> {
+        Ok(TwoDigits {
+            padding: self.padding,
+            number: value.second(state).expand(),
+        })
+    }
+}
+
+/// Appends the first decimals of the second, one to nine, or as many as are needed, at least one.
+pub fn fmt_subsecond<S: Sink>(
+    output: &mut S,
+    nanosecond: Nanoseconds,
+    modifier: modifier::Subsecond,
+) -> usize
+    requires room { Fits (S.buffer output.old) (length (subsecond_text modifier.digits nanosecond)) }
+    ensures writes { Puts (S.buffer output.old) (S.buffer output.new) result
+        (subsecond_text modifier.digits nanosecond) }
+{
+    let text = Decimals {
+        digits: modifier.digits,
+        nanosecond,
+    };
+    text.put(output)
+}
+
+impl Modifier for modifier::Subsecond {
+    type Kind = Decimals;
+
+    ghost component_of = { component.Subsecond };
+
+    fn component(self) -> Component {
+        Component::Subsecond(self)
+    }
+
+    #[tactic(auto, using(crate::proofs::TrimLemmas::subsecond_lengths))]
+    #[inline(always)]
+    fn kind<V: ComponentProvider>(
+        self,
+        value: &V,
+        state: &mut V::State,
+    ) -> Result<Decimals, Refused> {
+        Ok(Decimals {
+            digits: self.digits,
+            nanosecond: value.nanosecond(state),
+        })
     }
 }
 

@@ -1,5 +1,4 @@
-//! The seconds and milliseconds since 1970-01-01T00:00:00 UTC: their texts, maximum lengths and
-//! writers.
+//! The seconds and milliseconds since 1970-01-01T00:00:00 UTC.
 #![tactic(auto, using(crate::proofs::TextLemmas::signed_lengths))]
 
 ghost use Rattle.std.specs.Prelude.{length};
@@ -7,11 +6,11 @@ ghost use Rattle.time_below.specs.declared.format_description.component.Componen
 ghost use Rattle.time_fmt.specs.Kind.{kind_text, timestamp};
 ghost use Rattle.time_fmt.specs.Sink.{Fits, Puts};
 
+use crate::kind::{SignedNumber, TextKind};
 use crate::modifier::Modifier;
 use crate::refused::Refused;
 use crate::sink::Sink;
-use crate::writers::digits::{fmt_sign, format_u64_pad_none};
-use time_below::format_description::{Group, modifier};
+use time_below::format_description::{Component, modifier};
 use time_provide::ComponentProvider;
 
 /// Appends all digits of the seconds since 1970-01-01T00:00:00 UTC, after a sign if they are
@@ -27,24 +26,31 @@ pub fn fmt_unix_timestamp_second<S: Sink>(
     ensures writes { Puts (S.buffer output.old) (S.buffer output.new) result
         (kind_text (timestamp modifier.sign_is_mandatory seconds)) }
 {
-    format_signed(output, seconds, modifier.sign_is_mandatory)
+    let text = SignedNumber {
+        sign_is_mandatory: modifier.sign_is_mandatory,
+        number: seconds,
+    };
+    text.put(output)
 }
 
 impl Modifier for modifier::UnixTimestampSecond {
+    type Kind = SignedNumber;
+
     ghost component_of = { component.UnixTimestampSecond };
 
-    fn group_and_width(self) -> (Group, usize) {
-        (Group::Timestamp, 15)
+    fn component(self) -> Component {
+        Component::UnixTimestampSecond(self)
     }
 
-    fn write_supplied<S: Sink, V: ComponentProvider>(
+    fn kind<V: ComponentProvider>(
         self,
-        output: &mut S,
         value: &V,
         state: &mut V::State,
-    ) -> Result<(), Refused> {
-        fmt_unix_timestamp_second(output, value.unix_timestamp_seconds(state), self);
-        Ok(())
+    ) -> Result<SignedNumber, Refused> {
+        Ok(SignedNumber {
+            sign_is_mandatory: self.sign_is_mandatory,
+            number: value.unix_timestamp_seconds(state),
+        })
     }
 }
 
@@ -61,35 +67,30 @@ pub fn fmt_unix_timestamp_millisecond<S: Sink>(
     ensures writes { Puts (S.buffer output.old) (S.buffer output.new) result
         (kind_text (timestamp modifier.sign_is_mandatory milliseconds)) }
 {
-    format_signed(output, milliseconds, modifier.sign_is_mandatory)
+    let text = SignedNumber {
+        sign_is_mandatory: modifier.sign_is_mandatory,
+        number: milliseconds,
+    };
+    text.put(output)
 }
 
 impl Modifier for modifier::UnixTimestampMillisecond {
+    type Kind = SignedNumber;
+
     ghost component_of = { component.UnixTimestampMillisecond };
 
-    fn group_and_width(self) -> (Group, usize) {
-        (Group::Timestamp, 18)
+    fn component(self) -> Component {
+        Component::UnixTimestampMillisecond(self)
     }
 
-    fn write_supplied<S: Sink, V: ComponentProvider>(
+    fn kind<V: ComponentProvider>(
         self,
-        output: &mut S,
         value: &V,
         state: &mut V::State,
-    ) -> Result<(), Refused> {
-        fmt_unix_timestamp_millisecond(output, value.unix_timestamp_milliseconds(state), self);
-        Ok(())
+    ) -> Result<SignedNumber, Refused> {
+        Ok(SignedNumber {
+            sign_is_mandatory: self.sign_is_mandatory,
+            number: value.unix_timestamp_milliseconds(state),
+        })
     }
-}
-
-// The sign, and all digits.
-#[tactic(auto, using(crate::proofs::TextLemmas::signed_parts))]
-fn format_signed<S: Sink>(output: &mut S, number: i64, sign_is_mandatory: bool) -> usize
-    requires room { Fits (S.buffer output.old) (length (kind_text (timestamp sign_is_mandatory number))) }
-    ensures writes { Puts (S.buffer output.old) (S.buffer output.new) result
-        (kind_text (timestamp sign_is_mandatory number)) }
-{
-    let _room = output.room();
-    let sign = fmt_sign(output, number < 0, sign_is_mandatory);
-    sign + format_u64_pad_none(output, number.unsigned_abs())
 }

@@ -1,9 +1,9 @@
-//! The weekday and the weeks of the year: their texts, maximum lengths and writers.
+//! The weekday and the weeks of the year.
 //!
-//! Without `inline(always)` the compiler leaves calls of the functions that have it.
+//! With `inline(always)` a component that is met often is written without a call.
 #![tactic(auto, using(crate::proofs::TextLemmas::text_lengths))]
 
-ghost use Rattle.std.specs.Prelude.{◌≡◌, ◌≤◌, length, decimal};
+ghost use Rattle.std.specs.Prelude.{◌≡◌, length, decimal};
 ghost use Rattle.time_below.specs.Calendar.{from_sunday};
 ghost use Rattle.time_below.specs.declared.format_description.component.Component.TheVariants as component;
 ghost use Rattle.time_below.specs.Weekday.{days_from_monday};
@@ -12,19 +12,17 @@ ghost use Rattle.time_fmt.specs.Ends.{EndsWhole};
 ghost use Rattle.time_fmt.specs.Sink.{Fits, Puts};
 ghost use Rattle.time_fmt.specs.Text.{padded_text};
 
+use crate::kind::{ShortWeekdayName, TextKind, TwoDigits, WeekdayDigit, WeekdayName};
 use crate::modifier::Modifier;
 use crate::refused::Refused;
 use crate::sink::Sink;
-use crate::writers::digits::{format_single_digit, format_two_digits};
-use crate::writers::plain::{write_each, write_three};
 use time_below::Weekday;
-use time_below::format_description::{Group, modifier};
+use time_below::format_description::{Component, modifier};
 use time_digits::ru8;
 use time_provide::ComponentProvider;
 use time_provide::ranges::{IsoWeekNumber, MondayBasedWeek, SundayBasedWeek};
 
 /// Appends the first three letters of the weekday's English name.
-#[inline(always)]
 pub fn fmt_weekday_short<S: Sink>(
     output: &mut S,
     weekday: Weekday,
@@ -36,30 +34,29 @@ pub fn fmt_weekday_short<S: Sink>(
     ensures count { result ≡ 3 }
 {
     let _ = modifier;
-    write_three(output, &name_of_weekday(weekday).as_bytes()[..3])
+    ShortWeekdayName(weekday).put(output)
 }
 
 impl Modifier for modifier::WeekdayShort {
+    type Kind = ShortWeekdayName;
+
     ghost component_of = { component.WeekdayShort };
 
-    fn group_and_width(self) -> (Group, usize) {
-        (Group::Date, 3)
+    fn component(self) -> Component {
+        Component::WeekdayShort(self)
     }
 
     #[inline(always)]
-    fn write_supplied<S: Sink, V: ComponentProvider>(
+    fn kind<V: ComponentProvider>(
         self,
-        output: &mut S,
         value: &V,
         state: &mut V::State,
-    ) -> Result<(), Refused> {
-        fmt_weekday_short(output, value.weekday(state), self);
-        Ok(())
+    ) -> Result<ShortWeekdayName, Refused> {
+        Ok(ShortWeekdayName(value.weekday(state)))
     }
 }
 
 /// Appends the weekday's English name.
-#[inline(always)]
 pub fn fmt_weekday_long<S: Sink>(
     output: &mut S,
     weekday: Weekday,
@@ -69,36 +66,25 @@ pub fn fmt_weekday_long<S: Sink>(
     ensures writes { Puts (S.buffer output.old) (S.buffer output.new) result (weekday_name (days_from_monday weekday)) }
 {
     let _ = modifier;
-    let mut taken = output.take_out();
-    let count = match weekday {
-        Weekday::Monday => write_each(&mut taken, b"Monday"),
-        Weekday::Tuesday => write_each(&mut taken, b"Tuesday"),
-        Weekday::Wednesday => write_each(&mut taken, b"Wednesday"),
-        Weekday::Thursday => write_each(&mut taken, b"Thursday"),
-        Weekday::Friday => write_each(&mut taken, b"Friday"),
-        Weekday::Saturday => write_each(&mut taken, b"Saturday"),
-        Weekday::Sunday => write_each(&mut taken, b"Sunday"),
-    };
-    output.put_back(taken);
-    count
+    WeekdayName(weekday).put(output)
 }
 
 impl Modifier for modifier::WeekdayLong {
+    type Kind = WeekdayName;
+
     ghost component_of = { component.WeekdayLong };
 
-    fn group_and_width(self) -> (Group, usize) {
-        (Group::Date, 9)
+    fn component(self) -> Component {
+        Component::WeekdayLong(self)
     }
 
     #[inline(always)]
-    fn write_supplied<S: Sink, V: ComponentProvider>(
+    fn kind<V: ComponentProvider>(
         self,
-        output: &mut S,
         value: &V,
         state: &mut V::State,
-    ) -> Result<(), Refused> {
-        fmt_weekday_long(output, value.weekday(state), self);
-        Ok(())
+    ) -> Result<WeekdayName, Refused> {
+        Ok(WeekdayName(value.weekday(state)))
     }
 }
 
@@ -115,28 +101,31 @@ pub fn fmt_weekday_sunday<S: Sink>(
     ensures ends { EndsWhole 1 (S.buffer output.old) (S.buffer output.new)
         (decimal (indexed modifier.one_indexed (from_sunday (days_from_monday weekday)))) }
 {
-    write_weekday_digit(
-        output,
-        weekday.number_days_from_sunday(),
-        modifier.one_indexed,
-    )
+    let text = WeekdayDigit {
+        one_indexed: modifier.one_indexed,
+        days: ru8::within(weekday.number_days_from_sunday()),
+    };
+    text.put(output)
 }
 
 impl Modifier for modifier::WeekdaySunday {
+    type Kind = WeekdayDigit;
+
     ghost component_of = { component.WeekdaySunday };
 
-    fn group_and_width(self) -> (Group, usize) {
-        (Group::Date, 1)
+    fn component(self) -> Component {
+        Component::WeekdaySunday(self)
     }
 
-    fn write_supplied<S: Sink, V: ComponentProvider>(
+    fn kind<V: ComponentProvider>(
         self,
-        output: &mut S,
         value: &V,
         state: &mut V::State,
-    ) -> Result<(), Refused> {
-        fmt_weekday_sunday(output, value.weekday(state), self);
-        Ok(())
+    ) -> Result<WeekdayDigit, Refused> {
+        Ok(WeekdayDigit {
+            one_indexed: self.one_indexed,
+            days: ru8::within(value.weekday(state).number_days_from_sunday()),
+        })
     }
 }
 
@@ -153,29 +142,32 @@ pub fn fmt_weekday_monday<S: Sink>(
     ensures ends { EndsWhole 1 (S.buffer output.old) (S.buffer output.new)
         (decimal (indexed modifier.one_indexed (days_from_monday weekday))) }
 {
-    write_weekday_digit(
-        output,
-        weekday.number_days_from_monday(),
-        modifier.one_indexed,
-    )
+    let text = WeekdayDigit {
+        one_indexed: modifier.one_indexed,
+        days: ru8::within(weekday.number_days_from_monday()),
+    };
+    text.put(output)
 }
 
 impl Modifier for modifier::WeekdayMonday {
+    type Kind = WeekdayDigit;
+
     ghost component_of = { component.WeekdayMonday };
 
-    fn group_and_width(self) -> (Group, usize) {
-        (Group::Date, 1)
+    fn component(self) -> Component {
+        Component::WeekdayMonday(self)
     }
 
     #[inline(always)]
-    fn write_supplied<S: Sink, V: ComponentProvider>(
+    fn kind<V: ComponentProvider>(
         self,
-        output: &mut S,
         value: &V,
         state: &mut V::State,
-    ) -> Result<(), Refused> {
-        fmt_weekday_monday(output, value.weekday(state), self);
-        Ok(())
+    ) -> Result<WeekdayDigit, Refused> {
+        Ok(WeekdayDigit {
+            one_indexed: self.one_indexed,
+            days: ru8::within(value.weekday(state).number_days_from_monday()),
+        })
     }
 }
 
@@ -191,24 +183,31 @@ pub fn fmt_week_number_iso<S: Sink>(
     ensures ends { EndsWhole 2 (S.buffer output.old) (S.buffer output.new)
         (padded_text modifier.padding 2 week) }
 {
-    format_two_digits(output, week.expand(), modifier.padding)
+    let text = TwoDigits {
+        padding: modifier.padding,
+        number: week.expand(),
+    };
+    text.put(output)
 }
 
 impl Modifier for modifier::WeekNumberIso {
+    type Kind = TwoDigits;
+
     ghost component_of = { component.WeekNumberIso };
 
-    fn group_and_width(self) -> (Group, usize) {
-        (Group::Date, 2)
+    fn component(self) -> Component {
+        Component::WeekNumberIso(self)
     }
 
-    fn write_supplied<S: Sink, V: ComponentProvider>(
+    fn kind<V: ComponentProvider>(
         self,
-        output: &mut S,
         value: &V,
         state: &mut V::State,
-    ) -> Result<(), Refused> {
-        fmt_week_number_iso(output, value.iso_week_number(state), self);
-        Ok(())
+    ) -> Result<TwoDigits, Refused> {
+        Ok(TwoDigits {
+            padding: self.padding,
+            number: value.iso_week_number(state).expand(),
+        })
     }
 }
 
@@ -225,24 +224,31 @@ pub fn fmt_week_number_sunday<S: Sink>(
     ensures ends { EndsWhole 2 (S.buffer output.old) (S.buffer output.new)
         (padded_text modifier.padding 2 week) }
 {
-    format_two_digits(output, week.expand(), modifier.padding)
+    let text = TwoDigits {
+        padding: modifier.padding,
+        number: week.expand(),
+    };
+    text.put(output)
 }
 
 impl Modifier for modifier::WeekNumberSunday {
+    type Kind = TwoDigits;
+
     ghost component_of = { component.WeekNumberSunday };
 
-    fn group_and_width(self) -> (Group, usize) {
-        (Group::Date, 2)
+    fn component(self) -> Component {
+        Component::WeekNumberSunday(self)
     }
 
-    fn write_supplied<S: Sink, V: ComponentProvider>(
+    fn kind<V: ComponentProvider>(
         self,
-        output: &mut S,
         value: &V,
         state: &mut V::State,
-    ) -> Result<(), Refused> {
-        fmt_week_number_sunday(output, value.sunday_based_week(state), self);
-        Ok(())
+    ) -> Result<TwoDigits, Refused> {
+        Ok(TwoDigits {
+            padding: self.padding,
+            number: value.sunday_based_week(state).expand(),
+        })
     }
 }
 
@@ -259,49 +265,30 @@ pub fn fmt_week_number_monday<S: Sink>(
     ensures ends { EndsWhole 2 (S.buffer output.old) (S.buffer output.new)
         (padded_text modifier.padding 2 week) }
 {
-    format_two_digits(output, week.expand(), modifier.padding)
+    let text = TwoDigits {
+        padding: modifier.padding,
+        number: week.expand(),
+    };
+    text.put(output)
 }
 
 impl Modifier for modifier::WeekNumberMonday {
+    type Kind = TwoDigits;
+
     ghost component_of = { component.WeekNumberMonday };
 
-    fn group_and_width(self) -> (Group, usize) {
-        (Group::Date, 2)
+    fn component(self) -> Component {
+        Component::WeekNumberMonday(self)
     }
 
-    fn write_supplied<S: Sink, V: ComponentProvider>(
+    fn kind<V: ComponentProvider>(
         self,
-        output: &mut S,
         value: &V,
         state: &mut V::State,
-    ) -> Result<(), Refused> {
-        fmt_week_number_monday(output, value.monday_based_week(state), self);
-        Ok(())
+    ) -> Result<TwoDigits, Refused> {
+        Ok(TwoDigits {
+            padding: self.padding,
+            number: value.monday_based_week(state).expand(),
+        })
     }
-}
-
-// The English name of a weekday, of at least three letters.
-fn name_of_weekday(weekday: Weekday) -> &'static str
-    ensures name { result.now ≡ weekday_name (days_from_monday weekday) }
-    ensures least { 3 ≤ length result.now }
-{
-    match weekday {
-        Weekday::Monday => "Monday",
-        Weekday::Tuesday => "Tuesday",
-        Weekday::Wednesday => "Wednesday",
-        Weekday::Thursday => "Thursday",
-        Weekday::Friday => "Friday",
-        Weekday::Saturday => "Saturday",
-        Weekday::Sunday => "Sunday",
-    }
-}
-
-// Appends the days from the first day of a week, counted from 0 or from 1 on.
-fn write_weekday_digit<S: Sink>(output: &mut S, days: u8, one_indexed: bool) -> usize
-    requires days { days ≤ 6 }
-    requires room { Fits (S.buffer output.old) (length (decimal (indexed one_indexed days))) }
-    ensures writes { Puts (S.buffer output.old) (S.buffer output.new) result (decimal (indexed one_indexed days)) }
-    ensures ends { EndsWhole 1 (S.buffer output.old) (S.buffer output.new) (decimal (indexed one_indexed days)) }
-{
-    format_single_digit(output, ru8::within(days + u8::from(one_indexed)))
 }

@@ -1,9 +1,6 @@
-//! Whole years: their texts, maximum lengths and writers.
+//! Whole years, of the calendar and of the week calendar.
 //!
-//! The calendar year and the year of the week calendar have the same texts.
-//!
-//! Without `inline(always)` the compiler leaves calls of the functions that have it. `cold` and
-//! `inline(never)` keep long or rare bodies out of their callers.
+//! With `inline(always)` a component that is met often is written without a call.
 #![tactic(auto, using(crate::proofs::TextLemmas::signed_lengths))]
 
 ghost use Rattle.std.specs.Prelude.{◌≡◌, ◌<◌, ◌≤◌, MatchOption, length, unsigned_abs};
@@ -11,23 +8,18 @@ ghost use Rattle.time_below.specs.declared.format_description.component.Componen
 ghost use Rattle.time_fmt.specs.Ends.{EndsWhole};
 ghost use Rattle.time_fmt.specs.Kind.{kind_text, extended_year, standard_year};
 ghost use Rattle.time_fmt.specs.Sink.{Fits, Puts};
-ghost use Rattle.time_fmt.specs.Text.{padded_text};
 
+use crate::kind::{FourDigitYear, FullYear, TextKind};
 use crate::modifier::Modifier;
 use crate::refused::Refused;
 use crate::sink::Sink;
-use crate::writers::digits::{fmt_sign, format_four_digits};
-use crate::writers::plain::write_many;
-use time_below::format_description::modifier::Padding;
-use time_below::format_description::{Group, modifier};
-use time_digits::num_fmt::four_to_six_digits;
-use time_digits::{ri16, ru16, ru32};
+use time_below::format_description::{Component, modifier};
+use time_digits::ri16;
 use time_provide::ComponentProvider;
 use time_provide::ranges::{StandardYear, Year};
 
 /// Appends the year, -999,999 to 999,999, padded to four places as `modifier` says, after a sign if
 /// it is negative, above 9,999, or `modifier` wants one.
-#[inline(always)]
 pub fn fmt_calendar_year_full_extended_range<S: Sink>(
     output: &mut S,
     year: Year,
@@ -40,25 +32,34 @@ pub fn fmt_calendar_year_full_extended_range<S: Sink>(
     ensures ends { EndsWhole 7 (S.buffer output.old) (S.buffer output.new)
         (kind_text (extended_year modifier.padding modifier.sign_is_mandatory year)) }
 {
-    write_extended_year(output, year, modifier.padding, modifier.sign_is_mandatory)
+    let text = FullYear {
+        padding: modifier.padding,
+        sign_is_mandatory: modifier.sign_is_mandatory,
+        year,
+    };
+    text.put(output)
 }
 
 impl Modifier for modifier::CalendarYearFullExtendedRange {
+    type Kind = FullYear;
+
     ghost component_of = { component.CalendarYearFullExtendedRange };
 
-    fn group_and_width(self) -> (Group, usize) {
-        (Group::Date, 7)
+    fn component(self) -> Component {
+        Component::CalendarYearFullExtendedRange(self)
     }
 
     #[inline(always)]
-    fn write_supplied<S: Sink, V: ComponentProvider>(
+    fn kind<V: ComponentProvider>(
         self,
-        output: &mut S,
         value: &V,
         state: &mut V::State,
-    ) -> Result<(), Refused> {
-        fmt_calendar_year_full_extended_range(output, value.calendar_year(state), self);
-        Ok(())
+    ) -> Result<FullYear, Refused> {
+        Ok(FullYear {
+            padding: self.padding,
+            sign_is_mandatory: self.sign_is_mandatory,
+            year: value.calendar_year(state),
+        })
     }
 }
 
@@ -76,28 +77,37 @@ pub fn fmt_calendar_year_full_standard_range<S: Sink>(
     ensures ends { EndsWhole 5 (S.buffer output.old) (S.buffer output.new)
         (kind_text (standard_year modifier.padding modifier.sign_is_mandatory year)) }
 {
-    write_standard_year(output, year, modifier.padding, modifier.sign_is_mandatory)
+    let text = FourDigitYear {
+        padding: modifier.padding,
+        sign_is_mandatory: modifier.sign_is_mandatory,
+        year,
+    };
+    text.put(output)
 }
 
 impl Modifier for modifier::CalendarYearFullStandardRange {
+    type Kind = FourDigitYear;
+
     ghost component_of = { component.CalendarYearFullStandardRange };
 
-    fn group_and_width(self) -> (Group, usize) {
-        (Group::Date, 5)
+    fn component(self) -> Component {
+        Component::CalendarYearFullStandardRange(self)
     }
 
     #[inline(always)]
-    fn write_supplied<S: Sink, V: ComponentProvider>(
+    fn kind<V: ComponentProvider>(
         self,
-        output: &mut S,
         value: &V,
         state: &mut V::State,
-    ) -> Result<(), Refused> {
+    ) -> Result<FourDigitYear, Refused> {
         let Some(year) = in_standard_range(value.calendar_year(state)) else {
             return Err(Refused::YearOutOfRange);
         };
-        fmt_calendar_year_full_standard_range(output, year, self);
-        Ok(())
+        Ok(FourDigitYear {
+            padding: self.padding,
+            sign_is_mandatory: self.sign_is_mandatory,
+            year,
+        })
     }
 }
 
@@ -115,24 +125,33 @@ pub fn fmt_iso_year_full_extended_range<S: Sink>(
     ensures ends { EndsWhole 7 (S.buffer output.old) (S.buffer output.new)
         (kind_text (extended_year modifier.padding modifier.sign_is_mandatory year)) }
 {
-    write_extended_year(output, year, modifier.padding, modifier.sign_is_mandatory)
+    let text = FullYear {
+        padding: modifier.padding,
+        sign_is_mandatory: modifier.sign_is_mandatory,
+        year,
+    };
+    text.put(output)
 }
 
 impl Modifier for modifier::IsoYearFullExtendedRange {
+    type Kind = FullYear;
+
     ghost component_of = { component.IsoYearFullExtendedRange };
 
-    fn group_and_width(self) -> (Group, usize) {
-        (Group::Date, 7)
+    fn component(self) -> Component {
+        Component::IsoYearFullExtendedRange(self)
     }
 
-    fn write_supplied<S: Sink, V: ComponentProvider>(
+    fn kind<V: ComponentProvider>(
         self,
-        output: &mut S,
         value: &V,
         state: &mut V::State,
-    ) -> Result<(), Refused> {
-        fmt_iso_year_full_extended_range(output, value.iso_year(state), self);
-        Ok(())
+    ) -> Result<FullYear, Refused> {
+        Ok(FullYear {
+            padding: self.padding,
+            sign_is_mandatory: self.sign_is_mandatory,
+            year: value.iso_year(state),
+        })
     }
 }
 
@@ -150,118 +169,36 @@ pub fn fmt_iso_year_full_standard_range<S: Sink>(
     ensures ends { EndsWhole 5 (S.buffer output.old) (S.buffer output.new)
         (kind_text (standard_year modifier.padding modifier.sign_is_mandatory year)) }
 {
-    write_standard_year(output, year, modifier.padding, modifier.sign_is_mandatory)
+    let text = FourDigitYear {
+        padding: modifier.padding,
+        sign_is_mandatory: modifier.sign_is_mandatory,
+        year,
+    };
+    text.put(output)
 }
 
 impl Modifier for modifier::IsoYearFullStandardRange {
+    type Kind = FourDigitYear;
+
     ghost component_of = { component.IsoYearFullStandardRange };
 
-    fn group_and_width(self) -> (Group, usize) {
-        (Group::Date, 5)
+    fn component(self) -> Component {
+        Component::IsoYearFullStandardRange(self)
     }
 
-    fn write_supplied<S: Sink, V: ComponentProvider>(
+    fn kind<V: ComponentProvider>(
         self,
-        output: &mut S,
         value: &V,
         state: &mut V::State,
-    ) -> Result<(), Refused> {
+    ) -> Result<FourDigitYear, Refused> {
         let Some(year) = in_standard_range(value.iso_year(state)) else {
             return Err(Refused::YearOutOfRange);
         };
-        fmt_iso_year_full_standard_range(output, year, self);
-        Ok(())
-    }
-}
-
-// Most years have four digits and no sign.
-#[inline(always)]
-fn write_extended_year<S: Sink>(
-    output: &mut S,
-    year: Year,
-    padding: Padding,
-    sign_is_mandatory: bool,
-) -> usize
-    requires room { Fits (S.buffer output.old)
-        (length (kind_text (extended_year padding sign_is_mandatory year))) }
-    ensures writes { Puts (S.buffer output.old) (S.buffer output.new) result
-        (kind_text (extended_year padding sign_is_mandatory year)) }
-    ensures ends { EndsWhole 7 (S.buffer output.old) (S.buffer output.new)
-        (kind_text (extended_year padding sign_is_mandatory year)) }
-{
-    let number = year.get();
-    if !sign_is_mandatory && 0 <= number && number <= 9_999 {
-        return format_four_digits(output, ru16::within(number as u16), padding);
-    }
-    write_rare_year(output, year, padding, sign_is_mandatory)
-}
-
-// Any year, apart.
-fn write_rare_year<S: Sink>(
-    output: &mut S,
-    year: Year,
-    padding: Padding,
-    sign_is_mandatory: bool,
-) -> usize
-    requires room { Fits (S.buffer output.old)
-        (length (kind_text (extended_year padding sign_is_mandatory year))) }
-    ensures writes { Puts (S.buffer output.old) (S.buffer output.new) result
-        (kind_text (extended_year padding sign_is_mandatory year)) }
-{
-    let mut taken = output.take_out();
-    let count = write_signed_year(&mut taken, year, padding, sign_is_mandatory);
-    output.put_back(taken);
-    count
-}
-
-// Any year, of a sink that was taken out.
-#[cold]
-#[inline(never)]
-fn write_signed_year<S: Sink>(
-    output: &mut S,
-    year: Year,
-    padding: Padding,
-    sign_is_mandatory: bool,
-) -> usize
-    requires room { Fits (S.buffer output.old)
-        (length (kind_text (extended_year padding sign_is_mandatory year))) }
-    ensures writes { Puts (S.buffer output.old) (S.buffer output.new) result
-        (kind_text (extended_year padding sign_is_mandatory year)) }
-{
-    let number = year.get();
-    let sign = fmt_sign(output, number < 0, sign_is_mandatory || number > 9_999);
-    sign + write_year_digits(output, year.abs(), padding)
-}
-
-#[inline(always)]
-fn write_standard_year<S: Sink>(
-    output: &mut S,
-    year: StandardYear,
-    padding: Padding,
-    sign_is_mandatory: bool,
-) -> usize
-    requires room { Fits (S.buffer output.old)
-        (length (kind_text (standard_year padding sign_is_mandatory year))) }
-    ensures writes { Puts (S.buffer output.old) (S.buffer output.new) result
-        (kind_text (standard_year padding sign_is_mandatory year)) }
-    ensures ends { EndsWhole 5 (S.buffer output.old) (S.buffer output.new)
-        (kind_text (standard_year padding sign_is_mandatory year)) }
-{
-    let sign = fmt_sign(output, year.get() < 0, sign_is_mandatory);
-    sign + format_four_digits(output, year.abs(), padding)
-}
-
-// Appends a year in four places, or all its digits.
-#[tactic(auto, using(crate::proofs::TextLemmas::whole_year))]
-fn write_year_digits<S: Sink>(output: &mut S, year: ru32<0, 999_999>, padding: Padding) -> usize
-    requires room { Fits (S.buffer output.old) (length (padded_text padding 4 year)) }
-    ensures writes { Puts (S.buffer output.old) (S.buffer output.new) result (padded_text padding 4 year) }
-{
-    let number = year.get();
-    if number < 10_000 {
-        format_four_digits(output, ru16::within(number as u16), padding)
-    } else {
-        write_many(output, &four_to_six_digits(year))
+        Ok(FourDigitYear {
+            padding: self.padding,
+            sign_is_mandatory: self.sign_is_mandatory,
+            year,
+        })
     }
 }
 

@@ -1,9 +1,0 @@
-use Rattle.std.proofs.Common.{arith, refl}
-use Rattle.time_fmt.proofs.EndLemmas.{put_behind, whole_text}
-use Rattle.time_fmt.proofs.TextLemmas.{signed_two}
-use Rattle.time_fmt.proofs.writers.century.write_standard_century.Goals as goal
-
-pub returns : goal.returns
-returns g c =
-    let writes = put_behind c.fmt_sign-sign.ensures.writes c.format_two_digits.ensures.writes refl in
-    record { writes = writes; ends = whole_text writes (signed_two _ _ _ _ (omega arith)) }
