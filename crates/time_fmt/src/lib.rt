@@ -22,7 +22,7 @@ pub use formattable::{
     BorrowedItems, Formattable, Literal, OwnedItems, make_room, v3_write_into, write_into_room,
     write_into_sink,
 };
-pub use kind::TextKind;
+pub use kind::{ComponentText, TextKind};
 pub use metadata::ComputeMetadata;
 pub use modifier::{Modifier, write_part};
 pub use refused::Refused;

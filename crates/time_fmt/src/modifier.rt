@@ -1,19 +1,17 @@
 //! The trait of a component's choices, which say what component it is and what it shows.
 //!
 //! Without `inline(always)` the compiler leaves calls of the functions that have it.
-ghost use Rattle.std.specs.Prelude.{◌≡◌, ◌≤◌, IfErr, IfOk, IsTrue, length};
+ghost use Rattle.std.specs.Prelude.{◌≡◌, ◌≤◌, IsTrue, length};
 ghost use Rattle.time_below.specs.Conversion.{is_current};
 ghost use Rattle.time_below.specs.declared.format_description.component.Component.{Component};
 ghost use Rattle.time_below.specs.Group.{group_of};
 ghost use Rattle.time_below.specs.Width.{component_width};
 ghost use Rattle.time_fmt.specs.Description.{component_outcome, has_group, is_supplied, kind_of};
-ghost use Rattle.time_fmt.specs.Description.{supplied_outcome};
-ghost use Rattle.time_fmt.specs.Ends.{Ends, refusal_of};
-ghost use Rattle.time_fmt.specs.Kind.{kind_outcome, kind_text};
-ghost use Rattle.time_fmt.specs.Outcome.{done, refused};
+ghost use Rattle.time_fmt.specs.Ends.{Ends};
+ghost use Rattle.time_fmt.specs.Kind.{kind_outcome};
 ghost use Rattle.time_fmt.specs.Sink.{Ready};
 
-use crate::kind::TextKind;
+use crate::kind::ComponentText;
 use crate::refused::Refused;
 use crate::sink::Sink;
 use time_below::format_description::{Component, Group};
@@ -25,8 +23,8 @@ use time_provide::ComponentProvider;
 /// deprecated components and of the two that have no text. Each impl is beside the component's
 /// writer.
 pub trait Modifier: Copy {
-    /// What the component shows of a value.
-    type Kind: TextKind;
+    /// The kind of what the component shows.
+    type Kind: ComponentText;
 
     /// The component with these choices.
     ghost component_of: { Self → Component };
@@ -37,23 +35,15 @@ pub trait Modifier: Copy {
         ensures current { IsTrue (is_current (component_of self)) };
 
     /// What the component shows of a value that supplies its group, in no more bytes than its
-    /// maximum length, or why it is refused.
-    fn kind<V: ComponentProvider>(
-        self,
-        value: &V,
-        state: &mut V::State,
-    ) -> Result<Self::Kind, Refused>
+    /// maximum length.
+    fn kind<V: ComponentProvider>(self, value: &V, state: &mut V::State) -> Self::Kind
         requires supplied { IsTrue (is_supplied V.SUPPLIES_DATE V.SUPPLIES_TIME
             V.SUPPLIES_OFFSET V.SUPPLIES_TIMESTAMP (group_of (component_of self))) }
         requires agrees { V.agrees state.old value.now }
-        ensures kind { IfOk result (λ text. Self.Kind.kind text
-            ≡ kind_of (component_of self) (V.facts value.now)) }
-        ensures whole { IfOk result (λ text. kind_outcome (Self.Kind.kind text)
-            ≡ done (kind_text (Self.Kind.kind text))) }
-        ensures width { IfOk result (λ text. length (kind_text (Self.Kind.kind text))
-            ≤ component_width (component_of self)) }
-        ensures refused { IfErr result (λ reason. supplied_outcome (component_of self)
-            (V.facts value.now) ≡ refused (refusal_of reason)) }
+        ensures outcome { Self.Kind.outcome result
+            ≡ kind_outcome (kind_of (component_of self) (V.facts value.now)) }
+        ensures width { length (Self.Kind.outcome result).bytes
+            ≤ component_width (component_of self) }
         ensures agrees { V.agrees state.new value.now };
 }
 
@@ -75,13 +65,7 @@ pub fn write_part<M: Modifier, S: Sink, V: ComponentProvider>(
     if !supplies::<V>(part.component().group()) {
         return Err(Refused::Unsupplied);
     }
-    match part.kind(value, state) {
-        Ok(text) => {
-            text.put(output);
-            Ok(())
-        }
-        Err(refused) => Err(refused),
-    }
+    part.kind(value, state).write(output)
 }
 
 /// Whether the values of a type supply a group.

@@ -17,53 +17,44 @@ use time_below::format_description::modifier::Padding;
 use time_digits::num_fmt::magnitude_zero_padded;
 use time_digits::{ri8, ru8, ru16};
 
-/// A number in two places.
+/// A number in two places, by its padding.
 #[derive(Clone, Copy)]
-pub struct TwoDigits {
-    pub padding: Padding,
-    pub number: ru8<0, 99>,
-}
+pub struct TwoDigits(pub ru8<0, 99>, pub Padding);
 
 impl TextKind for TwoDigits {
-    ghost kind = { λ text. kind.number text.padding 2 text.number };
+    ghost kind = { λ text. kind.number text.1 2 text.0 };
 
     #[inline(always)]
     fn put<S: Sink>(self, output: &mut S) -> usize {
-        format_two_digits(output, self.number, self.padding)
+        format_two_digits(output, self.0, self.1)
     }
 }
 
-/// A number in three places.
+/// A number in three places, by its padding.
 #[derive(Clone, Copy)]
-pub struct ThreeDigits {
-    pub padding: Padding,
-    pub number: ru16<0, 999>,
-}
+pub struct ThreeDigits(pub ru16<0, 999>, pub Padding);
 
 impl TextKind for ThreeDigits {
-    ghost kind = { λ text. kind.number text.padding 3 text.number };
+    ghost kind = { λ text. kind.number text.1 3 text.0 };
 
     fn put<S: Sink>(self, output: &mut S) -> usize {
-        format_three_digits(output, self.number, self.padding)
+        format_three_digits(output, self.0, self.1)
     }
 }
 
-/// A part of an offset without its sign, in two places.
+/// A part of an offset without its sign, in two places, by its padding.
 #[derive(Clone, Copy)]
-pub struct Magnitude {
-    pub padding: Padding,
-    pub part: ri8<59>,
-}
+pub struct Magnitude(pub ri8<59>, pub Padding);
 
 impl TextKind for Magnitude {
-    ghost kind = { λ text. kind.number text.padding 2 (unsigned_abs text.part) };
+    ghost kind = { λ text. kind.number text.1 2 (unsigned_abs text.0) };
 
     // Mostly it has zeros in front, and then no sign is taken away.
     #[inline(always)]
     fn put<S: Sink>(self, output: &mut S) -> usize {
-        match self.padding {
-            Padding::Zero => write_pair(output, magnitude_zero_padded(self.part)),
-            rare => write_two_rarely(output, self.part.abs().expand(), rare),
+        match self.1 {
+            Padding::Zero => write_pair(output, magnitude_zero_padded(self.0)),
+            rare => write_two_rarely(output, self.0.abs().expand(), rare),
         }
     }
 }
@@ -77,8 +68,8 @@ pub struct SignedMagnitude {
 }
 
 impl TextKind for SignedMagnitude {
-    ghost kind = { λ text. offset_hour text.magnitude.padding text.sign_is_mandatory
-        text.is_negative text.magnitude.part };
+    ghost kind = { λ text. offset_hour text.magnitude.1 text.sign_is_mandatory
+        text.is_negative text.magnitude.0 };
 
     #[inline(always)]
     #[tactic(auto, using(crate::proofs::TextLemmas::signed_parts))]

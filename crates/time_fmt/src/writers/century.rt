@@ -54,18 +54,14 @@ impl Modifier for modifier::CalendarYearCenturyExtendedRange {
         Component::CalendarYearCenturyExtendedRange(self)
     }
 
-    fn kind<V: ComponentProvider>(
-        self,
-        value: &V,
-        state: &mut V::State,
-    ) -> Result<Century, Refused> {
+    fn kind<V: ComponentProvider>(self, value: &V, state: &mut V::State) -> Century {
         let (century, is_negative) = century_of(value.calendar_year(state));
-        Ok(Century {
+        Century {
             padding: self.padding,
             sign_is_mandatory: self.sign_is_mandatory,
             is_negative,
             century,
-        })
+        }
     }
 }
 
@@ -97,7 +93,7 @@ pub fn fmt_calendar_year_century_standard_range<S: Sink>(
 }
 
 impl Modifier for modifier::CalendarYearCenturyStandardRange {
-    type Kind = TwoDigitCentury;
+    type Kind = Result<TwoDigitCentury, Refused>;
 
     ghost component_of = { component.CalendarYearCenturyStandardRange };
 
@@ -158,18 +154,14 @@ impl Modifier for modifier::IsoYearCenturyExtendedRange {
         Component::IsoYearCenturyExtendedRange(self)
     }
 
-    fn kind<V: ComponentProvider>(
-        self,
-        value: &V,
-        state: &mut V::State,
-    ) -> Result<Century, Refused> {
+    fn kind<V: ComponentProvider>(self, value: &V, state: &mut V::State) -> Century {
         let (century, is_negative) = century_of(value.iso_year(state));
-        Ok(Century {
+        Century {
             padding: self.padding,
             sign_is_mandatory: self.sign_is_mandatory,
             is_negative,
             century,
-        })
+        }
     }
 }
 
@@ -201,7 +193,7 @@ pub fn fmt_iso_year_century_standard_range<S: Sink>(
 }
 
 impl Modifier for modifier::IsoYearCenturyStandardRange {
-    type Kind = TwoDigitCentury;
+    type Kind = Result<TwoDigitCentury, Refused>;
 
     ghost component_of = { component.IsoYearCenturyStandardRange };
 
@@ -238,11 +230,7 @@ pub fn fmt_calendar_year_last_two<S: Sink>(
     ensures ends { EndsWhole 2 (S.buffer output.old) (S.buffer output.new)
         (padded_text modifier.padding 2 last_two) }
 {
-    let text = TwoDigits {
-        padding: modifier.padding,
-        number: last_two,
-    };
-    text.put(output)
+    TwoDigits(last_two, modifier.padding).put(output)
 }
 
 impl Modifier for modifier::CalendarYearLastTwo {
@@ -255,15 +243,8 @@ impl Modifier for modifier::CalendarYearLastTwo {
     }
 
     #[tactic(auto, using(crate::proofs::TextLemmas::text_lengths))]
-    fn kind<V: ComponentProvider>(
-        self,
-        value: &V,
-        state: &mut V::State,
-    ) -> Result<TwoDigits, Refused> {
-        Ok(TwoDigits {
-            padding: self.padding,
-            number: last_two(value.calendar_year(state)),
-        })
+    fn kind<V: ComponentProvider>(self, value: &V, state: &mut V::State) -> TwoDigits {
+        TwoDigits(last_two(value.calendar_year(state)), self.padding)
     }
 }
 
@@ -280,11 +261,7 @@ pub fn fmt_iso_year_last_two<S: Sink>(
     ensures ends { EndsWhole 2 (S.buffer output.old) (S.buffer output.new)
         (padded_text modifier.padding 2 last_two) }
 {
-    let text = TwoDigits {
-        padding: modifier.padding,
-        number: last_two,
-    };
-    text.put(output)
+    TwoDigits(last_two, modifier.padding).put(output)
 }
 
 impl Modifier for modifier::IsoYearLastTwo {
@@ -297,15 +274,8 @@ impl Modifier for modifier::IsoYearLastTwo {
     }
 
     #[tactic(auto, using(crate::proofs::TextLemmas::text_lengths))]
-    fn kind<V: ComponentProvider>(
-        self,
-        value: &V,
-        state: &mut V::State,
-    ) -> Result<TwoDigits, Refused> {
-        Ok(TwoDigits {
-            padding: self.padding,
-            number: last_two(value.iso_year(state)),
-        })
+    fn kind<V: ComponentProvider>(self, value: &V, state: &mut V::State) -> TwoDigits {
+        TwoDigits(last_two(value.iso_year(state)), self.padding)
     }
 }
 

@@ -13,7 +13,6 @@ ghost use Rattle.time_fmt.specs.Text.{padded_text};
 
 use crate::kind::{MonthName, ShortMonthName, TextKind, ThreeDigits, TwoDigits};
 use crate::modifier::Modifier;
-use crate::refused::Refused;
 use crate::sink::Sink;
 use time_below::Month;
 use time_below::format_description::{Component, modifier};
@@ -28,11 +27,7 @@ pub fn fmt_day<S: Sink>(output: &mut S, day: Day, modifier: modifier::Day) -> us
     ensures ends { EndsWhole 2 (S.buffer output.old) (S.buffer output.new)
         (padded_text modifier.padding 2 day) }
 {
-    let text = TwoDigits {
-        padding: modifier.padding,
-        number: day.expand(),
-    };
-    text.put(output)
+    TwoDigits(day.expand(), modifier.padding).put(output)
 }
 
 impl Modifier for modifier::Day {
@@ -45,15 +40,8 @@ impl Modifier for modifier::Day {
     }
 
     #[inline(always)]
-    fn kind<V: ComponentProvider>(
-        self,
-        value: &V,
-        state: &mut V::State,
-    ) -> Result<TwoDigits, Refused> {
-        Ok(TwoDigits {
-            padding: self.padding,
-            number: value.day(state).expand(),
-        })
+    fn kind<V: ComponentProvider>(self, value: &V, state: &mut V::State) -> TwoDigits {
+        TwoDigits(value.day(state).expand(), self.padding)
     }
 }
 
@@ -80,13 +68,8 @@ impl Modifier for modifier::MonthShort {
         Component::MonthShort(self)
     }
 
-    #[inline(always)]
-    fn kind<V: ComponentProvider>(
-        self,
-        value: &V,
-        state: &mut V::State,
-    ) -> Result<ShortMonthName, Refused> {
-        Ok(ShortMonthName(value.month(state)))
+    fn kind<V: ComponentProvider>(self, value: &V, state: &mut V::State) -> ShortMonthName {
+        ShortMonthName(value.month(state))
     }
 }
 
@@ -108,13 +91,8 @@ impl Modifier for modifier::MonthLong {
         Component::MonthLong(self)
     }
 
-    #[inline(always)]
-    fn kind<V: ComponentProvider>(
-        self,
-        value: &V,
-        state: &mut V::State,
-    ) -> Result<MonthName, Refused> {
-        Ok(MonthName(value.month(state)))
+    fn kind<V: ComponentProvider>(self, value: &V, state: &mut V::State) -> MonthName {
+        MonthName(value.month(state))
     }
 }
 
@@ -131,11 +109,7 @@ pub fn fmt_month_numerical<S: Sink>(
     ensures ends { EndsWhole 2 (S.buffer output.old) (S.buffer output.new)
         (padded_text modifier.padding 2 (month_number month)) }
 {
-    let text = TwoDigits {
-        padding: modifier.padding,
-        number: ru8::within(u8::from(month)),
-    };
-    text.put(output)
+    TwoDigits(ru8::within(u8::from(month)), modifier.padding).put(output)
 }
 
 impl Modifier for modifier::MonthNumerical {
@@ -148,17 +122,10 @@ impl Modifier for modifier::MonthNumerical {
     }
 
     #[inline(always)]
-    fn kind<V: ComponentProvider>(
-        self,
-        value: &V,
-        state: &mut V::State,
-    ) -> Result<TwoDigits, Refused> {
+    fn kind<V: ComponentProvider>(self, value: &V, state: &mut V::State) -> TwoDigits {
         // A day is mostly beside it, and the computation of the day gives the month too.
         let _day = value.day(state);
-        Ok(TwoDigits {
-            padding: self.padding,
-            number: ru8::within(u8::from(value.month(state))),
-        })
+        TwoDigits(ru8::within(u8::from(value.month(state))), self.padding)
     }
 }
 
@@ -169,11 +136,7 @@ pub fn fmt_ordinal<S: Sink>(output: &mut S, ordinal: Ordinal, modifier: modifier
     ensures ends { EndsWhole 3 (S.buffer output.old) (S.buffer output.new)
         (padded_text modifier.padding 3 ordinal) }
 {
-    let text = ThreeDigits {
-        padding: modifier.padding,
-        number: ordinal.expand(),
-    };
-    text.put(output)
+    ThreeDigits(ordinal.expand(), modifier.padding).put(output)
 }
 
 impl Modifier for modifier::Ordinal {
@@ -185,14 +148,7 @@ impl Modifier for modifier::Ordinal {
         Component::Ordinal(self)
     }
 
-    fn kind<V: ComponentProvider>(
-        self,
-        value: &V,
-        state: &mut V::State,
-    ) -> Result<ThreeDigits, Refused> {
-        Ok(ThreeDigits {
-            padding: self.padding,
-            number: value.ordinal(state).expand(),
-        })
+    fn kind<V: ComponentProvider>(self, value: &V, state: &mut V::State) -> ThreeDigits {
+        ThreeDigits(value.ordinal(state).expand(), self.padding)
     }
 }

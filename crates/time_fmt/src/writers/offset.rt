@@ -12,7 +12,6 @@ ghost use Rattle.time_fmt.specs.Text.{padded_text};
 
 use crate::kind::{Magnitude, SignedMagnitude, TextKind};
 use crate::modifier::Modifier;
-use crate::refused::Refused;
 use crate::sink::Sink;
 use time_below::format_description::{Component, modifier};
 use time_provide::ComponentProvider;
@@ -38,10 +37,7 @@ pub fn fmt_offset_hour<S: Sink>(
     let text = SignedMagnitude {
         is_negative,
         sign_is_mandatory: modifier.sign_is_mandatory,
-        magnitude: Magnitude {
-            padding: modifier.padding,
-            part: hour.expand(),
-        },
+        magnitude: Magnitude(hour.expand(), modifier.padding),
     };
     text.put(output)
 }
@@ -57,19 +53,12 @@ impl Modifier for modifier::OffsetHour {
 
     #[tactic(auto, using(crate::proofs::TextLemmas::signed_lengths))]
     #[inline(always)]
-    fn kind<V: ComponentProvider>(
-        self,
-        value: &V,
-        state: &mut V::State,
-    ) -> Result<SignedMagnitude, Refused> {
-        Ok(SignedMagnitude {
+    fn kind<V: ComponentProvider>(self, value: &V, state: &mut V::State) -> SignedMagnitude {
+        SignedMagnitude {
             is_negative: value.offset_is_negative(state),
             sign_is_mandatory: self.sign_is_mandatory,
-            magnitude: Magnitude {
-                padding: self.padding,
-                part: value.offset_hour(state).expand(),
-            },
-        })
+            magnitude: Magnitude(value.offset_hour(state).expand(), self.padding),
+        }
     }
 }
 
@@ -87,11 +76,7 @@ pub fn fmt_offset_minute<S: Sink>(
     ensures ends { EndsWhole 2 (S.buffer output.old) (S.buffer output.new)
         (padded_text modifier.padding 2 (unsigned_abs minute)) }
 {
-    let text = Magnitude {
-        padding: modifier.padding,
-        part: minute,
-    };
-    text.put(output)
+    Magnitude(minute, modifier.padding).put(output)
 }
 
 impl Modifier for modifier::OffsetMinute {
@@ -104,15 +89,8 @@ impl Modifier for modifier::OffsetMinute {
     }
 
     #[inline(always)]
-    fn kind<V: ComponentProvider>(
-        self,
-        value: &V,
-        state: &mut V::State,
-    ) -> Result<Magnitude, Refused> {
-        Ok(Magnitude {
-            padding: self.padding,
-            part: value.offset_minute(state),
-        })
+    fn kind<V: ComponentProvider>(self, value: &V, state: &mut V::State) -> Magnitude {
+        Magnitude(value.offset_minute(state), self.padding)
     }
 }
 
@@ -130,11 +108,7 @@ pub fn fmt_offset_second<S: Sink>(
     ensures ends { EndsWhole 2 (S.buffer output.old) (S.buffer output.new)
         (padded_text modifier.padding 2 (unsigned_abs second)) }
 {
-    let text = Magnitude {
-        padding: modifier.padding,
-        part: second,
-    };
-    text.put(output)
+    Magnitude(second, modifier.padding).put(output)
 }
 
 impl Modifier for modifier::OffsetSecond {
@@ -146,14 +120,7 @@ impl Modifier for modifier::OffsetSecond {
         Component::OffsetSecond(self)
     }
 
-    fn kind<V: ComponentProvider>(
-        self,
-        value: &V,
-        state: &mut V::State,
-    ) -> Result<Magnitude, Refused> {
-        Ok(Magnitude {
-            padding: self.padding,
-            part: value.offset_second(state),
-        })
+    fn kind<V: ComponentProvider>(self, value: &V, state: &mut V::State) -> Magnitude {
+        Magnitude(value.offset_second(state), self.padding)
     }
 }

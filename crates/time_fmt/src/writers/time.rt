@@ -11,7 +11,6 @@ ghost use Rattle.time_fmt.specs.Text.{padded_text, hour_12, period_text, subseco
 
 use crate::kind::{Decimals, HalfDay, TextKind, TwoDigits};
 use crate::modifier::Modifier;
-use crate::refused::Refused;
 use crate::sink::Sink;
 use time_below::Period;
 use time_below::format_description::{Component, modifier};
@@ -27,11 +26,7 @@ pub fn fmt_hour_12<S: Sink>(output: &mut S, hour: Hours, modifier: modifier::Hou
     ensures ends { EndsWhole 2 (S.buffer output.old) (S.buffer output.new)
         (padded_text modifier.padding 2 (hour_12 hour)) }
 {
-    let text = TwoDigits {
-        padding: modifier.padding,
-        number: on_the_dial(hour),
-    };
-    text.put(output)
+    TwoDigits(on_the_dial(hour), modifier.padding).put(output)
 }
 
 impl Modifier for modifier::Hour12 {
@@ -43,16 +38,8 @@ impl Modifier for modifier::Hour12 {
         Component::Hour12(self)
     }
 
-    #[inline(always)]
-    fn kind<V: ComponentProvider>(
-        self,
-        value: &V,
-        state: &mut V::State,
-    ) -> Result<TwoDigits, Refused> {
-        Ok(TwoDigits {
-            padding: self.padding,
-            number: on_the_dial(value.hour(state)),
-        })
+    fn kind<V: ComponentProvider>(self, value: &V, state: &mut V::State) -> TwoDigits {
+        TwoDigits(on_the_dial(value.hour(state)), self.padding)
     }
 }
 
@@ -63,11 +50,7 @@ pub fn fmt_hour_24<S: Sink>(output: &mut S, hour: Hours, modifier: modifier::Hou
     ensures ends { EndsWhole 2 (S.buffer output.old) (S.buffer output.new)
         (padded_text modifier.padding 2 hour) }
 {
-    let text = TwoDigits {
-        padding: modifier.padding,
-        number: hour.expand(),
-    };
-    text.put(output)
+    TwoDigits(hour.expand(), modifier.padding).put(output)
 }
 
 impl Modifier for modifier::Hour24 {
@@ -80,15 +63,8 @@ impl Modifier for modifier::Hour24 {
     }
 
     #[inline(always)]
-    fn kind<V: ComponentProvider>(
-        self,
-        value: &V,
-        state: &mut V::State,
-    ) -> Result<TwoDigits, Refused> {
-        Ok(TwoDigits {
-            padding: self.padding,
-            number: value.hour(state).expand(),
-        })
+    fn kind<V: ComponentProvider>(self, value: &V, state: &mut V::State) -> TwoDigits {
+        TwoDigits(value.hour(state).expand(), self.padding)
     }
 }
 
@@ -99,11 +75,7 @@ pub fn fmt_minute<S: Sink>(output: &mut S, minute: Minutes, modifier: modifier::
     ensures ends { EndsWhole 2 (S.buffer output.old) (S.buffer output.new)
         (padded_text modifier.padding 2 minute) }
 {
-    let text = TwoDigits {
-        padding: modifier.padding,
-        number: minute.expand(),
-    };
-    text.put(output)
+    TwoDigits(minute.expand(), modifier.padding).put(output)
 }
 
 impl Modifier for modifier::Minute {
@@ -116,15 +88,8 @@ impl Modifier for modifier::Minute {
     }
 
     #[inline(always)]
-    fn kind<V: ComponentProvider>(
-        self,
-        value: &V,
-        state: &mut V::State,
-    ) -> Result<TwoDigits, Refused> {
-        Ok(TwoDigits {
-            padding: self.padding,
-            number: value.minute(state).expand(),
-        })
+    fn kind<V: ComponentProvider>(self, value: &V, state: &mut V::State) -> TwoDigits {
+        TwoDigits(value.minute(state).expand(), self.padding)
     }
 }
 
@@ -150,16 +115,11 @@ impl Modifier for modifier::Period {
         Component::Period(self)
     }
 
-    #[inline(always)]
-    fn kind<V: ComponentProvider>(
-        self,
-        value: &V,
-        state: &mut V::State,
-    ) -> Result<HalfDay, Refused> {
-        Ok(HalfDay {
+    fn kind<V: ComponentProvider>(self, value: &V, state: &mut V::State) -> HalfDay {
+        HalfDay {
             period: value.period(state),
             is_uppercase: self.is_uppercase,
-        })
+        }
     }
 }
 
@@ -170,11 +130,7 @@ pub fn fmt_second<S: Sink>(output: &mut S, second: Seconds, modifier: modifier::
     ensures ends { EndsWhole 2 (S.buffer output.old) (S.buffer output.new)
         (padded_text modifier.padding 2 second) }
 {
-    let text = TwoDigits {
-        padding: modifier.padding,
-        number: second.expand(),
-    };
-    text.put(output)
+    TwoDigits(second.expand(), modifier.padding).put(output)
 }
 
 impl Modifier for modifier::Second {
@@ -187,15 +143,8 @@ impl Modifier for modifier::Second {
     }
 
     #[inline(always)]
-    fn kind<V: ComponentProvider>(
-        self,
-        value: &V,
-        state: &mut V::State,
-    ) -> Result<TwoDigits, Refused> {
-        Ok(TwoDigits {
-            padding: self.padding,
-            number: value.second(state).expand(),
-        })
+    fn kind<V: ComponentProvider>(self, value: &V, state: &mut V::State) -> TwoDigits {
+        TwoDigits(value.second(state).expand(), self.padding)
     }
 }
 
@@ -227,15 +176,11 @@ impl Modifier for modifier::Subsecond {
 
     #[tactic(auto, using(crate::proofs::TrimLemmas::subsecond_lengths))]
     #[inline(always)]
-    fn kind<V: ComponentProvider>(
-        self,
-        value: &V,
-        state: &mut V::State,
-    ) -> Result<Decimals, Refused> {
-        Ok(Decimals {
+    fn kind<V: ComponentProvider>(self, value: &V, state: &mut V::State) -> Decimals {
+        Decimals {
             digits: self.digits,
             nanosecond: value.nanosecond(state),
-        })
+        }
     }
 }
 

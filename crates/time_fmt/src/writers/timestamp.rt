@@ -8,7 +8,6 @@ ghost use Rattle.time_fmt.specs.Sink.{Fits, Puts};
 
 use crate::kind::{SignedNumber, TextKind};
 use crate::modifier::Modifier;
-use crate::refused::Refused;
 use crate::sink::Sink;
 use time_below::format_description::{Component, modifier};
 use time_provide::ComponentProvider;
@@ -42,15 +41,11 @@ impl Modifier for modifier::UnixTimestampSecond {
         Component::UnixTimestampSecond(self)
     }
 
-    fn kind<V: ComponentProvider>(
-        self,
-        value: &V,
-        state: &mut V::State,
-    ) -> Result<SignedNumber, Refused> {
-        Ok(SignedNumber {
+    fn kind<V: ComponentProvider>(self, value: &V, state: &mut V::State) -> SignedNumber {
+        SignedNumber {
             sign_is_mandatory: self.sign_is_mandatory,
             number: value.unix_timestamp_seconds(state),
-        })
+        }
     }
 }
 
@@ -83,14 +78,10 @@ impl Modifier for modifier::UnixTimestampMillisecond {
         Component::UnixTimestampMillisecond(self)
     }
 
-    fn kind<V: ComponentProvider>(
-        self,
-        value: &V,
-        state: &mut V::State,
-    ) -> Result<SignedNumber, Refused> {
-        Ok(SignedNumber {
+    fn kind<V: ComponentProvider>(self, value: &V, state: &mut V::State) -> SignedNumber {
+        SignedNumber {
             sign_is_mandatory: self.sign_is_mandatory,
             number: value.unix_timestamp_milliseconds(state),
-        })
+        }
     }
 }

@@ -1,6 +1,4 @@
 //! The weekday and the weeks of the year.
-//!
-//! With `inline(always)` a component that is met often is written without a call.
 #![tactic(auto, using(crate::proofs::TextLemmas::text_lengths))]
 
 ghost use Rattle.std.specs.Prelude.{◌≡◌, length, decimal};
@@ -14,7 +12,6 @@ ghost use Rattle.time_fmt.specs.Text.{padded_text};
 
 use crate::kind::{ShortWeekdayName, TextKind, TwoDigits, WeekdayDigit, WeekdayName};
 use crate::modifier::Modifier;
-use crate::refused::Refused;
 use crate::sink::Sink;
 use time_below::Weekday;
 use time_below::format_description::{Component, modifier};
@@ -46,13 +43,8 @@ impl Modifier for modifier::WeekdayShort {
         Component::WeekdayShort(self)
     }
 
-    #[inline(always)]
-    fn kind<V: ComponentProvider>(
-        self,
-        value: &V,
-        state: &mut V::State,
-    ) -> Result<ShortWeekdayName, Refused> {
-        Ok(ShortWeekdayName(value.weekday(state)))
+    fn kind<V: ComponentProvider>(self, value: &V, state: &mut V::State) -> ShortWeekdayName {
+        ShortWeekdayName(value.weekday(state))
     }
 }
 
@@ -78,13 +70,8 @@ impl Modifier for modifier::WeekdayLong {
         Component::WeekdayLong(self)
     }
 
-    #[inline(always)]
-    fn kind<V: ComponentProvider>(
-        self,
-        value: &V,
-        state: &mut V::State,
-    ) -> Result<WeekdayName, Refused> {
-        Ok(WeekdayName(value.weekday(state)))
+    fn kind<V: ComponentProvider>(self, value: &V, state: &mut V::State) -> WeekdayName {
+        WeekdayName(value.weekday(state))
     }
 }
 
@@ -117,15 +104,11 @@ impl Modifier for modifier::WeekdaySunday {
         Component::WeekdaySunday(self)
     }
 
-    fn kind<V: ComponentProvider>(
-        self,
-        value: &V,
-        state: &mut V::State,
-    ) -> Result<WeekdayDigit, Refused> {
-        Ok(WeekdayDigit {
+    fn kind<V: ComponentProvider>(self, value: &V, state: &mut V::State) -> WeekdayDigit {
+        WeekdayDigit {
             one_indexed: self.one_indexed,
             days: ru8::within(value.weekday(state).number_days_from_sunday()),
-        })
+        }
     }
 }
 
@@ -158,16 +141,11 @@ impl Modifier for modifier::WeekdayMonday {
         Component::WeekdayMonday(self)
     }
 
-    #[inline(always)]
-    fn kind<V: ComponentProvider>(
-        self,
-        value: &V,
-        state: &mut V::State,
-    ) -> Result<WeekdayDigit, Refused> {
-        Ok(WeekdayDigit {
+    fn kind<V: ComponentProvider>(self, value: &V, state: &mut V::State) -> WeekdayDigit {
+        WeekdayDigit {
             one_indexed: self.one_indexed,
             days: ru8::within(value.weekday(state).number_days_from_monday()),
-        })
+        }
     }
 }
 
@@ -183,11 +161,7 @@ pub fn fmt_week_number_iso<S: Sink>(
     ensures ends { EndsWhole 2 (S.buffer output.old) (S.buffer output.new)
         (padded_text modifier.padding 2 week) }
 {
-    let text = TwoDigits {
-        padding: modifier.padding,
-        number: week.expand(),
-    };
-    text.put(output)
+    TwoDigits(week.expand(), modifier.padding).put(output)
 }
 
 impl Modifier for modifier::WeekNumberIso {
@@ -199,15 +173,8 @@ impl Modifier for modifier::WeekNumberIso {
         Component::WeekNumberIso(self)
     }
 
-    fn kind<V: ComponentProvider>(
-        self,
-        value: &V,
-        state: &mut V::State,
-    ) -> Result<TwoDigits, Refused> {
-        Ok(TwoDigits {
-            padding: self.padding,
-            number: value.iso_week_number(state).expand(),
-        })
+    fn kind<V: ComponentProvider>(self, value: &V, state: &mut V::State) -> TwoDigits {
+        TwoDigits(value.iso_week_number(state).expand(), self.padding)
     }
 }
 
@@ -224,11 +191,7 @@ pub fn fmt_week_number_sunday<S: Sink>(
     ensures ends { EndsWhole 2 (S.buffer output.old) (S.buffer output.new)
         (padded_text modifier.padding 2 week) }
 {
-    let text = TwoDigits {
-        padding: modifier.padding,
-        number: week.expand(),
-    };
-    text.put(output)
+    TwoDigits(week.expand(), modifier.padding).put(output)
 }
 
 impl Modifier for modifier::WeekNumberSunday {
@@ -240,15 +203,8 @@ impl Modifier for modifier::WeekNumberSunday {
         Component::WeekNumberSunday(self)
     }
 
-    fn kind<V: ComponentProvider>(
-        self,
-        value: &V,
-        state: &mut V::State,
-    ) -> Result<TwoDigits, Refused> {
-        Ok(TwoDigits {
-            padding: self.padding,
-            number: value.sunday_based_week(state).expand(),
-        })
+    fn kind<V: ComponentProvider>(self, value: &V, state: &mut V::State) -> TwoDigits {
+        TwoDigits(value.sunday_based_week(state).expand(), self.padding)
     }
 }
 
@@ -265,11 +221,7 @@ pub fn fmt_week_number_monday<S: Sink>(
     ensures ends { EndsWhole 2 (S.buffer output.old) (S.buffer output.new)
         (padded_text modifier.padding 2 week) }
 {
-    let text = TwoDigits {
-        padding: modifier.padding,
-        number: week.expand(),
-    };
-    text.put(output)
+    TwoDigits(week.expand(), modifier.padding).put(output)
 }
 
 impl Modifier for modifier::WeekNumberMonday {
@@ -281,14 +233,7 @@ impl Modifier for modifier::WeekNumberMonday {
         Component::WeekNumberMonday(self)
     }
 
-    fn kind<V: ComponentProvider>(
-        self,
-        value: &V,
-        state: &mut V::State,
-    ) -> Result<TwoDigits, Refused> {
-        Ok(TwoDigits {
-            padding: self.padding,
-            number: value.monday_based_week(state).expand(),
-        })
+    fn kind<V: ComponentProvider>(self, value: &V, state: &mut V::State) -> TwoDigits {
+        TwoDigits(value.monday_based_week(state).expand(), self.padding)
     }
 }

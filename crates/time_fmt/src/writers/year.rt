@@ -50,16 +50,12 @@ impl Modifier for modifier::CalendarYearFullExtendedRange {
     }
 
     #[inline(always)]
-    fn kind<V: ComponentProvider>(
-        self,
-        value: &V,
-        state: &mut V::State,
-    ) -> Result<FullYear, Refused> {
-        Ok(FullYear {
+    fn kind<V: ComponentProvider>(self, value: &V, state: &mut V::State) -> FullYear {
+        FullYear {
             padding: self.padding,
             sign_is_mandatory: self.sign_is_mandatory,
             year: value.calendar_year(state),
-        })
+        }
     }
 }
 
@@ -86,7 +82,7 @@ pub fn fmt_calendar_year_full_standard_range<S: Sink>(
 }
 
 impl Modifier for modifier::CalendarYearFullStandardRange {
-    type Kind = FourDigitYear;
+    type Kind = Result<FourDigitYear, Refused>;
 
     ghost component_of = { component.CalendarYearFullStandardRange };
 
@@ -94,7 +90,6 @@ impl Modifier for modifier::CalendarYearFullStandardRange {
         Component::CalendarYearFullStandardRange(self)
     }
 
-    #[inline(always)]
     fn kind<V: ComponentProvider>(
         self,
         value: &V,
@@ -142,16 +137,12 @@ impl Modifier for modifier::IsoYearFullExtendedRange {
         Component::IsoYearFullExtendedRange(self)
     }
 
-    fn kind<V: ComponentProvider>(
-        self,
-        value: &V,
-        state: &mut V::State,
-    ) -> Result<FullYear, Refused> {
-        Ok(FullYear {
+    fn kind<V: ComponentProvider>(self, value: &V, state: &mut V::State) -> FullYear {
+        FullYear {
             padding: self.padding,
             sign_is_mandatory: self.sign_is_mandatory,
             year: value.iso_year(state),
-        })
+        }
     }
 }
 
@@ -178,7 +169,7 @@ pub fn fmt_iso_year_full_standard_range<S: Sink>(
 }
 
 impl Modifier for modifier::IsoYearFullStandardRange {
-    type Kind = FourDigitYear;
+    type Kind = Result<FourDigitYear, Refused>;
 
     ghost component_of = { component.IsoYearFullStandardRange };
 
