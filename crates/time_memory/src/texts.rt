@@ -1,17 +1,13 @@
-//! The program makes texts and descriptions, drops them, and prints whether each text was right. What
-//! runs it counts the blocks of memory that were not given back by its end, of which no clause speaks.
-#![tactic(auto)]
-
+//! Texts and descriptions of many lengths, which are made and dropped.
 ghost use Rattle.std.specs.Prelude.{◌≡◌, IfOk, vec_len};
 
 use std::alloc::{AllocError, Global};
 use std::default::Default;
-use std::io;
 use time_below::format_description::modifier::{Hour24, Padding};
 use time_below::format_description::{
     BorrowedFormatItem, Component, FormatDescriptionV3, FormatDescriptionV3Inner, OwnedFormatItem,
 };
-use time_below::{Date, Month, OffsetDateTime, Time, UtcDateTime, UtcOffset};
+use time_below::{OffsetDateTime, UtcDateTime};
 use time_fmt::{BorrowedItems, ComponentProvider, Format, Formattable, OwnedItems};
 use time_known::{Iso8601, Rfc2822, Rfc3339, stamp_into};
 
@@ -26,33 +22,22 @@ const HOUR: Component = Component::Hour24(Hour24 {
     padding: Padding::Zero,
 });
 
-/// 1997-11-12 9:55:06 -6:00, if it is a value.
-fn example() -> Option<OffsetDateTime> {
-    let Ok(date) = Date::from_calendar_date(1997, Month::November, 12) else {
-        return None;
-    };
-    let Ok(time) = Time::from_hms_nano(9, 55, 6, 0) else {
-        return None;
-    };
-    let Ok(offset) = UtcOffset::from_hms(-6, 0, 0) else {
-        return None;
-    };
-    Some(OffsetDateTime::new_in_offset(date, time, offset))
-}
-
 /// Whether the text is right, appended to a new vector and as a text of its own.
 fn is_right<D: Formattable>(
     alloc: Global,
     description: &D,
     value: &OffsetDateTime,
     text: &[u8],
-) -> bool {
+) -> Result<bool, AllocError> {
     let mut output = Vec::new(alloc);
     let mut state = Default::default();
     let appended = description.format_into(&mut output, value, &mut state);
     let made = description.format(alloc, value, &mut state);
+    if is_out_of_memory(&appended) || is_out_of_memory(&made) {
+        return Err(AllocError);
+    }
     let same = matches!(&made, Ok(made) if made.as_str().as_bytes() == text);
-    appended.is_ok() && output.as_slice() == text && same
+    Ok(appended.is_ok() && output.as_slice() == text && same)
 }
 
 /// Whether both calls refuse the value for a reason other than memory.
@@ -60,7 +45,7 @@ fn is_refused<D: Formattable, V: ComponentProvider>(
     alloc: Global,
     description: &D,
     value: &V,
-) -> bool
+) -> Result<bool, AllocError>
 where
     V::State: Drop,
 {
@@ -68,11 +53,14 @@ where
     let mut state = V::State::default();
     let appended = description.format_into(&mut output, value, &mut state);
     let made = description.format(alloc, value, &mut state);
-    is_refusal(&appended) && is_refusal(&made)
+    if is_out_of_memory(&appended) || is_out_of_memory(&made) {
+        return Err(AllocError);
+    }
+    Ok(appended.is_err() && made.is_err())
 }
 
-fn is_refusal<T>(answer: &Result<T, Format>) -> bool {
-    !matches!(answer, Ok(_) | Err(Format::OutOfMemory))
+fn is_out_of_memory<T>(answer: &Result<T, Format>) -> bool {
+    matches!(answer, Err(Format::OutOfMemory))
 }
 
 /// A text of this many letters.
@@ -157,8 +145,8 @@ fn borrowed_is_right(
         BorrowedFormatItem::Literal(bytes),
         BorrowedFormatItem::Component(HOUR),
     ];
-    let text_is_right = is_right(alloc, &items[0], value, bytes);
-    Ok(text_is_right && is_refused(alloc, &BorrowedItems(&items), &value.date()))
+    let text_is_right = is_right(alloc, &items[0], value, bytes)?;
+    Ok(text_is_right && is_refused(alloc, &BorrowedItems(&items), &value.date())?)
 }
 
 /// Whether the text of each kind of description that owns it is right.
@@ -171,8 +159,8 @@ fn owned_is_right(
     let bytes = letters.as_slice();
     for &kind in KINDS {
         let items = one(alloc, owned(alloc, kind, length)?)?;
-        if !is_right(alloc, &OwnedItems(items.as_slice()), value, bytes)
-            || !is_right(alloc, &third_version(alloc, kind, length)?, value, bytes)
+        if !is_right(alloc, &OwnedItems(items.as_slice()), value, bytes)?
+            || !is_right(alloc, &third_version(alloc, kind, length)?, value, bytes)?
         {
             return Ok(false);
         }
@@ -181,7 +169,7 @@ fn owned_is_right(
 }
 
 /// Whether the texts of every length are right.
-fn borrowed_are_right(alloc: Global, value: &OffsetDateTime) -> Result<bool, AllocError> {
+pub fn borrowed_are_right(alloc: Global, value: &OffsetDateTime) -> Result<bool, AllocError> {
     for &length in LENGTHS {
         if !borrowed_is_right(alloc, value, length)? {
             return Ok(false);
@@ -191,7 +179,7 @@ fn borrowed_are_right(alloc: Global, value: &OffsetDateTime) -> Result<bool, All
 }
 
 /// Whether the texts of descriptions that own them are right.
-fn owned_are_right(alloc: Global, value: &OffsetDateTime) -> Result<bool, AllocError> {
+pub fn owned_are_right(alloc: Global, value: &OffsetDateTime) -> Result<bool, AllocError> {
     for &length in OWNED_LENGTHS {
         if !owned_is_right(alloc, value, length)? {
             return Ok(false);
@@ -201,54 +189,35 @@ fn owned_are_right(alloc: Global, value: &OffsetDateTime) -> Result<bool, AllocE
 }
 
 /// Whether bytes that are no text become one letter each.
-fn bytes_are_right(alloc: Global, value: &OffsetDateTime) -> bool {
+pub fn bytes_are_right(alloc: Global, value: &OffsetDateTime) -> Result<bool, AllocError> {
     let torn = BorrowedFormatItem::Literal(b"\xc3\xc3\xc3\xc3\xc3\xc3\xc3\xc3\xc3\xc3\xc3\xc3");
     let made = torn.format(alloc, value, &mut Default::default());
-    matches!(&made, Ok(text) if text.as_str().as_bytes().len() == 36)
+    if is_out_of_memory(&made) {
+        return Err(AllocError);
+    }
+    Ok(matches!(&made, Ok(text) if text.as_str().as_bytes().len() == 36))
 }
 
 /// Whether each format is right, and refuses a date alone.
-fn formats_are_right(alloc: Global, value: &OffsetDateTime) -> bool {
+pub fn formats_are_right(alloc: Global, value: &OffsetDateTime) -> Result<bool, AllocError> {
     let date = value.date();
-    is_right(alloc, &Rfc3339, value, b"1997-11-12T09:55:06-06:00")
-        && is_right(alloc, &Rfc2822, value, b"Wed, 12 Nov 1997 09:55:06 -0600")
-        && is_right(
-            alloc,
-            &Iso8601::default(),
-            value,
-            b"1997-11-12T09:55:06.000000000-06:00",
-        )
-        && is_refused(alloc, &Rfc3339, &date)
-        && is_refused(alloc, &Rfc2822, &date)
-        && is_refused(alloc, &Iso8601::default(), &date)
+    let iso = b"1997-11-12T09:55:06.000000000-06:00";
+    Ok(
+        is_right(alloc, &Rfc3339, value, b"1997-11-12T09:55:06-06:00")?
+            && is_right(alloc, &Rfc2822, value, b"Wed, 12 Nov 1997 09:55:06 -0600")?
+            && is_right(alloc, &Iso8601::default(), value, iso)?
+            && is_refused(alloc, &Rfc3339, &date)?
+            && is_refused(alloc, &Rfc2822, &date)?
+            && is_refused(alloc, &Iso8601::default(), &date)?,
+    )
 }
 
 /// Whether the stamp of the date and the time is right.
-fn stamp_is_right(alloc: Global, value: &OffsetDateTime) -> bool {
+pub fn stamp_is_right(alloc: Global, value: &OffsetDateTime) -> Result<bool, AllocError> {
     let mut output = Vec::new(alloc);
     let stamp = stamp_into(&mut output, &UtcDateTime::new(value.date(), value.time()));
-    stamp.is_ok() && output.as_slice() == b"1997-11-12T09:55:06.000000000Z".as_slice()
-}
-
-/// Writes whether these were right.
-fn print_right(rt: &HostRuntime, texts: &str, is_right: bool) -> io::Result<()> {
-    println!(rt; "{texts}: {}", if is_right { "right" } else { "wrong" })
-}
-
-fn main(rt: HostRuntime) -> io::Result<()> {
-    let Some(value) = example() else {
-        return println!(rt; "no value");
-    };
-    let alloc = rt.alloc();
-    let borrowed = borrowed_are_right(alloc, &value);
-    print_right(&rt, "borrowed texts", matches!(&borrowed, Ok(true)))?;
-    let owned = owned_are_right(alloc, &value);
-    print_right(&rt, "owned texts", matches!(&owned, Ok(true)))?;
-    print_right(
-        &rt,
-        "bytes that are no text",
-        bytes_are_right(alloc, &value),
-    )?;
-    print_right(&rt, "well-known formats", formats_are_right(alloc, &value))?;
-    print_right(&rt, "stamps", stamp_is_right(alloc, &value))
+    if is_out_of_memory(&stamp) {
+        return Err(AllocError);
+    }
+    Ok(stamp.is_ok() && output.as_slice() == b"1997-11-12T09:55:06.000000000Z".as_slice())
 }
