@@ -128,7 +128,7 @@ def modifiers():
 
 def modifiers_read():
     """The same of the code; a key without named values is left out."""
-    code, tables = ((DESCRIBE / file).read_text() for file in ("names.rt", "values.rt"))
+    code, tables = ((DESCRIBE / file).read_text() for file in ("brackets/names.rt", "brackets/values.rt"))
     values = {it[1]: VALUE.findall(it[0]) for it in FUNCTION.finditer(tables)}
     keys = {it[1]: KEY.findall(it[0]) for it in FUNCTION.finditer(code)}
     function = dict(DISPATCH.findall(code))

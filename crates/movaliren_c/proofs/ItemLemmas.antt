@@ -4,7 +4,7 @@ use Rattle.std.specs.Prelude.{IsTrue, slice_range, ◌==◌, ◌≢◌}
 use Rattle.std.proofs.lemmas.Bool.{le-leb, leb-true, leb-false}
 use Rattle.std.proofs.lemmas.List.{append-nil, length-append, take_more_set}
 use Rattle.movaliren_c.specs.Answer.{IsText}
-use Rattle.movaliren_c.specs.Described.{AreItems, DescribeNothing, Describes, HoldsIn, HoldsItems, HoldsListsIn, IsHeld, IsItem, IsItemOf, Leaves, bracket_items, bracket_number, few_in, fault_at, is_shown, no_item, shown, strftime_items, strftime_number}
+use Rattle.movaliren_c.specs.Described.{AreItems, DescribeNothing, Describes, HoldsIn, HoldsItems, HoldsListsIn, IsHeld, IsItem, IsItemOf, Leaves, few_in, fault_at, is_shown, items_in, no_item, shown}
 use Rattle.movaliren_c.specs.Flat.{closed_at, flat, flat_items, hidden_at, or_at, shown_in}
 use Rattle.movaliren_c.specs.Items.{component_of, date_component, described, item_tree, trees_of}
 use Rattle.movaliren_c.specs.declared.described.item.Item.{Item}
@@ -15,19 +15,14 @@ use Rattle.time_below.specs.Conversion.{current_component, is_current}
 use Rattle.time_below.specs.Facts.{Facts}
 use Rattle.time_below.specs.Tree.{Tree, trees, all_of, byte_literal, of_component}
 use Rattle.time_below.specs.declared.format_description.component.Component.{Component}
-use Rattle.time_describe.specs.Description as bracket_says
+use Rattle.time_describe.specs.Description.{IsFound, Says}
 use Rattle.time_describe.specs.Items.{are_leaves, is_nil}
 use Rattle.time_describe.specs.Literal.{literal_of}
-use Rattle.time_describe.specs.Outcome as bracket_found
 use Rattle.time_describe.specs.Reading as reading
 use Rattle.time_describe.specs.Reading.{Frame}
-use Rattle.time_describe.specs.Strftime as strftime
-use Rattle.time_describe.specs.StrftimeOutcome.{IsFound, Says}
-use Rattle.time_describe.specs.declared.description.InvalidDescription.TheVariants as bracket_error
-use Rattle.time_describe.specs.declared.fault.Reason as bracket_reasons
-use Rattle.time_describe.specs.declared.pieces.Nest.{Nest}
-use Rattle.time_describe.specs.declared.strftime.InvalidStrftime.TheVariants as error
-use Rattle.time_describe.specs.declared.strftime.fault.StrftimeReason.{StrftimeReason}
+use Rattle.time_describe.specs.declared.fault.Fault.{Fault}
+use Rattle.time_describe.specs.declared.fault.InvalidDescription.TheVariants as error
+use Rattle.time_describe.specs.declared.items.Nest.{Nest}
 use Rattle.time_fmt.specs.Description.{current_outcome, tree_outcome, trees_outcome}
 use Rattle.time_fmt.specs.Outcome.{Outcome, done, join}
 use Rattle.movaliren_c.proofs.FlatLemmas.{closed_hidden, closed_shown, flat_more, leaves_flat, shown_hidden, shown_more}
@@ -125,25 +120,15 @@ cleared (x ∷ xs) new stored same =
 pub none_held : (text : List ℕ) (array : List Item) (count : ℕ) (hidden : Option ℕ) → count ≡ 0 → hidden ≡ None → HoldsIn text [] array count hidden []
 none_held text array count hidden none shown = record { hidden = shown; held = record { counted = omega (arith, none); held = λ _. tt } }
 
-pub strftime_held : (text : List ℕ) (array : List Item) (count : ℕ) (hidden : Option ℕ) → IsFound (strftime.described text) (HoldsIn text [] array count hidden)
-    → IsHeld text (strftime_items text) array count
-unfolding strftime_items
-strftime_held text array count hidden found = grind (arith, leaves_flat)
+pub all_held : {R : Type 0} (number : R → ℕ × ℕ) (text : List ℕ) (described : Result (List Tree) (Fault R)) (array : List Item) (count : ℕ) (hidden : Option ℕ)
+    → IsFound described (HoldsIn text [] array count hidden) → IsHeld text (items_in number text described) array count
+unfolding items_in
+all_held number text described array count hidden found = grind arith
 
-pub strftime_faulty : (text : List ℕ) (reason : StrftimeReason) (index : ℕ) → Says (length text) (strftime.described text) (error.Invalid reason index)
-    → strftime_items text ≡ Err (fault_at index (strftime_number reason))
-unfolding strftime_items
-strftime_faulty text reason index says = grind arith
-
-pub brackets_held : (text : List ℕ) (array : List Item) (count : ℕ) (hidden : Option ℕ)
-    → bracket_found.IsFound (reading.described text) (HoldsIn text [] array count hidden) → IsHeld text (bracket_items text) array count
-unfolding bracket_items
-brackets_held text array count hidden found = grind arith
-
-pub brackets_faulty : (text : List ℕ) (reason : bracket_reasons.Reason) (index : ℕ)
-    → bracket_says.Says (length text) (reading.described text) (bracket_error.Invalid reason index) → bracket_items text ≡ Err (fault_at index (bracket_number reason))
-unfolding bracket_items
-brackets_faulty text reason index says = grind arith
+pub fault_told : {R : Type 0} (number : R → ℕ × ℕ) (text : List ℕ) (described : Result (List Tree) (Fault R)) (reason : R) (index : ℕ)
+    → Says (length text) described (error.Invalid reason index) → items_in number text described ≡ Err (fault_at index (number reason))
+unfolding items_in
+fault_told number text described reason index says = grind arith
 
 -- ---- items in open lists
 

@@ -14,10 +14,11 @@ use Rattle.time_below.specs.declared.format_description.component.Component.TheV
 use Rattle.time_describe.specs.Reading as reading
 use Rattle.time_describe.specs.Reading.{Frame}
 use Rattle.time_describe.specs.Strftime as strftime
-use Rattle.time_describe.specs.declared.fault.Reason as bracket_reasons
-use Rattle.time_describe.specs.declared.fault.Reason.TheVariants as bracket_reason
-use Rattle.time_describe.specs.declared.strftime.fault.StrftimeReason.{StrftimeReason}
-use Rattle.time_describe.specs.declared.strftime.fault.StrftimeReason.TheVariants as strftime_reason
+use Rattle.time_describe.specs.declared.brackets.reason.BracketReason.{BracketReason}
+use Rattle.time_describe.specs.declared.brackets.reason.BracketReason.TheVariants as bracket_reason
+use Rattle.time_describe.specs.declared.fault.Fault.{Fault}
+use Rattle.time_describe.specs.declared.strftime.reason.StrftimeReason.{StrftimeReason}
+use Rattle.time_describe.specs.declared.strftime.reason.StrftimeReason.TheVariants as strftime_reason
 use Rattle.time_fmt.specs.Description.{tree_outcome, trees_outcome}
 
 -- ---- items of trees
@@ -92,7 +93,7 @@ strftime_number (strftime_reason.SecondFlag b) = (19, b)
 strftime_number (strftime_reason.FlagWithoutNumber b) = (20, b)
 strftime_number strftime_reason.TooManyItems = (11, 0)
 
-abbrev pub bracket_number : bracket_reasons.Reason → ℕ × ℕ
+abbrev pub bracket_number : BracketReason → ℕ × ℕ
 bracket_number bracket_reason.UnclosedBracket = (1, 0)
 bracket_number bracket_reason.InvalidEscape = (2, 0)
 bracket_number bracket_reason.MissingName = (3, 0)
@@ -113,20 +114,19 @@ fault_at at reason = record { at = at; items = 0; kind = reason.0; byte = reason
 abbrev pub many : ℕ → ParseError
 many items = record { at = 0; items = items; kind = 0; byte = 0 }
 
--- what comes of a result, by its items and by its fault
-abbrev pub of_result : {F : Type 0} → (List Tree → List Tree) → (F → ParseError) → Result (List Tree) F → Result (List Tree) ParseError
-of_result items fault (Ok all) = Ok (items all)
-of_result items fault (Err f) = Err (fault f)
+-- The items of a text as C has them, those of lists in their places, or the text's first fault, where the reasons have
+-- these numbers.
+unfoldable pub items_in : {R : Type 0} → (R → ℕ × ℕ) → List ℕ → Result (List Tree) (Fault R) → Result (List Tree) ParseError
+items_in number text (Ok all) = Ok (flat_items all)
+items_in number text (Err fault) = Err (fault_at (length text - fault.left) (number fault.reason))
 
--- what a text in the syntax of strftime describes: the trees of its items, or its first fault
-unfoldable pub strftime_items : List ℕ → Result (List Tree) ParseError
-strftime_items text =
-    of_result (λ all. all) (λ f. fault_at (length text - f.left) (strftime_number f.reason)) (strftime.described text)
+-- what a text in the syntax of strftime describes, which has no lists
+abbrev pub strftime_items : List ℕ → Result (List Tree) ParseError
+strftime_items text = items_in strftime_number text (strftime.described text)
 
--- what a text in brackets describes, with the items of lists in their places
-unfoldable pub bracket_items : List ℕ → Result (List Tree) ParseError
-bracket_items text =
-    of_result flat_items (λ f. fault_at (length text - f.left) (bracket_number f.reason)) (reading.described text)
+-- what a text in brackets describes
+abbrev pub bracket_items : List ℕ → Result (List Tree) ParseError
+bracket_items text = items_in bracket_number text (reading.described text)
 
 -- ---- what is left
 

@@ -8,7 +8,7 @@ use Rattle.time_below.specs.declared.format_description.modifier.Padding.TheVari
 use Rattle.time_below.specs.declared.format_description.modifier.SubsecondDigits.TheVariants.{OneOrMore}
 use Rattle.time_fmt.specs.Description.{component_outcome, tree_outcome}
 use Rattle.time_fmt.specs.Outcome.{Outcome, done, join}
-use Rattle.time_answers.specs.declared.value.Part.{Part}
+use Rattle.time_answers.specs.declared.value.ValuePart.{ValuePart}
 use Rattle.time_answers.specs.Answer.{Answers}
 use Rattle.time_answers.specs.Asked.{asked_value, time_tree}
 use Rattle.std.proofs.lemmas.Grind.{common_steps}
@@ -32,7 +32,7 @@ pub time_by_parts : (t : TimeOfDay) → time_parts (facts_of_time t) ≡ tree_ou
 time_by_parts t = ap done (in_pairs _ (codes ":") _ (codes ":") _ (codes ".") _)
 
 -- equal outcomes have the same answers
-pub same_answers : {V : Type 0} (width : ℕ) (by other : V → Outcome) (value : Result V Part) (text : List ℕ)
+pub same_answers : {V : Type 0} (width : ℕ) (by other : V → Outcome) (value : Result V ValuePart) (text : List ℕ)
     → ((v : V) → by v ≡ other v) → Answers (asked_value width by value) text
     → Answers (asked_value width other value) text
 same_answers width by other value text h k = grind (arith, common_steps)

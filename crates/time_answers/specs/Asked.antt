@@ -17,7 +17,7 @@ use Rattle.time_known.specs.Rfc3339.{rfc3339_outcome, rfc3339_width}
 use Rattle.time_known.specs.Stamps.{stamp_of, stamp_width}
 use Rattle.time_answers.specs.declared.command.Name.{Name}
 use Rattle.time_answers.specs.declared.command.Name.TheVariants.{Time, Rfc3339, Rfc2822, Iso, IsoComma, Stamp}
-use Rattle.time_answers.specs.declared.value.Part.{Part}
+use Rattle.time_answers.specs.declared.value.ValuePart.{ValuePart}
 use Rattle.time_answers.specs.Command.{time_numbers, date_time_numbers, utc_numbers, named}
 use Rattle.time_answers.specs.Fields.{fields_of, numbers_of}
 use Rattle.time_answers.specs.LineBuffer.{kept_of}
@@ -27,11 +27,11 @@ use Rattle.time_answers.specs.Value.{time_value, date_time_value, utc_date_time_
 -- description of this width
 pub data Asked : Type 0 where
   no_command : Asked
-  no_value : Part → Asked
+  no_value : ValuePart → Asked
   formatted : ℕ → Outcome → Asked
 
 -- the value by a description of this width, if the numbers give one
-abbrev pub asked_value : {V : Type 0} → ℕ → (V → Outcome) → Result V Part → Asked
+abbrev pub asked_value : {V : Type 0} → ℕ → (V → Outcome) → Result V ValuePart → Asked
 asked_value width outcome_of (Ok value) = formatted width (outcome_of value)
 asked_value width outcome_of (Err part) = no_value part
 
@@ -48,7 +48,7 @@ abbrev pub comma_choices : Choices
 comma_choices = record default_choices { decimal_sign = Comma }
 
 -- the request of numbers, if they are those of the command
-abbrev pub asked_numbers : {N V : Type 0} → ℕ → (V → Outcome) → (N → Result V Part) → Option N → Asked
+abbrev pub asked_numbers : {N V : Type 0} → ℕ → (V → Outcome) → (N → Result V ValuePart) → Option N → Asked
 asked_numbers width outcome_of value_of None = no_command
 asked_numbers width outcome_of value_of (Some numbers) = asked_value width outcome_of (value_of numbers)
 

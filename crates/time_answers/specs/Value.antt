@@ -8,14 +8,14 @@ use Rattle.time_below.specs.TimeOfDay.{TimeOfDay}
 use Rattle.time_answers.specs.declared.value.DateNumbers.{DateNumbers}
 use Rattle.time_answers.specs.declared.value.DateTimeNumbers.{DateTimeNumbers}
 use Rattle.time_answers.specs.declared.value.OffsetNumbers.{OffsetNumbers}
-use Rattle.time_answers.specs.declared.value.Part.{Part}
-use Rattle.time_answers.specs.declared.value.Part.TheVariants.{Year, Month, Day, Hour, Minute, Second, Nanosecond, Hours}
-use Rattle.time_answers.specs.declared.value.Part.TheVariants.{Minutes, Seconds}
+use Rattle.time_answers.specs.declared.value.ValuePart.{ValuePart}
+use Rattle.time_answers.specs.declared.value.ValuePart.TheVariants.{Year, Month, Day, Hour, Minute, Second, Nanosecond, Hours}
+use Rattle.time_answers.specs.declared.value.ValuePart.TheVariants.{Minutes, Seconds}
 use Rattle.time_answers.specs.declared.value.TimeNumbers.{TimeNumbers}
 use Rattle.time_answers.specs.declared.value.UtcNumbers.{UtcNumbers}
 
 -- the name of a part in its refusal
-abbrev pub part_name : Part → List ℕ
+abbrev pub part_name : ValuePart → List ℕ
 part_name Year = codes "year"
 part_name Month = codes "month"
 part_name Day = codes "day"
@@ -28,27 +28,27 @@ part_name Minutes = codes "minutes"
 part_name Seconds = codes "seconds"
 
 -- the number, if it is one of least to greatest, or the part that it is out of range for
-abbrev pub natural_part : Part → ℕ → ℕ → ℤ → Result ℕ Part
+abbrev pub natural_part : ValuePart → ℕ → ℕ → ℤ → Result ℕ ValuePart
 natural_part part least greatest (pos n) = if nat_le least n && nat_le n greatest then Ok n else Err part
 natural_part part least greatest (negsuc n) = Err part
 
 -- the number, if it is at most so far from zero, or the part that it is out of range for
-abbrev pub signed_part : Part → ℕ → ℤ → Result ℤ Part
+abbrev pub signed_part : ValuePart → ℕ → ℤ → Result ℤ ValuePart
 signed_part part greatest number = if nat_le (unsigned_abs number) greatest then Ok number else Err part
 
 -- what comes of a value, if there is one, or else the part that is out of range
-abbrev pub with_value : {A B : Type 0} → Result A Part → (A → Result B Part) → Result B Part
+abbrev pub with_value : {A B : Type 0} → Result A ValuePart → (A → Result B ValuePart) → Result B ValuePart
 with_value (Ok value) next = next value
 with_value (Err part) next = Err part
 
-abbrev pub date_value : DateNumbers → Result OrdinalDate Part
+abbrev pub date_value : DateNumbers → Result OrdinalDate ValuePart
 date_value n =
     with_value (signed_part Year 999_999 n.year) (λ year.
     with_value (natural_part Month 1 12 n.month) (λ month.
     with_value (natural_part Day 1 (days_in_month (is_leap_year year) month) n.day) (λ day.
     Ok (date_of year month day))))
 
-abbrev pub time_value : TimeNumbers → Result TimeOfDay Part
+abbrev pub time_value : TimeNumbers → Result TimeOfDay ValuePart
 time_value n =
     with_value (natural_part Hour 0 23 n.hour) (λ hour.
     with_value (natural_part Minute 0 59 n.minute) (λ minute.
@@ -57,7 +57,7 @@ time_value n =
     Ok (record { hour = hour; minute = minute; second = second; nanosecond = nanosecond })))))
 
 -- where signs differ, the first number that is not zero, of hours, minutes and seconds, decides the sign
-abbrev pub offset_value : OffsetNumbers → Result Offset Part
+abbrev pub offset_value : OffsetNumbers → Result Offset ValuePart
 offset_value n =
     with_value (signed_part Hours 25 n.hours) (λ hours.
     with_value (signed_part Minutes 59 n.minutes) (λ minutes.
@@ -65,7 +65,7 @@ offset_value n =
     Ok (settled hours minutes seconds))))
 
 -- the ranges are tested in the order of the fields
-abbrev pub date_time_value : DateTimeNumbers → Result OffsetDateAndTime Part
+abbrev pub date_time_value : DateTimeNumbers → Result OffsetDateAndTime ValuePart
 date_time_value n =
     with_value (date_value n.date) (λ date.
     with_value (time_value n.time) (λ time.
@@ -73,7 +73,7 @@ date_time_value n =
     Ok (record { date = date; time = time; offset = offset }))))
 
 -- the value of a date and time in UTC, without an offset
-abbrev pub utc_date_time_value : UtcNumbers → Result DateAndTime Part
+abbrev pub utc_date_time_value : UtcNumbers → Result DateAndTime ValuePart
 utc_date_time_value n =
     with_value (date_value n.date) (λ date.
     with_value (time_value n.time) (λ time.

@@ -8,7 +8,9 @@ use crate::formats::Formats;
 use crate::output::WriteFailed;
 use crate::reply::Reply;
 use crate::run::ShowError;
-use crate::value::{DateNumbers, DateTimeNumbers, OffsetNumbers, Part, TimeNumbers, UtcNumbers};
+use crate::value::{
+    DateNumbers, DateTimeNumbers, OffsetNumbers, TimeNumbers, UtcNumbers, ValuePart,
+};
 
 /// The lines of a text and their line feeds are the text, and no line has a line feed inside.
 pub fn lines_spell_their_text()
@@ -17,7 +19,7 @@ pub fn lines_spell_their_text()
 
 /// A clone of a part, of the name of a command, of an error or of the formats is the same.
 pub fn clones_of_names()
-    ensures part { AreSame ⟦<Part as Clone>⟧.is_clone }
+    ensures part { AreSame ⟦<ValuePart as Clone>⟧.is_clone }
     ensures name { AreSame ⟦<Name as Clone>⟧.is_clone }
     ensures error { AreSame ⟦<ShowError as Clone>⟧.is_clone }
     ensures formats { AreSame ⟦<Formats as Clone>⟧.is_clone }
@@ -40,8 +42,8 @@ pub fn clones_of_replies(reply: Reply<'_>, copy: Reply<'_>)
 {}
 
 /// Two parts are equal exactly if they are the same.
-pub fn part_equality(a: Part, b: Part)
-    ensures { IsTrue (⟦<Part as PartialEq>⟧.eq a b) ↔ (a ≡ b) }
+pub fn part_equality(a: ValuePart, b: ValuePart)
+    ensures { IsTrue (⟦<ValuePart as PartialEq>⟧.eq a b) ↔ (a ≡ b) }
 {}
 
 /// Two errors are equal exactly if they are the same.

@@ -14,7 +14,7 @@ use crate::command::{Name, date_time_numbers, name_first, time_numbers, utc_numb
 use crate::fields::Fields;
 use crate::formats::Formats;
 use crate::line_buffer::LINE_LIMIT;
-use crate::value::{Part, date_time_value, time_value, utc_date_time_value};
+use crate::value::{ValuePart, date_time_value, time_value, utc_date_time_value};
 use std::default::Default;
 use time_fmt::parts::{HOUR, MINUTE, SECOND, SUBSECOND};
 use time_fmt::{Format, Formattable, text};
@@ -87,7 +87,7 @@ where
 fn value_reply<'a, D: Formattable, V: ComponentProvider + Drop>(
     text: &'a mut Vec<u8>,
     description: &D,
-    value: Result<V, Part>,
+    value: Result<V, ValuePart>,
 ) -> Reply<'a>
 where
     V::State: Drop,

@@ -7,7 +7,7 @@ use time_below::{Date, Month, OffsetDateTime, Time, UtcDateTime, UtcOffset};
 
 /// A part of a value that a line gives by a number.
 #[derive(Clone, Copy, Debug, PartialEq, Eq)]
-pub enum Part {
+pub enum ValuePart {
     /// The year, -999,999 to 999,999.
     Year,
     /// The month of the year, 1 to 12.
@@ -30,22 +30,22 @@ pub enum Part {
     Seconds,
 }
 
-impl Part {
+impl ValuePart {
     /// The name of the part in its refusal.
     pub fn name(self) -> &'static str
         ensures { result.now ≡ part_name self }
     {
         match self {
-            Part::Year => "year",
-            Part::Month => "month",
-            Part::Day => "day",
-            Part::Hour => "hour",
-            Part::Minute => "minute",
-            Part::Second => "second",
-            Part::Nanosecond => "nanosecond",
-            Part::Hours => "hours",
-            Part::Minutes => "minutes",
-            Part::Seconds => "seconds",
+            ValuePart::Year => "year",
+            ValuePart::Month => "month",
+            ValuePart::Day => "day",
+            ValuePart::Hour => "hour",
+            ValuePart::Minute => "minute",
+            ValuePart::Second => "second",
+            ValuePart::Nanosecond => "nanosecond",
+            ValuePart::Hours => "hours",
+            ValuePart::Minutes => "minutes",
+            ValuePart::Seconds => "seconds",
         }
     }
 }
@@ -91,7 +91,7 @@ pub struct UtcNumbers {
 }
 
 /// The number, if it is one of `least` to `greatest`.
-fn natural_part(part: Part, least: u32, greatest: u32, number: i32) -> Result<u32, Part>
+fn natural_part(part: ValuePart, least: u32, greatest: u32, number: i32) -> Result<u32, ValuePart>
     ensures value { result ≡ natural_part part least greatest number }
     ensures least { IfOk result (λ n. least ≤ n) }
     ensures greatest { IfOk result (λ n. n ≤ greatest) }
@@ -103,18 +103,18 @@ fn natural_part(part: Part, least: u32, greatest: u32, number: i32) -> Result<u3
 }
 
 /// The year, if it is one that a date may have.
-fn year_value(number: i32) -> Result<i32, Part>
-    ensures value { result ≡ signed_part Part.Year 999_999 number }
+fn year_value(number: i32) -> Result<i32, ValuePart>
+    ensures value { result ≡ signed_part ValuePart.Year 999_999 number }
     ensures range { IfOk result (λ n. IsYear n) }
 {
     if number.unsigned_abs() > 999_999 {
-        return Err(Part::Year);
+        return Err(ValuePart::Year);
     }
     Ok(number)
 }
 
 /// The number, if it is at most so far from zero.
-fn offset_part(part: Part, greatest: u32, number: i32) -> Result<i8, Part>
+fn offset_part(part: ValuePart, greatest: u32, number: i32) -> Result<i8, ValuePart>
     requires { greatest < 128 }
     ensures value { result ≡ signed_part part greatest number }
     ensures range { IfOk result (λ n. unsigned_abs n ≤ greatest) }
@@ -126,40 +126,40 @@ fn offset_part(part: Part, greatest: u32, number: i32) -> Result<i8, Part>
 }
 
 /// The date of these numbers.
-fn date_value(numbers: DateNumbers) -> Result<Date, Part>
+fn date_value(numbers: DateNumbers) -> Result<Date, ValuePart>
     ensures { result ≡ date_value numbers }
 {
     let year = year_value(numbers.year)?;
-    let month = Month::from_number(natural_part(Part::Month, 1, 12, numbers.month)? as u8);
-    let day = natural_part(Part::Day, 1, month.length(year) as u32, numbers.day)?;
+    let month = Month::from_number(natural_part(ValuePart::Month, 1, 12, numbers.month)? as u8);
+    let day = natural_part(ValuePart::Day, 1, month.length(year) as u32, numbers.day)?;
     Ok(Date::from_valid_calendar_date(year, month, day as u8))
 }
 
 /// The time of day of these numbers.
-pub fn time_value(numbers: TimeNumbers) -> Result<Time, Part>
+pub fn time_value(numbers: TimeNumbers) -> Result<Time, ValuePart>
     ensures { result ≡ time_value numbers }
 {
-    let hour = natural_part(Part::Hour, 0, 23, numbers.hour)?;
-    let minute = natural_part(Part::Minute, 0, 59, numbers.minute)?;
-    let second = natural_part(Part::Second, 0, 59, numbers.second)?;
-    let nanosecond = natural_part(Part::Nanosecond, 0, 999_999_999, numbers.nanosecond)?;
+    let hour = natural_part(ValuePart::Hour, 0, 23, numbers.hour)?;
+    let minute = natural_part(ValuePart::Minute, 0, 59, numbers.minute)?;
+    let second = natural_part(ValuePart::Second, 0, 59, numbers.second)?;
+    let nanosecond = natural_part(ValuePart::Nanosecond, 0, 999_999_999, numbers.nanosecond)?;
     Ok(Time::from_valid_hms_nano(hour as u8, minute as u8, second as u8, nanosecond))
 }
 
 /// The offset of these numbers. Where their signs differ, the largest that is not zero decides.
-fn offset_value(numbers: OffsetNumbers) -> Result<UtcOffset, Part>
+fn offset_value(numbers: OffsetNumbers) -> Result<UtcOffset, ValuePart>
     ensures { result ≡ offset_value numbers }
 {
-    let hours = offset_part(Part::Hours, 25, numbers.hours)?;
-    let minutes = offset_part(Part::Minutes, 59, numbers.minutes)?;
-    let seconds = offset_part(Part::Seconds, 59, numbers.seconds)?;
+    let hours = offset_part(ValuePart::Hours, 25, numbers.hours)?;
+    let minutes = offset_part(ValuePart::Minutes, 59, numbers.minutes)?;
+    let seconds = offset_part(ValuePart::Seconds, 59, numbers.seconds)?;
     Ok(UtcOffset::from_ranged_hms(hours, minutes, seconds))
 }
 
 /// The local date and time of these numbers, and its offset. The ranges are tested in the order of
 /// the fields.
 #[inline(always)]
-pub fn date_time_value(numbers: DateTimeNumbers) -> Result<OffsetDateTime, Part>
+pub fn date_time_value(numbers: DateTimeNumbers) -> Result<OffsetDateTime, ValuePart>
     ensures { result ≡ date_time_value numbers }
 {
     let date = date_value(numbers.date)?;
@@ -170,7 +170,7 @@ pub fn date_time_value(numbers: DateTimeNumbers) -> Result<OffsetDateTime, Part>
 
 /// The date and time in UTC of these numbers. The ranges are tested in the order of the fields.
 #[inline(always)]
-pub fn utc_date_time_value(numbers: UtcNumbers) -> Result<UtcDateTime, Part>
+pub fn utc_date_time_value(numbers: UtcNumbers) -> Result<UtcDateTime, ValuePart>
     ensures { result ≡ utc_date_time_value numbers }
 {
     let date = date_value(numbers.date)?;

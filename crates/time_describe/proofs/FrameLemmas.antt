@@ -6,15 +6,17 @@ use Rattle.time_below.specs.Tree.{Tree}
 use Rattle.std.proofs.Common.{Bor}
 use Rattle.time_describe.specs.declared.fault.Fault.{Fault}
 use Rattle.time_describe.specs.declared.fault.Failure.{Failure}
+use Rattle.time_describe.specs.declared.brackets.reason.BracketReason.{BracketReason}
 use Rattle.time_describe.specs.declared.fault.Failure.TheVariants as failure
-use Rattle.time_describe.specs.declared.fault.Reason.TheVariants.{MissingItems}
-use Rattle.time_describe.specs.declared.frame.Frame as code
-use Rattle.time_describe.specs.declared.pieces.Nest.{Nest}
-use Rattle.time_describe.specs.declared.pieces.Nest.TheVariants as nests
+use Rattle.time_describe.specs.declared.brackets.reason.BracketReason.TheVariants.{MissingItems}
+use Rattle.time_describe.specs.declared.brackets.frame.Frame as code
+use Rattle.time_describe.specs.declared.items.Nest.{Nest}
+use Rattle.time_describe.specs.declared.items.Nest.TheVariants as nests
 use Rattle.time_describe.specs.Items.{is_nil}
 use Rattle.time_describe.specs.Pieces.{is_nested}
 use Rattle.time_describe.specs.Reading.{Frame, fails, nested}
-use Rattle.time_describe.specs.Outcome.{AreKept, AreOpen, Fails, GoesOn, IsEnd, kept, lacks_list}
+use Rattle.time_describe.specs.Description.{Fails}
+use Rattle.time_describe.specs.Outcome.{AreKept, AreOpen, GoesOn, IsEnd, kept, lacks_list}
 use Rattle.time_describe.proofs.EndLemmas.{end_cut, end_more}
 
 pub kept_length : (frames : List code.Frame) (fs : List Frame) → AreKept frames fs → length fs ≡ length frames
@@ -70,25 +72,25 @@ nested_lacks nests.Optional (t ∷ ts) left none = absurd cc
 
 -- ---- what calls return
 
-pub fails_along : {A B : Type 0} (can_refuse : Bool) (e : Failure) (x : Result A Fault) (y : Result B Fault) → ((f : Fault) → x ≡ Err f → y ≡ Err f)
+pub fails_along : {A B : Type 0} (can_refuse : Bool) (e : Failure BracketReason) (x : Result A (Fault BracketReason)) (y : Result B (Fault BracketReason)) → ((f : Fault BracketReason) → x ≡ Err f → y ≡ Err f)
     → Fails can_refuse e x → Fails can_refuse e y
 fails_along can_refuse failure.OutOfMemory x y along h = h
 fails_along can_refuse (failure.Invalid f) x y along h = along f h
 
-pub goes_along : (can_refuse : Bool) (Holds : List Frame → List Tree → Type 0) (r : Result (Bor (List ℕ)) Failure) (x y : Result (List Tree) Fault) → y ≡ x
+pub goes_along : (can_refuse : Bool) (Holds : List Frame → List Tree → Type 0) (r : Result (Bor (List ℕ)) (Failure BracketReason)) (x y : Result (List Tree) (Fault BracketReason)) → y ≡ x
     → GoesOn can_refuse Holds r x → GoesOn can_refuse Holds r y
-goes_along can_refuse Holds r x y e h = subst (λ (v : Result (List Tree) Fault). GoesOn can_refuse Holds r v) (sym e) h
+goes_along can_refuse Holds r x y e h = subst (λ (v : Result (List Tree) (Fault BracketReason)). GoesOn can_refuse Holds r v) (sym e) h
 
 -- the lists stay open
-pub goes_open : (can_refuse : Bool) (Holds : List Frame → List Tree → Type 0) (frames : List code.Frame) (fs : List Frame) (r : Result (Bor (List ℕ)) Failure)
-    (x : Result (List Tree) Fault) → AreKept frames fs → GoesOn can_refuse (λ gs items. (gs ≡ fs) × Holds gs items) r x
+pub goes_open : (can_refuse : Bool) (Holds : List Frame → List Tree → Type 0) (frames : List code.Frame) (fs : List Frame) (r : Result (Bor (List ℕ)) (Failure BracketReason))
+    (x : Result (List Tree) (Fault BracketReason)) → AreKept frames fs → GoesOn can_refuse (λ gs items. (gs ≡ fs) × Holds gs items) r x
     → GoesOn can_refuse (AreOpen Holds frames) r x
 goes_open can_refuse Holds frames fs (Ok rest) x are h =
     (h.0, h.1, (subst (λ (gs : List Frame). AreKept frames gs) (sym h.2.0) are, h.2.1), h.3)
 goes_open can_refuse Holds frames fs (Err e) x are h = h
 
 -- what is behind the rest of a text is at the end of the whole
-pub ends_behind : (s : List ℕ) (b : ℕ) (bs : List ℕ) (r : Result (Bor (List ℕ)) Failure) → s ≡ b ∷ bs → IfOk r (λ x. IsEnd bs x.now)
+pub ends_behind : (s : List ℕ) (b : ℕ) (bs : List ℕ) (r : Result (Bor (List ℕ)) (Failure BracketReason)) → s ≡ b ∷ bs → IfOk r (λ x. IsEnd bs x.now)
     → IfOk r (λ x. IsEnd s x.now)
 ends_behind s b bs (Ok x) is h = end_more s bs x.now (end_cut s b bs is) h
 ends_behind s b bs (Err e) is h = tt

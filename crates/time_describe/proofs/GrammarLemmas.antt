@@ -7,8 +7,9 @@ use Rattle.std.proofs.lemmas.List.{append-nil}
 use Rattle.time_below.specs.Conversion.{current_component}
 use Rattle.time_below.specs.declared.format_description.component.Component.{Component}
 use Rattle.time_below.specs.Tree.{Tree, trees, of_component, all_of}
+use Rattle.time_describe.specs.declared.brackets.reason.BracketReason.{BracketReason}
 use Rattle.time_describe.specs.declared.fault.Fault.{Fault}
-use Rattle.time_describe.specs.declared.pieces.Nest.{Nest}
+use Rattle.time_describe.specs.declared.items.Nest.{Nest}
 use Rattle.time_describe.specs.Literal.{literal_of}
 use Rattle.time_describe.specs.Marks.{past}
 use Rattle.time_describe.specs.Pieces.{ends_literal, is_nested}
@@ -150,7 +151,7 @@ lists_closed_any : (fs : List Frame) (n : Nest) (o : ℕ) (ts items : List Tree)
 lists_closed_any fs n o ts items s t h = lists_closed fs n o ts items 93 s t refl refl (h (length s + 1))
 
 mutual
-  pub parts_read : (ps : Parts) (fs : List Frame) (after : List ℕ) (X : List Tree → Result (List Tree) Fault)
+  pub parts_read : (ps : Parts) (fs : List Frame) (after : List ℕ) (X : List Tree → Result (List Tree) (Fault BracketReason))
       → ((items : List Tree) (literal : List ℕ) → read fs outside items literal after ≡ X (with_literal items literal))
       → (items : List Tree) (literal : List ℕ) (all : List Tree) → Means (length fs) items literal ps all
       → read fs outside items literal (spelling ps after) ≡ X all

@@ -4,29 +4,27 @@ use Rattle.std.proofs.Common.{◌≡◌, subst, ℕ, zero, suc, ◌+◌, ◌-◌
 use Rattle.std.specs.Char.{is_ascii_whitespace}
 use Rattle.time_below.specs.Tree.{Tree, of_component}
 use Rattle.time_below.specs.declared.format_description.component.Component.{Component}
+use Rattle.time_describe.specs.Description.{LiesWithin}
 use Rattle.time_describe.specs.declared.fault.Fault.{Fault}
-use Rattle.time_describe.specs.declared.fault.Reason.{Reason}
-use Rattle.time_describe.specs.declared.pieces.Nest.{Nest}
-use Rattle.time_describe.specs.declared.pieces.Nest.TheVariants as nests
+use Rattle.time_describe.specs.declared.brackets.reason.BracketReason.{BracketReason}
+use Rattle.time_describe.specs.declared.items.Nest.{Nest}
+use Rattle.time_describe.specs.declared.items.Nest.TheVariants as nests
 use Rattle.time_describe.specs.Literal.{literal_of}
 use Rattle.time_describe.specs.Marks.{past}
 use Rattle.time_describe.specs.Reading.{◌>>=◌, Frame, Place, outside, escape, brackets, between, read, fails, at_fault, with_word, nest_of, word_place, after_word, ended, finished, nested, takes_list, after_list, with_literal, is_special, is_escapable, within_limit, described}
 use Rattle.time_describe.proofs.CaseLemmas.{by_test, by_result}
 
-abbrev pub Inside : ℕ → Fault → Type 0
-Inside n f = (0 < f.left) × (f.left ≤ n)
-
 -- a fault, if there is one, is within so many bytes
-pub record In (n : ℕ) (r : Result (List Tree) Fault) : Type 0 where
-  pub at : (f : Fault) → r ≡ Err f → Inside n f
+pub record In (n : ℕ) (r : Result (List Tree) (Fault BracketReason)) : Type 0 where
+  pub at : (f : Fault BracketReason) → r ≡ Err f → LiesWithin n f
 
-same_fault : {A : Type 0} (r : Result A Fault) (x f : Fault) → r ≡ Err x → r ≡ Err f → x ≡ f
+same_fault : {A : Type 0} (r : Result A (Fault BracketReason)) (x f : Fault BracketReason) → r ≡ Err x → r ≡ Err f → x ≡ f
 same_fault r x f is e = let g = sym is ∙ e in cc
 
-fault_in : (x : Fault) (n : ℕ) → 0 < x.left → x.left ≤ n → In n (Err x)
+fault_in : (x : Fault BracketReason) (n : ℕ) → 0 < x.left → x.left ≤ n → In n (Err x)
 fault_in x n some fits = record {
   at = λ f e.
-      let left : x.left ≡ f.left = ap (λ (y : Fault). y.left) (same_fault (Err x) x f refl e) in
+      let left : x.left ≡ f.left = ap (λ (y : Fault BracketReason). y.left) (same_fault (Err x) x f refl e) in
       (omega arith, omega arith);
 }
 
@@ -47,38 +45,38 @@ PlaceIn n (between k o lists) left = (0 < o) × (o ≤ n) × (left ≤ n)
 
 -- ---- what fails, fails where it says
 
-nested_at : (k : Nest) (lists : List Tree) (left : ℕ) (f : Fault) → nested k lists left ≡ Err f → left ≡ f.left
-nested_at nests.Optional [] left f e = ap (λ (y : Fault). y.left) (same_fault (fails _ left) (record { reason = _; left = left }) f refl e)
+nested_at : (k : Nest) (lists : List Tree) (left : ℕ) (f : Fault BracketReason) → nested k lists left ≡ Err f → left ≡ f.left
+nested_at nests.Optional [] left f e = ap (λ (y : Fault BracketReason). y.left) (same_fault (fails _ left) (record { reason = _; left = left }) f refl e)
 nested_at nests.Optional (t ∷ ts) left f e = absurd cc
 nested_at nests.First lists left f e = absurd cc
 
-reason_at : {A : Type 0} (r : Result A Reason) (left : ℕ) (f : Fault) → at_fault r left ≡ Err f → left ≡ f.left
+reason_at : {A : Type 0} (r : Result A BracketReason) (left : ℕ) (f : Fault BracketReason) → at_fault r left ≡ Err f → left ≡ f.left
 reason_at (Ok x) left f e = absurd cc
-reason_at (Err reason) left f e = ap (λ (y : Fault). y.left) (same_fault (fails reason left) (record { reason = reason; left = left }) f refl e)
+reason_at (Err reason) left f e = ap (λ (y : Fault BracketReason). y.left) (same_fault (fails reason left) (record { reason = reason; left = left }) f refl e)
 
-made_at : (r : Result Component Fault) (f : Fault) → (r >>= λ made. Ok (of_component made)) ≡ Err f → r ≡ Err f
+made_at : (r : Result Component (Fault BracketReason)) (f : Fault BracketReason) → (r >>= λ made. Ok (of_component made)) ≡ Err f → r ≡ Err f
 made_at (Ok x) f e = absurd cc
-made_at (Err x) f e = let g : x ≡ f = same_fault (Err x) x f refl e in ap (λ (y : Fault). Err y) g
+made_at (Err x) f e = let g : x ≡ f = same_fault (Err x) x f refl e in ap (λ (y : Fault BracketReason). Err y) g
 
-ended_at : (place : Place) (left : ℕ) (f : Fault) → ended place left ≡ Err f → left ≡ f.left
-ended_at outside left f e = ap (λ (y : Fault). y.left) (same_fault (fails _ left) (record { reason = _; left = left }) f refl e)
-ended_at escape left f e = ap (λ (y : Fault). y.left) (same_fault (fails _ left) (record { reason = _; left = left }) f refl e)
+ended_at : (place : Place) (left : ℕ) (f : Fault BracketReason) → ended place left ≡ Err f → left ≡ f.left
+ended_at outside left f e = ap (λ (y : Fault BracketReason). y.left) (same_fault (fails _ left) (record { reason = _; left = left }) f refl e)
+ended_at escape left f e = ap (λ (y : Fault BracketReason). y.left) (same_fault (fails _ left) (record { reason = _; left = left }) f refl e)
 ended_at (brackets o c word) left f e = reason_at (finished c) left f (made_at (at_fault (finished c) left) f e)
 ended_at (between k o lists) left f e = nested_at k lists left f e
 
-worded_at : (o : ℕ) (r : Result Component Fault) (f : Fault) → (r >>= λ c. Ok (brackets o (Some c) [])) ≡ Err f → r ≡ Err f
+worded_at : (o : ℕ) (r : Result Component (Fault BracketReason)) (f : Fault BracketReason) → (r >>= λ c. Ok (brackets o (Some c) [])) ≡ Err f → r ≡ Err f
 worded_at o (Ok x) f e = absurd cc
-worded_at o (Err x) f e = let g : x ≡ f = same_fault (Err x) x f refl e in ap (λ (y : Fault). Err y) g
+worded_at o (Err x) f e = let g : x ≡ f = same_fault (Err x) x f refl e in ap (λ (y : Fault BracketReason). Err y) g
 
-place_at : (o : ℕ) (c : Option Component) (word : List ℕ) (k : Option Nest) (left : ℕ) (f : Fault) → word_place o c word k left ≡ Err f → left ≡ f.left
+place_at : (o : ℕ) (c : Option Component) (word : List ℕ) (k : Option Nest) (left : ℕ) (f : Fault BracketReason) → word_place o c word k left ≡ Err f → left ≡ f.left
 place_at o c word (Some k) left f e = absurd cc
 place_at o c word None left f e = reason_at (with_word c word) left f (worded_at o (at_fault (with_word c word) left) f e)
 
-word_at : (o : ℕ) (c : Option Component) (word : List ℕ) (left : ℕ) (f : Fault) → after_word o c word left ≡ Err f → left ≡ f.left
+word_at : (o : ℕ) (c : Option Component) (word : List ℕ) (left : ℕ) (f : Fault BracketReason) → after_word o c word left ≡ Err f → left ≡ f.left
 word_at o c [] left f e = absurd cc
 word_at o c (b ∷ bs) left f e = place_at o c (b ∷ bs) (nest_of c (b ∷ bs)) left f e
 
-worded_in : (n m o : ℕ) (r : Result Component Fault) (place : Place) → 0 < o → o ≤ n → m ≤ n → (r >>= λ c. Ok (brackets o (Some c) [])) ≡ Ok place → PlaceIn n place m
+worded_in : (n m o : ℕ) (r : Result Component (Fault BracketReason)) (place : Place) → 0 < o → o ≤ n → m ≤ n → (r >>= λ c. Ok (brackets o (Some c) [])) ≡ Ok place → PlaceIn n place m
 worded_in n m o (Ok x) place some fits left e = let g : brackets o (Some x) [] ≡ place = cc in subst (λ (p : Place). PlaceIn n p m) g (some, fits, omega arith)
 worded_in n m o (Err x) place some fits left e = absurd cc
 
@@ -176,11 +174,7 @@ limit_in : (o : Option ℕ) (text : List ℕ) → ((left : ℕ) → o ≡ Some l
 limit_in None text h = read_in text (length text) [] outside [] [] tt (omega arith)
 limit_in (Some left) text h = let w = h left refl in fault_in _ (length text) w.0 w.1
 
--- the place, counted from the beginning
-pub index_inside : (text : List ℕ) (f : Fault) (index : ℕ) → described text ≡ Err f → index ≡ length text - f.left → index < length text
-index_inside text f index e is =
+pub fault_within : (text : List ℕ) (fault : Fault BracketReason) → described text ≡ Err fault → LiesWithin (length text) fault
+fault_within text fault e =
     let h : In (length text) (described text) = limit_in (past is_special 65536 text) text (λ left g. past_in text is_special 65536 left g) in
-    let w = h.at f e in
-    let some : 0 < f.left = w.0 in
-    let fits : f.left ≤ length text = w.1 in
-    omega arith
+    h.at fault e

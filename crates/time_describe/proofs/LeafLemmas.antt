@@ -27,7 +27,7 @@ pub leaves_more : (a b : List Tree) → IsTrue (are_leaves a) → IsTrue (are_le
 leaves_more [] b h k = k
 leaves_more (t ∷ ts) b h k = one_more (is_leaf t) (are_leaves ts) (are_leaves (ts ++ b)) h (λ e. leaves_more ts b e k)
 
-literal_before : (bytes : List ℕ) (ts : List Tree) → IsTrue (are_leaves ts) → IsTrue (are_leaves (literal_of bytes ∷ ts))
+pub literal_before : (bytes : List ℕ) (ts : List Tree) → IsTrue (are_leaves ts) → IsTrue (are_leaves (literal_of bytes ∷ ts))
 literal_before bytes ts h = rw (leaf_literal bytes) h
 
 listed_leaves : (o : Option Component) → IsTrue (are_leaves (listed o))
@@ -39,13 +39,13 @@ unfolding composed
 composed_step true b c bs is h k = rw is (leaves_more (listed (component_of c)) (composed bs) (listed_leaves (component_of c)) h)
 composed_step false b c bs is h k = rw is (literal_before (b ∷ []) (composed (c ∷ bs)) k)
 
-composed_leaves : (bs : List ℕ) → IsTrue (are_leaves (composed bs))
+pub composed_leaves : (bs : List ℕ) → IsTrue (are_leaves (composed bs))
 unfolding composed
 composed_leaves [] = refl
 composed_leaves (b ∷ []) = literal_before (b ∷ []) [] refl
 composed_leaves (b ∷ c ∷ bs) = composed_step (b == 37) b c bs refl (composed_leaves bs) (composed_leaves (c ∷ bs))
 
-offset_leaves : (with_colon : Bool) → IsTrue (are_leaves (offset with_colon))
+pub offset_leaves : (with_colon : Bool) → IsTrue (are_leaves (offset with_colon))
 offset_leaves false = refl
 offset_leaves true = literal_before (codes ":") (offset_minute ∷ []) refl
 

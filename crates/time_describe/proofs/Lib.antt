@@ -1,10 +1,12 @@
 pub mod SpelledLemmas
+pub mod ListLemmas
 pub mod LiteralLemmas
 pub mod CaseLemmas
 pub mod InsideLemmas
 pub mod ValueLemmas
 pub mod PlaceLemmas
 pub mod ReadLemmas
+pub mod FailureLemmas
 pub mod FrameLemmas
 pub mod EndLemmas
 pub mod LeafLemmas

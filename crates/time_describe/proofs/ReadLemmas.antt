@@ -6,11 +6,12 @@ use Rattle.std.proofs.lemmas.Bool.{false≢true, eqb-true}
 use Rattle.std.proofs.lemmas.List.{append-nil}
 use Rattle.time_below.specs.declared.format_description.component.Component.{Component}
 use Rattle.time_below.specs.Tree.{Tree, trees, of_component, all_of}
+use Rattle.time_describe.specs.declared.brackets.reason.BracketReason.{BracketReason}
 use Rattle.time_describe.specs.declared.fault.Fault.{Fault}
-use Rattle.time_describe.specs.declared.pieces.Nest.{Nest}
+use Rattle.time_describe.specs.declared.items.Nest.{Nest}
 use Rattle.time_describe.specs.Literal.{literal_of}
 use Rattle.time_describe.specs.Pieces.{ends_literal, is_nested}
-use Rattle.time_describe.specs.declared.fault.Reason.TheVariants.{UnclosedBracket, InvalidEscape, UnexpectedByte, TooDeep}
+use Rattle.time_describe.specs.declared.brackets.reason.BracketReason.TheVariants.{UnclosedBracket, InvalidEscape, UnexpectedByte, TooDeep}
 use Rattle.time_describe.specs.Reading.{takes_list, nested, Frame, between, nest_of, escape, is_special, is_escapable, ends_word, fails, at_fault, with_word, finished, outside, brackets, read}
 
 pub or_false : (p q : Bool) → (p || q) ≡ false → (p ≡ false) × (q ≡ false)
@@ -96,7 +97,7 @@ pub closes : (fs : List Frame) (b o : ℕ) (c : Option Component) (made : Compon
 unfolding read
 closes fs b o c made items bs e f is = rw (e, f, is) refl
 
-pub closes_wrongly : (fs : List Frame) (b o : ℕ) (c : Option Component) (fault : Fault) (items : List Tree) (bs : List ℕ) → is_special b ≡ false → eqb b 93 ≡ true
+pub closes_wrongly : (fs : List Frame) (b o : ℕ) (c : Option Component) (fault : Fault BracketReason) (items : List Tree) (bs : List ℕ) → is_special b ≡ false → eqb b 93 ≡ true
     → at_fault (finished c) (length bs + 1) ≡ Err fault
     → read fs (brackets o c []) items [] (b ∷ bs) ≡ Err fault
 unfolding read
@@ -124,7 +125,7 @@ ended_keyword fs false d o c x xs items ds n f e h is =
     let white : is_ascii_whitespace d ≡ true = rw (e, f) at h in
     rw (e, f, white, is) refl
 
-refused_word : (fs : List Frame) (is_closing : Bool) (d o : ℕ) (c : Option Component) (x : ℕ) (xs : List ℕ) (items : List Tree) (ds : List ℕ) (fault : Fault)
+refused_word : (fs : List Frame) (is_closing : Bool) (d o : ℕ) (c : Option Component) (x : ℕ) (xs : List ℕ) (items : List Tree) (ds : List ℕ) (fault : Fault BracketReason)
     → eqb d 93 ≡ is_closing → is_special d ≡ false → ends_word d ≡ true → nest_of c (x ∷ xs) ≡ None → at_fault (with_word c (x ∷ xs)) (length (x ∷ xs) + (length ds + 1)) ≡ Err fault
     → read fs (brackets o c (x ∷ xs)) items [] (d ∷ ds) ≡ Err fault
 unfolding read
@@ -188,7 +189,7 @@ word_made fs s word next n o c items b bs d ds made w s-is plain next-is usual n
     ∙ ended_word fs (eqb d 93) d o c b x.0 items ds made refl usual (next_ends s word next n d ds w next-is) (ap (nest_of c) (sym x.1) ∙ none) (ap (at_fault (with_word c (b ∷ x.0))) sum ∙ ap (λ (v : List ℕ). at_fault (with_word c v) (length s)) (sym x.1) ∙ is_made)
     ∙ ap (λ (v : List ℕ). read fs (brackets o (Some made) []) items [] v) (sym next-is)
 
-pub word_refused : (fs : List Frame) (s word next : List ℕ) (n o : ℕ) (c : Option Component) (items : List Tree) (b : ℕ) (bs : List ℕ) (d : ℕ) (ds : List ℕ) (fault : Fault)
+pub word_refused : (fs : List Frame) (s word next : List ℕ) (n o : ℕ) (c : Option Component) (items : List Tree) (b : ℕ) (bs : List ℕ) (d : ℕ) (ds : List ℕ) (fault : Fault BracketReason)
     → Word s word next n → s ≡ b ∷ bs → ends_word b ≡ false → next ≡ d ∷ ds → is_special d ≡ false → nest_of c word ≡ None → at_fault (with_word c word) (length s) ≡ Err fault
     → length s ≡ length word + length next
     → read fs (brackets o c []) items [] s ≡ Err fault
@@ -323,7 +324,7 @@ pub lists_closed : (fs : List Frame) (k : Nest) (o : ℕ) (lists items : List Tr
 unfolding read
 lists_closed fs k o lists items b bs item e f g = rw (e, f, g) refl
 
-pub lists_refused : (fs : List Frame) (k : Nest) (o : ℕ) (lists items : List Tree) (b : ℕ) (bs : List ℕ) (f : Fault)
+pub lists_refused : (fs : List Frame) (k : Nest) (o : ℕ) (lists items : List Tree) (b : ℕ) (bs : List ℕ) (f : Fault BracketReason)
     → is_ascii_whitespace b ≡ false → eqb b 93 ≡ true → nested k lists (length bs + 1) ≡ Err f
     → read fs (between k o lists) items [] (b ∷ bs) ≡ Err f
 unfolding read

@@ -8,9 +8,9 @@ use Rattle.time_below.specs.Conversion.{current_component}
 use Rattle.time_below.specs.declared.format_description.component.Component.{Component}
 use Rattle.time_below.specs.Tree.{Tree, trees, of_component, all_of}
 use Rattle.time_describe.specs.declared.fault.Fault.{Fault}
-use Rattle.time_describe.specs.declared.fault.Reason.{Reason}
-use Rattle.time_describe.specs.declared.pieces.Nest.{Nest}
-use Rattle.time_describe.specs.declared.pieces.Nest.TheVariants as nests
+use Rattle.time_describe.specs.declared.brackets.reason.BracketReason.{BracketReason}
+use Rattle.time_describe.specs.declared.items.Nest.{Nest}
+use Rattle.time_describe.specs.declared.items.Nest.TheVariants as nests
 use Rattle.time_describe.specs.Grammar.{Word, Parts, done, plain, escaped, in_brackets, with_lists, Lists, no_list, list, words, spelling, lists_spelling, AreWhite, IsWord, IsChoice, IsChosen, IsApart, is_deep, Means, ListsMean}
 use Rattle.time_describe.specs.Literal.{literal_of}
 use Rattle.time_describe.specs.Marks.{past}
@@ -20,13 +20,13 @@ use Rattle.time_describe.specs.Reading.{◌>>=◌, Frame, Place, outside, escape
 use Rattle.time_describe.proofs.CaseLemmas.{by_test}
 
 -- what holds where reading gives these items
-record Gives (all : List Tree) (S : Type 0) (r : Result (List Tree) Fault) : Type 0 where
+record Gives (all : List Tree) (S : Type 0) (r : Result (List Tree) (Fault BracketReason)) : Type 0 where
   at : r ≡ Ok all → S
 
-never : {S : Type 0} (all : List Tree) (f : Fault) → Gives all S (Err f)
+never : {S : Type 0} (all : List Tree) (f : Fault BracketReason) → Gives all S (Err f)
 never all f = record { at = λ e. absurd cc }
 
-along : {S T : Type 0} {all : List Tree} {r : Result (List Tree) Fault} → (S → T) → Gives all S r → Gives all T r
+along : {S T : Type 0} {all : List Tree} {r : Result (List Tree) (Fault BracketReason)} → (S → T) → Gives all S r → Gives all T r
 along f g = record { at = λ e. f (g.at e) }
 
 -- ---- what the bytes spell from each place on; `E` says what the bytes from the end of the innermost list on spell
@@ -322,13 +322,13 @@ name_ended {depth} {E} {items} {bs} word h = record { tail = []; after = bs; spe
 
 -- ---- closed brackets
 
-whole_step : {depth : ℕ} {E : List Tree → List ℕ → Type 0} {all : List Tree} (test : Bool) (b : ℕ) (bs : List ℕ) (c : Component) (items : List Tree) (left : ℕ) (go : Tree → Result (List Tree) Fault) → is_whole c ≡ test → eqb b 93 ≡ true
+whole_step : {depth : ℕ} {E : List Tree → List ℕ → Type 0} {all : List Tree} (test : Bool) (b : ℕ) (bs : List ℕ) (c : Component) (items : List Tree) (left : ℕ) (go : Tree → Result (List Tree) (Fault BracketReason)) → is_whole c ≡ test → eqb b 93 ≡ true
     → ((t : Tree) → Gives all (Out depth E (items ++ t ∷ []) [] bs) (go t))
     → Gives all (Strict depth E c items (b ∷ bs)) (ended (brackets 0 (Some c) []) left >>= go)
 whole_step true b bs c items left go is e later = rw is (along (λ out. record { choices = []; gap = []; made = c; after = bs; spelled = front b 93 bs e; allowed = tt; white = tt; chosen = refl; whole = is; out = out }) (later (of_component (current_component c))))
 whole_step {all = all} false b bs c items left go is e later = rw is (never all _)
 
-closed : {depth : ℕ} {E : List Tree → List ℕ → Type 0} {all : List Tree} (b : ℕ) (bs : List ℕ) (c : Component) (items : List Tree) (left : ℕ) (go : Tree → Result (List Tree) Fault) → eqb b 93 ≡ true
+closed : {depth : ℕ} {E : List Tree → List ℕ → Type 0} {all : List Tree} (b : ℕ) (bs : List ℕ) (c : Component) (items : List Tree) (left : ℕ) (go : Tree → Result (List Tree) (Fault BracketReason)) → eqb b 93 ≡ true
     → ((t : Tree) → Gives all (Out depth E (items ++ t ∷ []) [] bs) (go t))
     → Gives all (Strict depth E c items (b ∷ bs)) (ended (brackets 0 (Some c) []) left >>= go)
 closed b bs c items left go e later = whole_step (is_whole c) b bs c items left go refl e later
@@ -338,14 +338,14 @@ nested_any nests.Optional [] left other t e = absurd cc
 nested_any nests.Optional (x ∷ ts) left other t e = e
 nested_any nests.First ts left other t e = e
 
-lists_step : {depth : ℕ} {E : List Tree → List ℕ → Type 0} {all : List Tree} (r : Result Tree Fault) (b : ℕ) (bs : List ℕ) (n : Nest) (ts items : List Tree) (left : ℕ) (go : Tree → Result (List Tree) Fault) → nested n ts left ≡ r → eqb b 93 ≡ true
+lists_step : {depth : ℕ} {E : List Tree → List ℕ → Type 0} {all : List Tree} (r : Result Tree (Fault BracketReason)) (b : ℕ) (bs : List ℕ) (n : Nest) (ts items : List Tree) (left : ℕ) (go : Tree → Result (List Tree) (Fault BracketReason)) → nested n ts left ≡ r → eqb b 93 ≡ true
     → ((t : Tree) → Gives all (Out depth E (items ++ t ∷ []) [] bs) (go t))
     → Gives all ((h : Between depth E n ts items (b ∷ bs)) × IsApart h.lists) (r >>= go)
 lists_step (Ok t) b bs n ts items left go is e later =
     along (λ out. (record { lists = no_list; ts = ts; gap = []; tree = t; after = bs; spelled = front b 93 bs e; mean = refl; white = tt; made = λ other. nested_any n ts left other t is; out = out }, tt)) (later t)
 lists_step {all = all} (Err f) b bs n ts items left go is e later = never all f
 
-lists_closed : {depth : ℕ} {E : List Tree → List ℕ → Type 0} {all : List Tree} (b : ℕ) (bs : List ℕ) (n : Nest) (ts items : List Tree) (left : ℕ) (go : Tree → Result (List Tree) Fault) → eqb b 93 ≡ true
+lists_closed : {depth : ℕ} {E : List Tree → List ℕ → Type 0} {all : List Tree} (b : ℕ) (bs : List ℕ) (n : Nest) (ts items : List Tree) (left : ℕ) (go : Tree → Result (List Tree) (Fault BracketReason)) → eqb b 93 ≡ true
     → ((t : Tree) → Gives all (Out depth E (items ++ t ∷ []) [] bs) (go t))
     → Gives all ((h : Between depth E n ts items (b ∷ bs)) × IsApart h.lists) (nested n ts left >>= go)
 lists_closed b bs n ts items left go e later = lists_step (nested n ts left) b bs n ts items left go refl e later
@@ -353,14 +353,14 @@ lists_closed b bs n ts items left go e later = lists_step (nested n ts left) b b
 -- ---- where a word ends
 
 -- where a name has ended, reading goes on from the place behind it
-component_step : {depth : ℕ} {E : List Tree → List ℕ → Type 0} {all : List Tree} (made : Option Component) (word : List ℕ) (o left : ℕ) (items : List Tree) (bs : List ℕ) (go : Place → Result (List Tree) Fault)
+component_step : {depth : ℕ} {E : List Tree → List ℕ → Type 0} {all : List Tree} (made : Option Component) (word : List ℕ) (o left : ℕ) (items : List Tree) (bs : List ℕ) (go : Place → Result (List Tree) (Fault BracketReason))
     → named word ≡ made → keyword word ≡ None
     → ((c : Component) → Gives all (Strict depth E c items bs) (go (brackets o (Some c) [])))
     → Gives all (InName depth E word items bs) ((at_fault (of_name made) left >>= λ c. Ok (brackets o (Some c) [])) >>= go)
 component_step {all = all} None word o left items bs go is none later = never all _
 component_step (Some c) word o left items bs go is none later = along (λ h. name_ended word (inl (none, c, is, h))) (later c)
 
-name_step : {depth : ℕ} {E : List Tree → List ℕ → Type 0} {all : List Tree} (k : Option Nest) (word : List ℕ) (o left : ℕ) (items : List Tree) (bs : List ℕ) (go : Place → Result (List Tree) Fault)
+name_step : {depth : ℕ} {E : List Tree → List ℕ → Type 0} {all : List Tree} (k : Option Nest) (word : List ℕ) (o left : ℕ) (items : List Tree) (bs : List ℕ) (go : Place → Result (List Tree) (Fault BracketReason))
     → keyword word ≡ k
     → ((c : Component) → Gives all (Strict depth E c items bs) (go (brackets o (Some c) [])))
     → ((n : Nest) → Gives all ((h : Between depth E n [] items bs) × IsApart h.lists) (go (between n o [])))
@@ -368,7 +368,7 @@ name_step : {depth : ℕ} {E : List Tree → List ℕ → Type 0} {all : List Tr
 name_step (Some n) word o left items bs go is later lists = along (λ h. name_ended word (inr (n, is, record { between = h.0; apart = h.1 }))) (lists n)
 name_step None word o left items bs go is later lists = component_step (named word) word o left items bs go refl is later
 
-choice_step : {depth : ℕ} {E : List Tree → List ℕ → Type 0} {all : List Tree} (r : Result Component Reason) (c : Component) (word : List ℕ) (o left : ℕ) (items : List Tree) (bs : List ℕ) (go : Place → Result (List Tree) Fault)
+choice_step : {depth : ℕ} {E : List Tree → List ℕ → Type 0} {all : List Tree} (r : Result Component BracketReason) (c : Component) (word : List ℕ) (o left : ℕ) (items : List Tree) (bs : List ℕ) (go : Place → Result (List Tree) (Fault BracketReason))
     → with_word (Some c) word ≡ r
     → ((next : Component) → Gives all (Strict depth E next items bs) (go (brackets o (Some next) [])))
     → Gives all (InWord depth E c word items bs) ((at_fault r left >>= λ c. Ok (brackets o (Some c) [])) >>= go)

@@ -6,13 +6,14 @@ use Rattle.time_below.specs.declared.format_description.modifier.Padding.{Paddin
 use Rattle.time_below.specs.declared.format_description.modifier.SubsecondDigits.{SubsecondDigits}
 use Rattle.time_below.specs.Tree.{Tree}
 use Rattle.time_describe.specs.Conversions.{flag_named, width, number, word, sign, composition, items_of, refusal, refusal_behind_flag}
-use Rattle.time_describe.specs.declared.strftime.fault.Fault.{Fault}
-use Rattle.time_describe.specs.declared.strftime.fault.StrftimeReason.{StrftimeReason}
+use Rattle.time_describe.specs.Description.{LiesWithin}
+use Rattle.time_describe.specs.declared.fault.Fault.{Fault}
+use Rattle.time_describe.specs.declared.strftime.reason.StrftimeReason.{StrftimeReason}
 use Rattle.time_describe.specs.Strftime.{Front, front, or_fault, flagged, with_colon, with_width, conversion}
 use Rattle.time_describe.specs.StrftimeGrammar.{Conversion, letter, flag_and_letter, colon_and_z, digit_and_n, behind_percent, numbered, meaning}
 
 -- by what the first byte is: a flag, a colon, a width, a letter
-conversion_cases : (P : Result Front Fault → Type 0) (c : ℕ) (bs : List ℕ) (flag : Option Padding) (colon : Bool) (n : Option SubsecondDigits)
+conversion_cases : (P : Result Front (Fault StrftimeReason) → Type 0) (c : ℕ) (bs : List ℕ) (flag : Option Padding) (colon : Bool) (n : Option SubsecondDigits)
     → flag_named c ≡ flag → eqb c 58 ≡ colon → width c ≡ n
     → ((p : Padding) → flag_named c ≡ Some p → P (flagged (Some p) bs))
     → (c ≡ 58 → P (with_colon bs))
@@ -31,13 +32,13 @@ conversion_cases P c bs None false None f g h flags colons widths letters = rw (
 abbrev pub Spells : List ℕ → Front → Type 0
 Spells bs f = (v : Conversion) × (behind_percent v ≡ take f.behind bs) × (meaning v ≡ Some f.items) × (f.behind ≤ length bs)
 
-abbrev Finds : List ℕ → Result Front Fault → Type 0
+abbrev Finds : List ℕ → Result Front (Fault StrftimeReason) → Type 0
 Finds bs r = (f : Front) → r ≡ Ok f → Spells bs f
 
 finds : (bs : List ℕ) (x : Front) → Spells bs x → Finds bs (Ok x)
 finds bs x h = λ f e. let same : x ≡ f = cc in subst (λ (y : Front). Spells bs y) same h
 
-finds_nothing : (bs : List ℕ) (x : Fault) → Finds bs (Err x)
+finds_nothing : (bs : List ℕ) (x : Fault StrftimeReason) → Finds bs (Err x)
 finds_nothing bs x = λ f e. absurd cc
 
 number_found : (x : Option Component) (d c : ℕ) (p : Padding) (bs : List ℕ) → flag_named d ≡ Some p → number c (Some p) ≡ x → Finds (d ∷ c ∷ bs) (flagged (Some p) (c ∷ bs))
@@ -90,15 +91,11 @@ conversion_found (c ∷ bs) =
 
 -- ---- a fault lies within the text
 
--- it is so many bytes from the end
-abbrev pub Lies : ℕ → Fault → Type 0
-Lies n x = (0 < x.left) × (x.left ≤ n)
+abbrev Fits : ℕ → Result Front (Fault StrftimeReason) → Type 0
+Fits n r = (x : Fault StrftimeReason) → r ≡ Err x → LiesWithin n x
 
-abbrev Fits : ℕ → Result Front Fault → Type 0
-Fits n r = (x : Fault) → r ≡ Err x → Lies n x
-
-fits : (n : ℕ) (x : Fault) → Lies n x → Fits n (Err x)
-fits n x h = λ y e. let same : x ≡ y = cc in subst (λ (z : Fault). Lies n z) same h
+fits : (n : ℕ) (x : Fault StrftimeReason) → LiesWithin n x → Fits n (Err x)
+fits n x h = λ y e. let same : x ≡ y = cc in subst (λ (z : Fault StrftimeReason). LiesWithin n z) same h
 
 fits_no_fault : (n : ℕ) (f : Front) → Fits n (Ok f)
 fits_no_fault n f = λ x e. absurd cc

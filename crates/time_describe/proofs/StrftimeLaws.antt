@@ -7,11 +7,12 @@ use Rattle.std.proofs.lemmas.List.{length-append}
 use Rattle.time_below.specs.Tree.{Tree}
 use Rattle.time_describe.specs.Conversions.{composed, number, word, sign, composition}
 use Rattle.time_describe.specs.Limit.{most_items}
-use Rattle.time_describe.specs.declared.strftime.fault.Fault.{Fault}
-use Rattle.time_describe.specs.declared.strftime.fault.StrftimeReason.TheVariants.{TooManyItems}
+use Rattle.time_describe.specs.declared.strftime.reason.StrftimeReason.{StrftimeReason}
+use Rattle.time_describe.specs.Description.{LiesWithin}
+use Rattle.time_describe.specs.declared.fault.Fault.{Fault}
+use Rattle.time_describe.specs.declared.strftime.reason.StrftimeReason.TheVariants.{TooManyItems}
 use Rattle.time_describe.specs.Strftime.{Front, is_percent, first_part, bounded, read, described, fails, ◌>>=◌}
 use Rattle.time_describe.specs.StrftimeGrammar.{letter, Part, literal, converted, part_spelling, spelling, part_meaning, begins_with_literal, is_literal, Means}
-use Rattle.time_describe.proofs.StrftimeConversions.{Lies}
 use Rattle.time_describe.proofs.StrftimeLemmas.{read_end, part_read, part_exceeds}
 use Rattle.time_describe.proofs.StrftimeParts.{part_found, part_fits, part_first}
 
@@ -31,7 +32,7 @@ spelled_read (p ∷ ps) before all h few =
     ∙ spelled_read ps (before ++ h.0) all h.3 few
 
 -- where there are too many items, that alone is the fault
-abbrev Exceeds : Result (List Tree) Fault → Type 0
+abbrev Exceeds : Result (List Tree) (Fault StrftimeReason) → Type 0
 Exceeds r = (left : ℕ) × (r ≡ fails TooManyItems left)
 
 exceeds_by : (test : Bool) (p : Part) (ps : List Part) (before items all : List Tree) → nat_le (length (before ++ items)) most_items ≡ test → part_meaning p ≡ Some items → (is_literal p && begins_with_literal ps) ≡ false
@@ -71,16 +72,16 @@ bounded_by true items now left test e =
     (same, subst (λ (v : List Tree). length v ≤ most_items) (sym same) le)
 bounded_by false items now left test e = let g = rw test at e in absurd cc
 
-unbounded_by : (test : Bool) (items : List Tree) (x : Fault) (left : ℕ) → nat_le (length items) most_items ≡ test → bounded items left ≡ Err x → x.left ≡ left
+unbounded_by : (test : Bool) (items : List Tree) (x : Fault StrftimeReason) (left : ℕ) → nat_le (length items) most_items ≡ test → bounded items left ≡ Err x → x.left ≡ left
 unfolding bounded
 unbounded_by true items x left test e = let g = rw test at e in absurd cc
 unbounded_by false items x left test e =
     let g = rw test at e in
     let same : record { reason = TooManyItems; left = left } ≡ x = cc in
-    ap (λ (y : Fault). y.left) (sym same)
+    ap (λ (y : Fault StrftimeReason). y.left) (sym same)
 
 -- behind a first part that has room the rest is read
-step_by : (s : Result (List Tree) Fault) (before all : List Tree) (b : ℕ) (bs : List ℕ) (f : Front) → first_part (b ∷ bs) ≡ Ok f → bounded (before ++ f.items) (length (b ∷ bs)) ≡ s
+step_by : (s : Result (List Tree) (Fault StrftimeReason)) (before all : List Tree) (b : ℕ) (bs : List ℕ) (f : Front) → first_part (b ∷ bs) ≡ Ok f → bounded (before ++ f.items) (length (b ∷ bs)) ≡ s
     → read before 0 (b ∷ bs) ≡ Ok all → read (before ++ f.items) f.behind bs ≡ Ok all
 step_by (Err x) before all b bs f is room e =
     let h = sym (begun before b bs) ∙ e in
@@ -110,7 +111,7 @@ apart (literal bytes) (literal (d ∷ ds) ∷ ps) before all rest is h ends = ab
 abbrev ReadsOn : List ℕ → ℕ → List Tree → Type 0
 ReadsOn bs n all = (before : List Tree) → read before n bs ≡ Ok all → Spelled before (drop n bs) all
 
-spelled_by : (r : Result Front Fault) (before all : List Tree) (b : ℕ) (bs : List ℕ) → first_part (b ∷ bs) ≡ r → read before 0 (b ∷ bs) ≡ Ok all
+spelled_by : (r : Result Front (Fault StrftimeReason)) (before all : List Tree) (b : ℕ) (bs : List ℕ) → first_part (b ∷ bs) ≡ r → read before 0 (b ∷ bs) ≡ Ok all
     → ((n : ℕ) → ReadsOn bs n all) → Spelled before (b ∷ bs) all
 spelled_by (Err x) before all b bs is e later =
     let h = sym (begun before b bs) ∙ e in
@@ -149,47 +150,42 @@ read_few text all e = few_by (nat_le (length all) most_items) text all refl e
 
 -- ---- a fault lies within the text
 
-abbrev Inside : List ℕ → ℕ → Fault → Type 0
-Inside bs n x = (before : List Tree) → read before n bs ≡ Err x → Lies (length bs) x
+abbrev Inside : List ℕ → ℕ → Fault StrftimeReason → Type 0
+Inside bs n x = (before : List Tree) → read before n bs ≡ Err x → LiesWithin (length bs) x
 
-wider : (m n : ℕ) (x : Fault) → m ≤ n → Lies m x → Lies n x
+wider : (m n : ℕ) (x : Fault StrftimeReason) → m ≤ n → LiesWithin m x → LiesWithin n x
 wider m n x le h = (h.0, omega (arith, h.1))
 
 -- the last of two calls fails, or the first
-inside_last : (s : Result (List Tree) Fault) (before : List Tree) (b : ℕ) (bs : List ℕ) (f : Front) (x : Fault) → first_part (b ∷ bs) ≡ Ok f → bounded (before ++ f.items) (length (b ∷ bs)) ≡ s
-    → read before 0 (b ∷ bs) ≡ Err x → ((n : ℕ) → Inside bs n x) → Lies (length (b ∷ bs)) x
+inside_last : (s : Result (List Tree) (Fault StrftimeReason)) (before : List Tree) (b : ℕ) (bs : List ℕ) (f : Front) (x : Fault StrftimeReason) → first_part (b ∷ bs) ≡ Ok f → bounded (before ++ f.items) (length (b ∷ bs)) ≡ s
+    → read before 0 (b ∷ bs) ≡ Err x → ((n : ℕ) → Inside bs n x) → LiesWithin (length (b ∷ bs)) x
 inside_last (Err y) before b bs f x is room e later =
     let h = sym (begun before b bs) ∙ e in
     let g = rw (is, room) at h in
     let same : y ≡ x = cc in
     let left = unbounded_by (nat_le (length (before ++ f.items)) most_items) (before ++ f.items) y (length (b ∷ bs)) refl room in
-    subst (λ (z : Fault). Lies (length (b ∷ bs)) z) same (omega (arith, left), omega (arith, left))
+    subst (λ (z : Fault StrftimeReason). LiesWithin (length (b ∷ bs)) z) same (omega (arith, left), omega (arith, left))
 inside_last (Ok now) before b bs f x is room e later =
     let h = sym (begun before b bs) ∙ e in
     let g : read now f.behind bs ≡ Err x = rw (is, room) at h in
     wider (length bs) (length (b ∷ bs)) x (omega arith) (later f.behind now g)
 
-inside_by : (r : Result Front Fault) (before : List Tree) (b : ℕ) (bs : List ℕ) (x : Fault) → first_part (b ∷ bs) ≡ r → read before 0 (b ∷ bs) ≡ Err x
-    → ((n : ℕ) → Inside bs n x) → Lies (length (b ∷ bs)) x
+inside_by : (r : Result Front (Fault StrftimeReason)) (before : List Tree) (b : ℕ) (bs : List ℕ) (x : Fault StrftimeReason) → first_part (b ∷ bs) ≡ r → read before 0 (b ∷ bs) ≡ Err x
+    → ((n : ℕ) → Inside bs n x) → LiesWithin (length (b ∷ bs)) x
 inside_by (Err y) before b bs x is e later =
     let h = sym (begun before b bs) ∙ e in
     let g = rw is at h in
     let same : y ≡ x = cc in
-    subst (λ (z : Fault). Lies (length (b ∷ bs)) z) same (part_fits b bs y is)
+    subst (λ (z : Fault StrftimeReason). LiesWithin (length (b ∷ bs)) z) same (part_fits b bs y is)
 inside_by (Ok f) before b bs x is e later = inside_last (bounded (before ++ f.items) (length (b ∷ bs))) before b bs f x is refl e later
 
-fault_inside : (text : List ℕ) (n : ℕ) (before : List Tree) (x : Fault) → read before n text ≡ Err x → Lies (length text) x
+fault_inside : (text : List ℕ) (n : ℕ) (before : List Tree) (x : Fault StrftimeReason) → read before n text ≡ Err x → LiesWithin (length text) x
 fault_inside [] n before x e = let g = sym (read_end before n) ∙ e in absurd cc
 fault_inside (b ∷ bs) (suc n) before x e = wider (length bs) (length (b ∷ bs)) x (omega arith) (fault_inside bs n before x (sym (passed before n b bs) ∙ e))
 fault_inside (b ∷ bs) zero before x e = inside_by (first_part (b ∷ bs)) before b bs x refl e (λ n before g. fault_inside bs n before x g)
 
--- the same, counted from the beginning
-pub index_inside : (text : List ℕ) (x : Fault) (index : ℕ) → described text ≡ Err x → index ≡ length text - x.left → index < length text
-index_inside text x index e is =
-    let w = fault_inside text 0 [] x e in
-    let some : 0 < x.left = w.0 in
-    let fits : x.left ≤ length text = w.1 in
-    omega arith
+pub fault_within : (text : List ℕ) (fault : Fault StrftimeReason) → described text ≡ Err fault → LiesWithin (length text) fault
+fault_within text fault e = fault_inside text 0 [] fault e
 
 -- ---- a composition is what its text describes
 

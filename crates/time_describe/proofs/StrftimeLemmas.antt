@@ -8,8 +8,9 @@ use Rattle.time_below.specs.Tree.{Tree, of_component}
 use Rattle.time_describe.specs.Conversions.{component_of, composed}
 use Rattle.time_describe.specs.Limit.{most_items}
 use Rattle.time_describe.specs.Literal.{literal_of}
-use Rattle.time_describe.specs.declared.strftime.fault.Fault.{Fault}
-use Rattle.time_describe.specs.declared.strftime.fault.StrftimeReason.TheVariants.{TooManyItems}
+use Rattle.time_describe.specs.declared.strftime.reason.StrftimeReason.{StrftimeReason}
+use Rattle.time_describe.specs.declared.fault.Fault.{Fault}
+use Rattle.time_describe.specs.declared.strftime.reason.StrftimeReason.TheVariants.{TooManyItems}
 use Rattle.time_describe.specs.Strftime.{Front, read, bounded, first_part, fails}
 
 pub read_end : (before : List Tree) (n : ℕ) → read before n [] ≡ Ok before
@@ -38,12 +39,12 @@ step : (before items : List Tree) (b : ℕ) (bs : List ℕ) (f : Front) → firs
 unfolding read
 step before items b bs f is room = rw (is, room) refl
 
-stop : (before : List Tree) (b : ℕ) (bs : List ℕ) (f : Front) (fault : Fault) → first_part (b ∷ bs) ≡ Ok f → bounded (before ++ f.items) (length (b ∷ bs)) ≡ Err fault
+stop : (before : List Tree) (b : ℕ) (bs : List ℕ) (f : Front) (fault : Fault StrftimeReason) → first_part (b ∷ bs) ≡ Ok f → bounded (before ++ f.items) (length (b ∷ bs)) ≡ Err fault
     → read before 0 (b ∷ bs) ≡ Err fault
 unfolding read
 stop before b bs f fault is room = rw (is, room) refl
 
-refuse : (before : List Tree) (b : ℕ) (bs : List ℕ) (fault : Fault) → first_part (b ∷ bs) ≡ Err fault → read before 0 (b ∷ bs) ≡ Err fault
+refuse : (before : List Tree) (b : ℕ) (bs : List ℕ) (fault : Fault StrftimeReason) → first_part (b ∷ bs) ≡ Err fault → read before 0 (b ∷ bs) ≡ Err fault
 unfolding read
 refuse before b bs fault is = rw is refl
 
@@ -64,7 +65,7 @@ part_exceeds before now (b ∷ bs) f some is now-is lt =
     stop before b bs f (record { reason = TooManyItems; left = length (b ∷ bs) }) is
     (ap (λ v. bounded v (length (b ∷ bs))) (sym now-is) ∙ exceeds (nat_le (length now) most_items) now (length (b ∷ bs)) refl lt)
 
-pub part_refused : (before : List Tree) (text : List ℕ) (fault : Fault) → 0 < length text → first_part text ≡ Err fault → read before 0 text ≡ Err fault
+pub part_refused : (before : List Tree) (text : List ℕ) (fault : Fault StrftimeReason) → 0 < length text → first_part text ≡ Err fault → read before 0 text ≡ Err fault
 part_refused before [] fault some is = absurd (omega arith)
 part_refused before (b ∷ bs) fault some is = refuse before b bs fault is
 

@@ -9,12 +9,14 @@ use Rattle.time_below.specs.Tree.{Tree, of_component}
 use Rattle.time_below.specs.declared.format_description.component.Component.{Component}
 use Rattle.time_describe.specs.Conversions.{component_of, items_of}
 use Rattle.time_describe.specs.Literal.{literal_of}
-use Rattle.time_describe.specs.declared.strftime.fault.Fault.{Fault}
+use Rattle.time_describe.specs.declared.strftime.reason.StrftimeReason.{StrftimeReason}
+use Rattle.time_describe.specs.Description.{LiesWithin}
+use Rattle.time_describe.specs.declared.fault.Fault.{Fault}
 use Rattle.time_describe.specs.Strftime.{Front, is_percent, front, conversion, first_part}
 use Rattle.time_describe.specs.StrftimeGrammar.{Part, literal, converted, letter, behind_percent, part_spelling, spelling, part_meaning, begins_with_literal, is_literal}
 use Rattle.time_describe.proofs.PlaceLemmas.{place_inside}
 use Rattle.time_describe.proofs.ReadLemmas.{stops}
-use Rattle.time_describe.proofs.StrftimeConversions.{Spells, Lies, conversion_found, conversion_fits, conversion_read}
+use Rattle.time_describe.proofs.StrftimeConversions.{Spells, conversion_found, conversion_fits, conversion_read}
 
 first_conversion : (b : ℕ) (bs : List ℕ) → is_percent b ≡ true → first_part (b ∷ bs) ≡ conversion bs
 unfolding first_part
@@ -83,14 +85,14 @@ pub part_found : (b : ℕ) (bs : List ℕ) (f : Front) → first_part (b ∷ bs)
 part_found b bs f e = found_by (is_percent b) b bs f refl e
 
 -- a fault of the first part lies within the text
-fits_by : (is : Bool) (b : ℕ) (bs : List ℕ) (x : Fault) → is_percent b ≡ is → first_part (b ∷ bs) ≡ Err x → Lies (length (b ∷ bs)) x
+fits_by : (is : Bool) (b : ℕ) (bs : List ℕ) (x : Fault StrftimeReason) → is_percent b ≡ is → first_part (b ∷ bs) ≡ Err x → LiesWithin (length (b ∷ bs)) x
 fits_by true b bs x is e =
     let w = conversion_fits bs x (sym (first_conversion b bs is) ∙ e) in
     let k : length bs + 1 ≡ length (b ∷ bs) = omega arith in
-    subst (λ (n : ℕ). Lies n x) k w
+    subst (λ (n : ℕ). LiesWithin n x) k w
 fits_by false b bs x is e = let g = sym (first_literal b bs is) ∙ e in absurd cc
 
-pub part_fits : (b : ℕ) (bs : List ℕ) (x : Fault) → first_part (b ∷ bs) ≡ Err x → Lies (length (b ∷ bs)) x
+pub part_fits : (b : ℕ) (bs : List ℕ) (x : Fault StrftimeReason) → first_part (b ∷ bs) ≡ Err x → LiesWithin (length (b ∷ bs)) x
 part_fits b bs x e = fits_by (is_percent b) b bs x refl e
 
 -- ---- what is spelled is read

@@ -9,8 +9,8 @@ use Rattle.time_below.specs.declared.format_description.modifier.SubsecondDigits
 use Rattle.time_below.specs.declared.format_description.modifier.SubsecondDigits.TheVariants as digits
 use Rattle.time_below.specs.Tree.{Tree, of_component}
 use Rattle.time_describe.specs.Literal.{literal_of}
-use Rattle.time_describe.specs.declared.strftime.fault.StrftimeReason.{StrftimeReason}
-use Rattle.time_describe.specs.declared.strftime.fault.StrftimeReason.TheVariants.{ZoneName, LocaleModifier, FieldWidth, CaseFlag, PlusFlag, SecondFlag, FlagWithoutNumber, UnknownConversion}
+use Rattle.time_describe.specs.declared.strftime.reason.StrftimeReason.{StrftimeReason}
+use Rattle.time_describe.specs.declared.strftime.reason.StrftimeReason.TheVariants.{ZoneName, LocaleModifier, FieldWidth, CaseFlag, PlusFlag, SecondFlag, FlagWithoutNumber, UnknownConversion}
 
 -- the byte of a text of one letter
 abbrev pub byte : List ℕ → ℕ

@@ -5,7 +5,7 @@ use Rattle.std.specs.List.{AllByRecursion}
 use Rattle.time_below.specs.Conversion.{current_component}
 use Rattle.time_below.specs.Tree.{Tree, trees, of_component, all_of}
 use Rattle.time_below.specs.declared.format_description.component.Component.{Component}
-use Rattle.time_describe.specs.declared.pieces.Nest.{Nest}
+use Rattle.time_describe.specs.declared.items.Nest.{Nest}
 use Rattle.time_describe.specs.Literal.{literal_of}
 use Rattle.time_describe.specs.Pieces.{ends_literal}
 use Rattle.time_describe.specs.Reading.{opening, closing, backslash, is_escapable, ends_word, keyword, with_word, is_whole, with_literal, nested, takes_list, depth_limit}

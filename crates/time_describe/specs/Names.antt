@@ -23,8 +23,8 @@ use Rattle.time_below.specs.declared.format_description.modifier.UnixTimestamp.{
 use Rattle.time_below.specs.declared.format_description.modifier.WeekNumber.{WeekNumber}
 use Rattle.time_below.specs.declared.format_description.modifier.Weekday.{Weekday}
 use Rattle.time_below.specs.declared.format_description.modifier.Year.{Year}
-use Rattle.time_describe.specs.declared.fault.Reason.{Reason}
-use Rattle.time_describe.specs.declared.fault.Reason.TheVariants.{UnknownModifier, InvalidValue}
+use Rattle.time_describe.specs.declared.brackets.reason.BracketReason.{BracketReason}
+use Rattle.time_describe.specs.declared.brackets.reason.BracketReason.TheVariants.{UnknownModifier, InvalidValue}
 use Rattle.time_describe.specs.Values.{is_name, base_named, bool_named, case_named, clock_named, count_named, digits_named, month_repr_named, padding_named, precision_named, sign_named, trailing_input_named, week_number_repr_named, weekday_repr_named, year_range_named, year_repr_named}
 
 -- A component by its name, where nothing more is said. An `ignore` needs a count, and has none yet.
@@ -50,19 +50,19 @@ named word =
     else None))))))))))))))))
 
 -- what a modifier chooses by its value, if it has that value
-abbrev pub chosen : {A B : Type 0} → (A → B) → Option A → Result B Reason
+abbrev pub chosen : {A B : Type 0} → (A → B) → Option A → Result B BracketReason
 chosen with_it None = Err InvalidValue
 chosen with_it (Some value) = Ok (with_it value)
 
-abbrev pub unknown : {B : Type 0} → Result B Reason
+abbrev pub unknown : {B : Type 0} → Result B BracketReason
 unknown = Err UnknownModifier
 
 -- ---- one more modifier, by its key and its value; the last one of a key counts
 
-unfoldable pub padding_modified : List ℕ → List ℕ → Result Padding Reason
+unfoldable pub padding_modified : List ℕ → List ℕ → Result Padding BracketReason
 padding_modified key value = if is_name key (codes "padding") then chosen (λ x. x) (padding_named value) else unknown
 
-unfoldable pub year_modified : Year → List ℕ → List ℕ → Result Year Reason
+unfoldable pub year_modified : Year → List ℕ → List ℕ → Result Year BracketReason
 year_modified m key value =
     if is_name key (codes "padding") then chosen (λ x. record m { padding = x }) (padding_named value)
     else (if is_name key (codes "repr") then chosen (λ x. record m { repr = x }) (year_repr_named value)
@@ -71,71 +71,71 @@ year_modified m key value =
     else (if is_name key (codes "sign") then chosen (λ x. record m { sign_is_mandatory = x }) (sign_named value)
     else unknown))))
 
-unfoldable pub month_modified : Month → List ℕ → List ℕ → Result Month Reason
+unfoldable pub month_modified : Month → List ℕ → List ℕ → Result Month BracketReason
 month_modified m key value =
     if is_name key (codes "padding") then chosen (λ x. record m { padding = x }) (padding_named value)
     else (if is_name key (codes "repr") then chosen (λ x. record m { repr = x }) (month_repr_named value)
     else (if is_name key (codes "case_sensitive") then chosen (λ x. record m { case_sensitive = x }) (bool_named value)
     else unknown))
 
-unfoldable pub weekday_modified : Weekday → List ℕ → List ℕ → Result Weekday Reason
+unfoldable pub weekday_modified : Weekday → List ℕ → List ℕ → Result Weekday BracketReason
 weekday_modified m key value =
     if is_name key (codes "repr") then chosen (λ x. record m { repr = x }) (weekday_repr_named value)
     else (if is_name key (codes "one_indexed") then chosen (λ x. record m { one_indexed = x }) (bool_named value)
     else (if is_name key (codes "case_sensitive") then chosen (λ x. record m { case_sensitive = x }) (bool_named value)
     else unknown))
 
-unfoldable pub week_number_modified : WeekNumber → List ℕ → List ℕ → Result WeekNumber Reason
+unfoldable pub week_number_modified : WeekNumber → List ℕ → List ℕ → Result WeekNumber BracketReason
 week_number_modified m key value =
     if is_name key (codes "padding") then chosen (λ x. record m { padding = x }) (padding_named value)
     else (if is_name key (codes "repr") then chosen (λ x. record m { repr = x }) (week_number_repr_named value)
     else unknown)
 
-unfoldable pub hour_modified : Hour → List ℕ → List ℕ → Result Hour Reason
+unfoldable pub hour_modified : Hour → List ℕ → List ℕ → Result Hour BracketReason
 hour_modified m key value =
     if is_name key (codes "padding") then chosen (λ x. record m { padding = x }) (padding_named value)
     else (if is_name key (codes "repr") then chosen (λ x. record m { is_12_hour_clock = x }) (clock_named value)
     else unknown)
 
-unfoldable pub period_modified : Period → List ℕ → List ℕ → Result Period Reason
+unfoldable pub period_modified : Period → List ℕ → List ℕ → Result Period BracketReason
 period_modified m key value =
     if is_name key (codes "case") then chosen (λ x. record m { is_uppercase = x }) (case_named value)
     else (if is_name key (codes "case_sensitive") then chosen (λ x. record m { case_sensitive = x }) (bool_named value)
     else unknown)
 
-unfoldable pub subsecond_modified : Subsecond → List ℕ → List ℕ → Result Subsecond Reason
+unfoldable pub subsecond_modified : Subsecond → List ℕ → List ℕ → Result Subsecond BracketReason
 subsecond_modified m key value =
     if is_name key (codes "digits") then chosen (λ x. record m { digits = x }) (digits_named value)
     else unknown
 
-unfoldable pub offset_hour_modified : OffsetHour → List ℕ → List ℕ → Result OffsetHour Reason
+unfoldable pub offset_hour_modified : OffsetHour → List ℕ → List ℕ → Result OffsetHour BracketReason
 offset_hour_modified m key value =
     if is_name key (codes "padding") then chosen (λ x. record m { padding = x }) (padding_named value)
     else (if is_name key (codes "sign") then chosen (λ x. record m { sign_is_mandatory = x }) (sign_named value)
     else unknown)
 
-unfoldable pub unix_timestamp_modified : UnixTimestamp → List ℕ → List ℕ → Result UnixTimestamp Reason
+unfoldable pub unix_timestamp_modified : UnixTimestamp → List ℕ → List ℕ → Result UnixTimestamp BracketReason
 unix_timestamp_modified m key value =
     if is_name key (codes "precision") then chosen (λ x. record m { precision = x }) (precision_named value)
     else (if is_name key (codes "sign") then chosen (λ x. record m { sign_is_mandatory = x }) (sign_named value)
     else unknown)
 
-unfoldable pub ignore_modified : Ignore → List ℕ → List ℕ → Result Ignore Reason
+unfoldable pub ignore_modified : Ignore → List ℕ → List ℕ → Result Ignore BracketReason
 ignore_modified m key value =
     if is_name key (codes "count") then chosen (λ x. record m { count = x }) (count_named value)
     else unknown
 
-unfoldable pub end_modified : End → List ℕ → List ℕ → Result End Reason
+unfoldable pub end_modified : End → List ℕ → List ℕ → Result End BracketReason
 end_modified m key value =
     if is_name key (codes "trailing_input") then chosen (λ x. record m { trailing_input = x }) (trailing_input_named value)
     else unknown
 
-abbrev pub of : {A : Type 0} → (A → Component) → Result A Reason → Result Component Reason
+abbrev pub of : {A : Type 0} → (A → Component) → Result A BracketReason → Result Component BracketReason
 of with_it (Ok m) = Ok (with_it m)
 of with_it (Err reason) = Err reason
 
 -- a component with one more modifier
-unfoldable pub modified : Component → List ℕ → List ℕ → Result Component Reason
+unfoldable pub modified : Component → List ℕ → List ℕ → Result Component BracketReason
 modified (component.Year m) key value = of (λ x. component.Year x) (year_modified m key value)
 modified (component.Month m) key value = of (λ x. component.Month x) (month_modified m key value)
 modified (component.Day m) key value = of (λ x. component.Day (record { padding = x })) (padding_modified key value)

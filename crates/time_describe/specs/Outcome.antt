@@ -2,12 +2,13 @@
 use Rattle.std.specs.Prelude.{◌≡◌, ℕ, Bool, false, IsTrue, List, [], ◌∷◌, ◌++◌, drop, map, reverse, Result, Ok, Err}
 use Rattle.std.proofs.Common.{Bor}
 use Rattle.time_below.specs.Tree.{Tree}
+use Rattle.time_describe.specs.Description.{Fails}
 use Rattle.time_describe.specs.declared.fault.Fault.{Fault}
 use Rattle.time_describe.specs.declared.fault.Failure.{Failure}
-use Rattle.time_describe.specs.declared.fault.Failure.TheVariants as failure
-use Rattle.time_describe.specs.declared.frame.Frame as code
-use Rattle.time_describe.specs.declared.pieces.Nest.{Nest}
-use Rattle.time_describe.specs.declared.pieces.Nest.TheVariants as nests
+use Rattle.time_describe.specs.declared.brackets.reason.BracketReason.{BracketReason}
+use Rattle.time_describe.specs.declared.brackets.frame.Frame as code
+use Rattle.time_describe.specs.declared.items.Nest.{Nest}
+use Rattle.time_describe.specs.declared.items.Nest.TheVariants as nests
 use Rattle.time_describe.specs.Reading.{Frame, outside, read}
 
 -- what is kept of a list that is not closed yet
@@ -31,21 +32,12 @@ abbrev pub lacks_list : Nest → Bool → Bool
 lacks_list nests.First is_first = false
 lacks_list nests.Optional is_first = is_first
 
--- a failure is of memory, where a list may refuse an item, or it is the fault
-abbrev pub Fails : {A : Type 0} → Bool → Failure → Result A Fault → Type 0
-Fails can_refuse failure.OutOfMemory read = IsTrue can_refuse
-Fails can_refuse (failure.Invalid f) read = read ≡ Err f
-
--- a list holds the items that were read
-abbrev pub IsFound : Result (List Tree) Fault → (List Tree → Type 0) → Type 0
-IsFound read Holds = (all : List Tree) × (read ≡ Ok all) × Holds all
-
 -- an item is held behind others
-abbrev pub Ends : Bool → (List Tree → Type 0) → List Tree → Result Unit Failure → Result Tree Fault → Type 0
+abbrev pub Ends : Bool → (List Tree → Type 0) → List Tree → Result Unit (Failure BracketReason) → Result Tree (Fault BracketReason) → Type 0
 Ends can_refuse Holds before (Ok u) item = (t : Tree) × (item ≡ Ok t) × Holds (before ++ t ∷ [])
 Ends can_refuse Holds before (Err e) item = Fails can_refuse e item
 
 -- reading goes on behind what was read, in lists and behind items of which this is so
-abbrev pub GoesOn : Bool → (List Frame → List Tree → Type 0) → Result (Bor (List ℕ)) Failure → Result (List Tree) Fault → Type 0
+abbrev pub GoesOn : Bool → (List Frame → List Tree → Type 0) → Result (Bor (List ℕ)) (Failure BracketReason) → Result (List Tree) (Fault BracketReason) → Type 0
 GoesOn can_refuse Holds (Ok rest) reading = (fs : List Frame) × (items : List Tree) × Holds fs items × (reading ≡ read fs outside items [] rest.now)
 GoesOn can_refuse Holds (Err e) reading = Fails can_refuse e reading

@@ -8,17 +8,17 @@ use Rattle.time_below.specs.declared.format_description.component.Component.{Com
 use Rattle.time_below.specs.declared.format_description.component.Component.TheVariants as component
 use Rattle.time_below.specs.Tree.{Tree, trees, of_component, all_of, first_of}
 use Rattle.time_describe.specs.declared.fault.Fault.{Fault}
-use Rattle.time_describe.specs.declared.fault.Reason.{Reason}
-use Rattle.time_describe.specs.declared.fault.Reason.TheVariants.{UnclosedBracket, InvalidEscape, MissingName, UnknownName, MissingModifier, MissingItems, UnexpectedByte, TooDeep, TooManyItems}
-use Rattle.time_describe.specs.declared.pieces.Nest.{Nest}
-use Rattle.time_describe.specs.declared.pieces.Nest.TheVariants as nests
+use Rattle.time_describe.specs.declared.brackets.reason.BracketReason.{BracketReason}
+use Rattle.time_describe.specs.declared.brackets.reason.BracketReason.TheVariants.{UnclosedBracket, InvalidEscape, MissingName, UnknownName, MissingModifier, MissingItems, UnexpectedByte, TooDeep, TooManyItems}
+use Rattle.time_describe.specs.declared.items.Nest.{Nest}
+use Rattle.time_describe.specs.declared.items.Nest.TheVariants as nests
 use Rattle.time_describe.specs.Limit.{most_items}
 use Rattle.time_describe.specs.Literal.{literal_of}
 use Rattle.time_describe.specs.Marks.{past}
 use Rattle.time_describe.specs.Names.{named, modified}
 
 infixl 10 ◌>>=◌
-abbrev pub ◌>>=◌ : {A B : Type 0} → Result A Fault → (A → Result B Fault) → Result B Fault
+abbrev pub ◌>>=◌ : {A B : Type 0} → Result A (Fault BracketReason) → (A → Result B (Fault BracketReason)) → Result B (Fault BracketReason)
 (Ok x) >>= f = f x
 (Err e) >>= f = Err e
 
@@ -48,20 +48,20 @@ abbrev pub ends_word : ℕ → Bool
 ends_word b = is_special b || (b == closing || is_ascii_whitespace b)
 
 -- a fault, and how many bytes are left from there to the end of the text
-abbrev pub fails : {A : Type 0} → Reason → ℕ → Result A Fault
+abbrev pub fails : {A : Type 0} → BracketReason → ℕ → Result A (Fault BracketReason)
 fails reason left = Err (record { reason = reason; left = left })
 
-abbrev pub at_fault : {A : Type 0} → Result A Reason → ℕ → Result A Fault
+abbrev pub at_fault : {A : Type 0} → Result A BracketReason → ℕ → Result A (Fault BracketReason)
 at_fault (Ok x) left = Ok x
 at_fault (Err reason) left = fails reason left
 
 -- the component of a name
-abbrev pub of_name : Option Component → Result Component Reason
+abbrev pub of_name : Option Component → Result Component BracketReason
 of_name None = Err UnknownName
 of_name (Some c) = Ok c
 
 -- The first word in brackets is the component's name. Each other one is `key:value`.
-abbrev pub with_word : Option Component → List ℕ → Result Component Reason
+abbrev pub with_word : Option Component → List ℕ → Result Component BracketReason
 with_word None word = of_name (named word)
 with_word (Some c) word = modified c (before_first (λ b. b == colon) word) (after_first (λ b. b == colon) word)
 
@@ -98,11 +98,11 @@ pub data Place : Type 0 where
   between : Nest → ℕ → List Tree → Place
 
 -- where a word ends, if it has bytes
-abbrev pub word_place : ℕ → Option Component → List ℕ → Option Nest → ℕ → Result Place Fault
+abbrev pub word_place : ℕ → Option Component → List ℕ → Option Nest → ℕ → Result Place (Fault BracketReason)
 word_place opened c word (Some n) left = Ok (between n opened [])
 word_place opened c word None left = at_fault (with_word c word) left >>= λ c. Ok (brackets opened (Some c) [])
 
-abbrev pub after_word : ℕ → Option Component → List ℕ → ℕ → Result Place Fault
+abbrev pub after_word : ℕ → Option Component → List ℕ → ℕ → Result Place (Fault BracketReason)
 after_word opened c [] left = Ok (brackets opened c [])
 after_word opened c (b ∷ bs) left = word_place opened c (b ∷ bs) (nest_of c (b ∷ bs)) left
 
@@ -112,7 +112,7 @@ takes_list nests.Optional [] = true
 takes_list nests.Optional (t ∷ ts) = false
 takes_list nests.First ts = true
 
-abbrev pub nested : Nest → List Tree → ℕ → Result Tree Fault
+abbrev pub nested : Nest → List Tree → ℕ → Result Tree (Fault BracketReason)
 nested nests.Optional [] left = fails MissingItems left
 nested nests.Optional (t ∷ ts) left = Ok t
 nested nests.First ts left = Ok (first_of (trees ts))
@@ -123,12 +123,12 @@ is_whole (component.Ignore m) = not (m.count == 0)
 is_whole c = true
 
 -- the component where brackets are closed
-abbrev pub finished : Option Component → Result Component Reason
+abbrev pub finished : Option Component → Result Component BracketReason
 finished None = Err MissingName
 finished (Some c) = if is_whole c then Ok (current_component c) else Err MissingModifier
 
 -- the item that ends there
-abbrev pub ended : Place → ℕ → Result Tree Fault
+abbrev pub ended : Place → ℕ → Result Tree (Fault BracketReason)
 ended (brackets opened c word) left = at_fault (finished c) left >>= λ made. Ok (of_component made)
 ended (between n opened lists) left = nested n lists left
 ended outside left = fails MissingName left
@@ -144,7 +144,7 @@ abbrev pub after_list : Frame → List Tree → List ℕ → Place
 after_list f items literal = between f.nest f.opened (f.lists ++ all_of (trees (with_literal items literal)) ∷ [])
 
 -- the items of a text whose next byte stands there, in these lists, after these items and a literal so far
-unfoldable pub read : List Frame → Place → List Tree → List ℕ → List ℕ → Result (List Tree) Fault
+unfoldable pub read : List Frame → Place → List Tree → List ℕ → List ℕ → Result (List Tree) (Fault BracketReason)
 read [] outside items literal [] = Ok (with_literal items literal)
 read (f ∷ fs) outside items literal [] = fails UnclosedBracket f.opened_list
 read fs escape items literal [] = fails InvalidEscape 1
@@ -182,9 +182,9 @@ abbrev pub IsWithinLimit : List ℕ → Type 0
 IsWithinLimit text = past is_special most_items text ≡ None
 
 -- the items of a text, unless it may have too many
-abbrev pub within_limit : Option ℕ → List ℕ → Result (List Tree) Fault
+abbrev pub within_limit : Option ℕ → List ℕ → Result (List Tree) (Fault BracketReason)
 within_limit None text = read [] outside [] [] text
 within_limit (Some left) text = fails TooManyItems left
 
-abbrev pub described : List ℕ → Result (List Tree) Fault
+abbrev pub described : List ℕ → Result (List Tree) (Fault BracketReason)
 described text = within_limit (past is_special most_items text) text

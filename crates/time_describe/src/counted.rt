@@ -4,8 +4,7 @@ ghost use Rattle.time_below.specs.Tree.{Tree};
 ghost use Rattle.time_describe.specs.Counted.{Counts};
 ghost use Rattle.time_describe.specs.Reading.{Frame};
 
-use crate::items::Items;
-use crate::pieces::Nest;
+use crate::items::{Items, Nest};
 use std::alloc::AllocError;
 use time_below::format_description::Component;
 

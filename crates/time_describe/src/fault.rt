@@ -1,83 +1,68 @@
-//! Why a text is no description.
+//! Why a text is no description, in any syntax.
 ghost use Rattle.std.specs.Prelude.{◌≡◌};
 ghost use Rattle.time_describe.specs.declared.fault.Failure.TheVariants.{OutOfMemory, Invalid};
 
-use crate::literal::MOST_ITEMS;
+use crate::brackets::reason::BracketReason;
+use crate::strftime::reason::StrftimeReason;
 use std::alloc::AllocError;
+use std::fmt;
 use thiserror::Error;
-
-/// What is wrong at a position of a text in brackets. Each variant names the byte whose index an
-/// error has.
-#[derive(Clone, Copy, Debug, PartialEq, Eq, Error)]
-pub enum Reason {
-    /// A bracket is not closed, or that of a component has another one or a backslash in it: the
-    /// opening bracket.
-    #[error("unclosed bracket")]
-    UnclosedBracket,
-    /// No backslash and no bracket follows a backslash: that backslash.
-    #[error("invalid escape sequence")]
-    InvalidEscape,
-    /// Brackets have no name in them: the closing bracket.
-    #[error("missing component name")]
-    MissingName,
-    /// No component has this name: the first byte of the name.
-    #[error("unknown component")]
-    UnknownName,
-    /// The component has no modifier with this key: the first byte of the key.
-    #[error("unknown modifier")]
-    UnknownModifier,
-    /// The modifier has no such value: the first byte of the key.
-    #[error("invalid modifier value")]
-    InvalidValue,
-    /// An `ignore` has no `count`: the closing bracket.
-    #[error("missing modifier `count`")]
-    MissingModifier,
-    /// An `optional` has no list of items: the closing bracket.
-    #[error("missing list of items")]
-    MissingItems,
-    /// A byte other than whitespace and a bracket stands where only lists of items may, or an
-    /// `optional` has another list: that byte, or the bracket of the list.
-    #[error("unexpected text")]
-    UnexpectedByte,
-    /// A list of items is the 33rd in one another: its opening bracket.
-    #[error("more than 32 lists in one another")]
-    TooDeep,
-    /// More than 65,536 opening brackets and backslashes, with one of which each item but a literal
-    /// begins: the first one past them.
-    #[error("more than {MOST_ITEMS} items")]
-    TooManyItems,
-}
 
 /// What is wrong, and where.
 #[derive(Clone, Copy)]
-pub struct Fault {
+pub struct Fault<R> {
     /// What is wrong.
-    pub reason: Reason,
+    pub reason: R,
     /// How many bytes the text has from there to its end.
     pub left: usize,
 }
 
 /// Why nothing was made of a text.
 #[derive(Clone, Copy)]
-pub enum Failure {
+pub enum Failure<R> {
     /// An allocation failed.
     OutOfMemory,
     /// The text is no description.
-    Invalid(Fault),
+    Invalid(Fault<R>),
 }
 
-impl From<AllocError> for Failure {
+impl<R> From<AllocError> for Failure<R> {
     ghost from_gives = { λ _ e. e ≡ OutOfMemory };
 
-    fn from(_error: AllocError) -> Failure {
+    fn from(_error: AllocError) -> Failure<R> {
         Failure::OutOfMemory
     }
 }
 
-impl From<Fault> for Failure {
+impl<R> From<Fault<R>> for Failure<R> {
     ghost from_gives = { λ fault e. e ≡ Invalid fault };
 
-    fn from(fault: Fault) -> Failure {
+    fn from(fault: Fault<R>) -> Failure<R> {
         Failure::Invalid(fault)
     }
 }
+
+/// Why no description was made of a text, whose syntax has these reasons. Those of brackets are
+/// meant where none are named.
+///
+/// It displays what is wrong and where, as `unknown component at byte 1`. With the text one of
+/// brackets shows the word too: see [`InvalidDescription::in_text`].
+#[derive(Clone, Copy, Debug, PartialEq, Eq, Error)]
+#[error_bound(R: fmt::Display)]
+pub enum InvalidDescription<R = BracketReason> {
+    /// An allocation failed.
+    #[error("memory could not be reserved")]
+    OutOfMemory,
+    /// The text is no description: what is wrong first, and the index of its byte. Too many items
+    /// in brackets are told before a fault at an earlier byte.
+    #[error("{reason} at byte {index}")]
+    Invalid {
+        /// What is wrong.
+        reason: R,
+        /// The index of the byte, from 0 on, below the length of the text.
+        index: usize,
+    },
+}
+
+/// Why no description was made of a text in the syntax of strftime.
+pub type InvalidStrftime = InvalidDescription<StrftimeReason>;

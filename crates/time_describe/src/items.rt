@@ -7,11 +7,19 @@ ghost use Rattle.time_describe.specs.Items.{Adds, are_leaves, is_nil};
 ghost use Rattle.time_describe.specs.Literal.{literal_of};
 ghost use Rattle.time_describe.specs.Reading.{Frame};
 ghost use Rattle.time_describe.specs.Reading as reading;
-ghost use Rattle.time_describe.specs.declared.pieces.Nest.{Nest};
+ghost use Rattle.time_describe.specs.declared.items.Nest.{Nest};
 
-use crate::pieces::Nest;
 use std::alloc::AllocError;
 use time_below::format_description::Component;
+
+/// What lists of items in brackets are for.
+#[derive(Clone, Copy)]
+pub enum Nest {
+    /// One list, which a parser may leave out.
+    Optional,
+    /// Lists of which a parser takes the first that fits.
+    First,
+}
 
 /// Items that are added at the end of a list, and lists of them in one another.
 pub trait Items {

@@ -4,19 +4,19 @@ ghost use Rattle.time_below.specs.Clones.{AreSame};
 ghost use Rattle.time_below.specs.Tree.{Tree};
 ghost use Rattle.time_describe.specs.Conversions.{composition, composed};
 ghost use Rattle.time_describe.specs.Grammar.{Parts, spelling, Means};
+ghost use Rattle.time_describe.specs.Items.{are_leaves};
 ghost use Rattle.time_describe.specs.Limit.{most_items};
 ghost use Rattle.time_describe.specs.Reading.{described, IsWithinLimit};
 ghost use Rattle.time_describe.specs.Strftime as strftime;
 ghost use Rattle.time_describe.specs.StrftimeGrammar as strftime_grammar;
 ghost use Rattle.time_describe.specs.StrftimeGrammar.{Part};
-ghost use Rattle.time_describe.specs.declared.strftime.fault.StrftimeReason.TheVariants as StrftimeReason;
+ghost use Rattle.time_describe.specs.declared.strftime.reason.StrftimeReason.TheVariants as StrftimeReason;
 
-use crate::description::InvalidDescription;
-use crate::fault::Reason;
-use crate::in_text::InText;
-use crate::pieces::Nest;
-use crate::strftime::InvalidStrftime;
-use crate::strftime::fault::StrftimeReason;
+use crate::brackets::in_text::InText;
+use crate::brackets::reason::BracketReason;
+use crate::fault::{InvalidDescription, InvalidStrftime};
+use crate::items::Nest;
+use crate::strftime::reason::StrftimeReason;
 
 /// Each text that the grammar spells is a description, of the items that the grammar says.
 pub fn what_is_spelled_is_described()
@@ -48,6 +48,12 @@ pub fn what_strftime_describes_is_spelled()
         → (ps : List Part) × (strftime_grammar.spelling ps ≡ text) × strftime_grammar.Means [] ps all × (length all ≤ most_items) }
 {}
 
+/// No item of a text in the syntax of strftime is a list.
+pub fn what_strftime_describes_has_no_list()
+    ensures { (text : List ℕ) (all : List Tree)
+        → strftime.described text ≡ Ok all → IsTrue (are_leaves all) }
+{}
+
 /// A composition is what its text describes.
 pub fn what_a_composition_means()
     ensures { (letter : ℕ) (text : List ℕ) → composition letter ≡ Some text → strftime.described text ≡ Ok (composed text) }
@@ -55,7 +61,7 @@ pub fn what_a_composition_means()
 
 /// A clone of what is wrong, of an error or of what lists in brackets are is the same.
 pub fn clones_of_faults()
-    ensures reason { AreSame ⟦<Reason as Clone>⟧.is_clone }
+    ensures reason { AreSame ⟦<BracketReason as Clone>⟧.is_clone }
     ensures strftime_reason { AreSame ⟦<StrftimeReason as Clone>⟧.is_clone }
     ensures description { AreSame ⟦<InvalidDescription as Clone>⟧.is_clone }
     ensures strftime { AreSame ⟦<InvalidStrftime as Clone>⟧.is_clone }
@@ -71,8 +77,8 @@ pub fn clones_of_errors_in_text(shown: InText<'_>, copy: InText<'_>)
 {}
 
 /// Two reasons of one syntax are equal exactly if they are the same.
-pub fn reason_equality(a: Reason, b: Reason, c: StrftimeReason, d: StrftimeReason)
-    ensures brackets { IsTrue (⟦<Reason as PartialEq>⟧.eq a b) ↔ (a ≡ b) }
+pub fn reason_equality(a: BracketReason, b: BracketReason, c: StrftimeReason, d: StrftimeReason)
+    ensures brackets { IsTrue (⟦<BracketReason as PartialEq>⟧.eq a b) ↔ (a ≡ b) }
     ensures strftime { IsTrue (⟦<StrftimeReason as PartialEq>⟧.eq c d) ↔ (c ≡ d) }
 {}
 

@@ -1,26 +1,22 @@
-//! Descriptions from a text, as `[year]-[month]-[day]`.
+//! Descriptions from a text, as `[year]-[month]-[day]` or `%Y-%m-%d`.
 #![tactic(auto)]
 
-mod building;
+mod brackets;
 mod counted;
-mod description;
 mod fault;
-mod frame;
-mod in_text;
 mod items;
 pub mod laws;
 mod literal;
-mod marks;
-mod names;
 mod owned_list;
-mod pieces;
 mod strftime;
-mod values;
+mod syntax;
+mod text;
 
-pub use description::{InvalidDescription, describe, parse_owned};
-pub use fault::Reason;
-pub use in_text::InText;
-pub use items::Items;
-pub use pieces::Nest;
-pub use strftime::fault::StrftimeReason;
-pub use strftime::{InvalidStrftime, describe_strftime, parse_strftime_owned};
+pub use brackets::in_text::InText;
+pub use brackets::reason::BracketReason;
+pub use brackets::{Brackets, parse_owned};
+pub use fault::{Failure, Fault, InvalidDescription, InvalidStrftime};
+pub use items::{Items, Nest};
+pub use strftime::reason::StrftimeReason;
+pub use strftime::{Strftime, parse_strftime_owned};
+pub use syntax::{Syntax, describe, parse};

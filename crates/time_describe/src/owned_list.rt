@@ -5,9 +5,8 @@ ghost use Rattle.time_describe.specs.Literal.{literal_of};
 ghost use Rattle.time_describe.specs.Owned.{HoldsOwned, HoldsOwnedLists};
 ghost use Rattle.time_describe.specs.Reading as reading;
 
-use crate::items::Items;
+use crate::items::{Items, Nest};
 use crate::literal::literal;
-use crate::pieces::Nest;
 use std::alloc::{AllocError, Global};
 use std::mem;
 use time_below::format_description::{Component, OwnedFormatItem};

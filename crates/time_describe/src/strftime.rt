@@ -11,43 +11,28 @@ ghost use Rattle.std.specs.Prelude.{IfOk, IfErr, OnOk, IsTrue, IsFalse};
 ghost use Rattle.time_below.specs.Tree.{Tree, owned_tree};
 ghost use Rattle.time_describe.specs.Conversions.{composed, offset};
 ghost use Rattle.time_describe.specs.Items.{Adds, are_leaves};
+ghost use Rattle.time_describe.specs.Description.{tree_of, Fails, IsWithin, Says, SaysFault};
 ghost use Rattle.time_describe.specs.Strftime.{described, first_part, read};
-ghost use Rattle.time_describe.specs.StrftimeOutcome.{AddsFront, AddsLetter, items_of_part};
-ghost use Rattle.time_describe.specs.StrftimeOutcome.{tree_of, Fails, GoesOn, IsFound, IsWithin};
-ghost use Rattle.time_describe.specs.StrftimeOutcome.{MayRefuse, Says, SaysFault};
+ghost use Rattle.time_describe.specs.StrftimeOutcome.{AddsFront, AddsLetter, GoesOn, items_of_part};
 
-use crate::counted::Counted;
+use crate::fault::{Failure, Fault, InvalidStrftime};
 use crate::items::Items;
 use crate::literal::MOST_ITEMS;
-use crate::owned_list::OwnedList;
-use crate::pieces::first_and_rest;
+use crate::syntax::{Syntax, parse};
+use crate::text::first_and_rest;
 use std::alloc::{AllocError, Global};
-use thiserror::Error;
 use time_below::format_description::modifier::Padding;
 use time_below::format_description::{Component, OwnedFormatItem, modifier};
 
 mod conversions;
-pub mod fault;
 pub mod part;
+pub mod reason;
 
-use fault::{Failure, Fault, StrftimeReason};
 use part::{Part, component_of, first_part};
+use reason::StrftimeReason;
 
-/// Why no description was made of a text in the syntax of strftime.
-#[derive(Clone, Copy, Debug, PartialEq, Eq, Error)]
-pub enum InvalidStrftime {
-    /// An allocation failed.
-    #[error("memory could not be reserved")]
-    OutOfMemory,
-    /// The text is no description: what is wrong first, and the index of its byte.
-    #[error("{reason} at byte {index}")]
-    Invalid {
-        /// What is wrong.
-        reason: StrftimeReason,
-        /// The index of the byte, from 0 on.
-        index: usize,
-    },
-}
+/// The syntax of strftime.
+pub struct Strftime;
 
 /// Adds the hours of the offset with their sign, perhaps a colon, and the minutes.
 #[inline(never)]
@@ -185,7 +170,11 @@ fn put_usual_at<I: Items>(items: &mut I, text: &[u8], at: usize) -> Result<bool,
 }
 
 /// Adds the items of the part at a position of the text. Returns how many bytes belong to it.
-fn put_front<I: Items>(items: &mut I, text: &[u8], at: usize) -> Result<usize, Failure>
+fn put_front<I: Items>(
+    items: &mut I,
+    text: &[u8],
+    at: usize,
+) -> Result<usize, Failure<StrftimeReason>>
     requires { at < length text.now }
     ensures put { IfOk result (λ len. AddsFront (I.Holds text.now []) items.old items.new
         (first_part (drop at text.now)) len) }
@@ -202,7 +191,7 @@ fn put_front<I: Items>(items: &mut I, text: &[u8], at: usize) -> Result<usize, F
 }
 
 /// Reads the part at a position of the text, and returns the position after it.
-fn step<I: Items>(items: &mut I, text: &[u8], at: usize) -> Result<usize, Failure>
+fn step<I: Items>(items: &mut I, text: &[u8], at: usize) -> Result<usize, Failure<StrftimeReason>>
     requires { at < length text.now }
     ensures goes_on { (before : List Tree) → IsTrue (are_leaves before) → I.Holds text.now [] items.old before
         → GoesOn I.can_refuse text.now (I.Holds text.now [] items.new) result
@@ -221,53 +210,17 @@ fn step<I: Items>(items: &mut I, text: &[u8], at: usize) -> Result<usize, Failur
     Ok(at + len)
 }
 
-/// Adds the items of a text.
-fn put_all<I: Items>(items: &mut I, text: &[u8]) -> Result<(), Failure>
-    requires { I.Holds text.now [] items.old [] }
-    ensures found { OnOk result (IsFound (described text.now) (I.Holds text.now [] items.new)) }
-    ensures fails { IfErr result (λ e. Fails I.can_refuse e (described text.now)) }
-    ensures lender { I.lender items.new ≡ I.lender items.old }
-{
-    let mut at = 0;
-    'steps: while at < text.len() {
-        at = step(items, text, at)?;
-    }
-    Ok(())
-}
+impl Syntax for Strftime {
+    type Reason = StrftimeReason;
 
-/// Adds the items that a text in the syntax of strftime describes to a list that has none.
-///
-/// Each run of bytes other than `%` is one literal. Each conversion is the items that
-/// `specs/Conversions.antt` lists for it. There are at most 65,536 items. After an error the list
-/// may hold the items before the fault.
-pub fn describe_strftime<I: Items>(items: &mut I, text: &[u8]) -> Result<(), InvalidStrftime>
-    requires { I.Holds text.now [] items.old [] }
-    ensures found { OnOk result (IsFound (described text.now) (I.Holds text.now [] items.new)) }
-    ensures says { IfErr result (Says (length text.now) (described text.now)) }
-    ensures inside { IfErr result (IsWithin (length text.now)) }
-    ensures refusal { IfErr result (MayRefuse I.can_refuse) }
-    ensures lender { I.lender items.new ≡ I.lender items.old }
-{
-    match put_all(items, text) {
-        Ok(()) => Ok(()),
-        Err(Failure::OutOfMemory) => Err(InvalidStrftime::OutOfMemory),
-        Err(Failure::Invalid(fault)) => Err(InvalidStrftime::Invalid {
-            reason: fault.reason,
-            index: text.len().saturating_sub(fault.left),
-        }),
-    }
-}
+    ghost described = { described };
 
-/// What is said of a text for which an allocation has failed: that, where the text is a
-/// description, and what is wrong with it elsewhere.
-fn refusal(text: &[u8]) -> InvalidStrftime
-    ensures says { Says (length text.now) (described text.now) result }
-    ensures inside { IsWithin (length text.now) result }
-    ensures says_fault { SaysFault (described text.now) result }
-{
-    match describe_strftime(&mut Counted::new(), text) {
-        Ok(()) => InvalidStrftime::OutOfMemory,
-        Err(error) => error,
+    fn put_all<I: Items>(items: &mut I, text: &[u8]) -> Result<(), Failure<StrftimeReason>> {
+        let mut at = 0;
+        'steps: while at < text.len() {
+            at = step(items, text, at)?;
+        }
+        Ok(())
     }
 }
 
@@ -284,10 +237,5 @@ pub fn parse_strftime_owned(alloc: Global, text: &[u8]) -> Result<OwnedFormatIte
     ensures inside { IfErr result (IsWithin (length text.now)) }
     ensures says_fault { IfErr result (SaysFault (described text.now)) }
 {
-    let mut items = OwnedList::new(alloc);
-    match describe_strftime(&mut items, text) {
-        Ok(()) => Ok(OwnedFormatItem::Compound(items.into_items())),
-        Err(InvalidStrftime::OutOfMemory) => Err(refusal(text)),
-        Err(error) => Err(error),
-    }
+    parse::<Strftime>(alloc, text)
 }

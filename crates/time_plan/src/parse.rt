@@ -1,16 +1,35 @@
 //! Plans of descriptions that are texts.
 ghost use Rattle.std.specs.Prelude.{length, IfOk, IfErr};
 ghost use Rattle.std.specs.Result.{IsOkAnd};
-ghost use Rattle.time_describe.specs.Description as brackets;
+ghost use Rattle.time_describe.specs.Description.{tree_of, IsWithin, Says, SaysFault};
 ghost use Rattle.time_describe.specs.Reading as reading;
 ghost use Rattle.time_describe.specs.Strftime as strftime;
-ghost use Rattle.time_describe.specs.StrftimeOutcome as conversions;
 ghost use Rattle.time_fmt.specs.Laws.{Means};
 
 use crate::plan::Plan;
 use std::alloc::Global;
-use time_describe::{InvalidDescription, InvalidStrftime, parse_owned, parse_strftime_owned};
+use time_describe::{Brackets, InvalidDescription, InvalidStrftime, Strftime, Syntax, parse};
 use time_fmt::{ComputeMetadata, Formattable};
+
+/// The plan of a text in a syntax.
+fn plan_of<S: Syntax>(alloc: Global, text: &[u8]) -> Result<Plan, InvalidDescription<S::Reason>>
+    ensures means { IfOk result (λ plan. IsOkAnd (tree_of (S.described text.now))
+        (Means
+        (⟦<Plan as Formattable>⟧.outcome_of plan)
+        (⟦<Plan as ComputeMetadata>⟧.width_of plan)
+        (⟦<Plan as ComputeMetadata>⟧.is_guaranteed plan))) }
+    ensures says { IfErr result (Says (length text.now) (S.described text.now)) }
+    ensures inside { IfErr result (IsWithin (length text.now)) }
+    ensures says_fault { IfErr result (SaysFault (S.described text.now)) }
+{
+    match parse::<S>(alloc, text) {
+        Ok(item) => match Plan::of(alloc, &item) {
+            Ok(plan) => Ok(plan),
+            Err(_) => Err(InvalidDescription::OutOfMemory),
+        },
+        Err(error) => Err(error),
+    }
+}
 
 impl Plan {
     /// The plan of a text in the syntax of `time`'s format descriptions, version 2, as
@@ -19,22 +38,16 @@ impl Plan {
     /// An error is that of `parse_owned` of `time_describe`. Only of a text without a fault it says
     /// that an allocation failed.
     pub fn parse(alloc: Global, text: &[u8]) -> Result<Plan, InvalidDescription>
-        ensures means { IfOk result (λ plan. IsOkAnd (brackets.tree_of (reading.described text.now))
+        ensures means { IfOk result (λ plan. IsOkAnd (tree_of (reading.described text.now))
             (Means
             (⟦<Plan as Formattable>⟧.outcome_of plan)
             (⟦<Plan as ComputeMetadata>⟧.width_of plan)
             (⟦<Plan as ComputeMetadata>⟧.is_guaranteed plan))) }
-        ensures says { IfErr result (brackets.Says (length text.now) (reading.described text.now)) }
-        ensures inside { IfErr result (brackets.IsWithin (length text.now)) }
-        ensures says_fault { IfErr result (brackets.SaysFault (reading.described text.now)) }
+        ensures says { IfErr result (Says (length text.now) (reading.described text.now)) }
+        ensures inside { IfErr result (IsWithin (length text.now)) }
+        ensures says_fault { IfErr result (SaysFault (reading.described text.now)) }
     {
-        match parse_owned(alloc, text) {
-            Ok(item) => match Plan::of(alloc, &item) {
-                Ok(plan) => Ok(plan),
-                Err(_) => Err(InvalidDescription::OutOfMemory),
-            },
-            Err(error) => Err(error),
-        }
+        plan_of::<Brackets>(alloc, text)
     }
 
     /// The plan of a text in the syntax of strftime, as `%Y-%m-%d`.
@@ -42,21 +55,15 @@ impl Plan {
     /// An error says the first fault and the index of its byte. Only of a text without a fault it
     /// says that an allocation failed.
     pub fn parse_strftime(alloc: Global, text: &[u8]) -> Result<Plan, InvalidStrftime>
-        ensures means { IfOk result (λ plan. IsOkAnd (conversions.tree_of (strftime.described text.now))
+        ensures means { IfOk result (λ plan. IsOkAnd (tree_of (strftime.described text.now))
             (Means
             (⟦<Plan as Formattable>⟧.outcome_of plan)
             (⟦<Plan as ComputeMetadata>⟧.width_of plan)
             (⟦<Plan as ComputeMetadata>⟧.is_guaranteed plan))) }
-        ensures says { IfErr result (conversions.Says (length text.now) (strftime.described text.now)) }
-        ensures inside { IfErr result (conversions.IsWithin (length text.now)) }
-        ensures says_fault { IfErr result (conversions.SaysFault (strftime.described text.now)) }
+        ensures says { IfErr result (Says (length text.now) (strftime.described text.now)) }
+        ensures inside { IfErr result (IsWithin (length text.now)) }
+        ensures says_fault { IfErr result (SaysFault (strftime.described text.now)) }
     {
-        match parse_strftime_owned(alloc, text) {
-            Ok(item) => match Plan::of(alloc, &item) {
-                Ok(plan) => Ok(plan),
-                Err(_) => Err(InvalidStrftime::OutOfMemory),
-            },
-            Err(error) => Err(error),
-        }
+        plan_of::<Strftime>(alloc, text)
     }
 }

@@ -4,8 +4,8 @@ use crate::values::assert_that;
 use std::alloc::Global;
 use std::mem::size_of;
 use time::error::{
-    ComponentRange, DifferentVariant, Error, InText, InvalidDescription, InvalidStrftime,
-    InvalidVariant, Reason, StrftimeReason,
+    BracketReason, ComponentRange, DifferentVariant, Error, InText, InvalidDescription,
+    InvalidStrftime, InvalidVariant, StrftimeReason,
 };
 use time::format_description::well_known::Rfc3339;
 use time::format_description::well_known::iso8601::OffsetPrecision;
@@ -114,7 +114,12 @@ fn macros_of_dates_and_times_make_what_they_spell(rt: HostRuntime) {
 /// What no other test of the crate names.
 type Errors = (ComponentRange, DifferentVariant, Error, InText<'static>);
 
-type Refusals = (InvalidDescription, InvalidStrftime, Reason, StrftimeReason);
+type Refusals = (
+    InvalidDescription,
+    InvalidStrftime,
+    BracketReason,
+    StrftimeReason,
+);
 
 type Descriptions = (
     BorrowedItems<'static>,

@@ -3,7 +3,7 @@
 //! `cold` and `inline(never)` keep long or rare bodies out of their callers.
 ghost use Rattle.std.specs.Prelude.{◌≡◌, ◌≤◌, IfOk, length};
 ghost use Rattle.movaliren_c.specs.Answer.{Answers, IsText};
-ghost use Rattle.movaliren_c.specs.Described.{Leaves, bracket_items, few, strftime_items};
+ghost use Rattle.movaliren_c.specs.Described.{Leaves, bracket_items, few, items_in, strftime_items};
 ghost use Rattle.movaliren_c.specs.Items.{described};
 ghost use Rattle.movaliren_c.specs.Utc.{local_value};
 ghost use Rattle.movaliren_c.specs.Value.{timestamp_value};
@@ -14,9 +14,10 @@ use crate::described::item::Item;
 use crate::described::item_room::ItemRoom;
 use crate::described::local_parts::{FirstState, local_parts_at};
 use crate::described::made_item::NO_ITEM;
-use crate::described::syntax::{Brackets, ParseError, Strftime, Syntax};
+use crate::described::syntax::{Numbered, ParseError, put_items};
 use crate::described::write_described;
 use crate::values::moment::timestamp_value;
+use time_describe::{Brackets, Strftime, Syntax};
 
 /// The most items of a text that is formatted in one call.
 const FEW: usize = 64;
@@ -115,17 +116,18 @@ pub extern "C" fn movaliren_format_strftime_local(
 
 /// Reads the items of a text into an array. If there are none, or they do not fit, the first item
 /// of the array is none.
-fn describe<S: Syntax>(
+fn describe<S: Syntax<Reason: Numbered>>(
     text: &[u8],
     items: &mut [Item],
     fault: &mut ParseError,
 ) -> Result<usize, Reason>
-    ensures leaves { Leaves text.now (S.described text.now) result items.new fault.old fault.new }
+    ensures leaves { Leaves text.now (items_in S.Reason.number text.now (S.described text.now))
+        result items.new fault.old fault.new }
     ensures fits { IfOk result (λ count. count ≤ length items.new) }
     ensures len { length items.new ≡ length items.old }
 {
     let mut room = ItemRoom::new(items);
-    match S::put_items(&mut room, text) {
+    match put_items::<S>(&mut room, text) {
         Ok(()) if room.is_complete() => Ok(room.count()),
         Ok(()) => {
             *fault = ParseError::many(room.count());
@@ -142,12 +144,14 @@ fn describe<S: Syntax>(
 
 /// Writes the text of the value by the description that another text is.
 #[tactic(auto, using(crate::proofs::ItemLemmas::text_shown, crate::proofs::ItemLemmas::text_faulty, std::proofs::lemmas::Grind::common_steps))]
-fn write_text<S: Syntax, V: FirstState>(
+fn write_text<S: Syntax<Reason: Numbered>, V: FirstState>(
     text: &[u8],
     value: Result<V, Reason>,
     room: &mut [u8],
 ) -> Result<usize, Reason>
-    ensures text { IsText (described (few (S.described text.now)) value V.facts) result room.old room.new }
+    ensures text { IsText
+        (described (few (items_in S.Reason.number text.now (S.described text.now))) value V.facts)
+        result room.old room.new }
     ensures fits { IfOk result (λ count. count ≤ length room.old) }
 {
     let mut items = [NO_ITEM; USUAL];
@@ -163,12 +167,14 @@ fn write_text<S: Syntax, V: FirstState>(
 #[cold]
 #[inline(never)]
 #[tactic(auto, using(crate::proofs::ItemLemmas::text_shown, crate::proofs::ItemLemmas::text_refused, std::proofs::lemmas::Grind::common_steps))]
-fn write_many<S: Syntax, V: FirstState>(
+fn write_many<S: Syntax<Reason: Numbered>, V: FirstState>(
     text: &[u8],
     value: Result<V, Reason>,
     room: &mut [u8],
 ) -> Result<usize, Reason>
-    ensures text { IsText (described (few (S.described text.now)) value V.facts) result room.old room.new }
+    ensures text { IsText
+        (described (few (items_in S.Reason.number text.now (S.described text.now))) value V.facts)
+        result room.old room.new }
     ensures fits { IfOk result (λ count. count ≤ length room.old) }
 {
     let mut all = [NO_ITEM; FEW];

@@ -1,14 +1,10 @@
-//! The syntaxes of descriptions, and what is wrong in a text.
-ghost use Rattle.std.specs.Prelude.{◌≡◌, ℕ, List, None, Err, OnOk, IfErr, Result};
-ghost use Rattle.movaliren_c.specs.Described.{IsHeld, bracket_items, bracket_number, fault_at};
-ghost use Rattle.movaliren_c.specs.Described.{many, strftime_items, strftime_number};
-ghost use Rattle.movaliren_c.specs.declared.described.syntax.ParseError.{ParseError};
-ghost use Rattle.time_below.specs.Tree.{Tree};
+//! What is wrong in a text that is no description, as C has it, and the items of one that is.
+ghost use Rattle.std.specs.Prelude.{◌≡◌, ℕ, None, Err, OnOk, IfErr};
+ghost use Rattle.movaliren_c.specs.Described.{IsHeld, bracket_number, fault_at, items_in, many};
+ghost use Rattle.movaliren_c.specs.Described.{strftime_number};
 
 use crate::described::item_room::ItemRoom;
-use time_describe::{
-    InvalidDescription, InvalidStrftime, Reason, StrftimeReason, describe, describe_strftime,
-};
+use time_describe::{BracketReason, InvalidDescription, StrftimeReason, Syntax, describe};
 
 /// Why a text gave no items.
 #[repr(C)]
@@ -50,89 +46,75 @@ impl ParseError {
     }
 }
 
-/// A syntax of descriptions.
-pub trait Syntax {
-    /// The trees of the items of a text, or its first fault.
-    ghost described: { List ℕ → Result (List Tree) ParseError };
+/// What can be wrong in a text of a syntax, by numbers.
+pub trait Numbered: Copy {
+    /// The number of the reason, and the byte that it names, or 0.
+    ghost number: { Self → ℕ × ℕ };
 
-    /// Adds the items of a text to an array that has none.
-    fn put_items(items: &mut ItemRoom<'_>, text: &[u8]) -> Result<(), ParseError>
-        requires none { items.old.count ≡ 0 }
-        requires shown { items.old.hidden_at ≡ None }
-        ensures found { OnOk result (IsHeld text.now (described text.now) items.new.array.now items.new.count) }
-        ensures fault { IfErr result (λ f. described text.now ≡ Err f) }
-        ensures same_reference { items.new.array.ghost_name ≡ items.old.array.ghost_name };
+    /// The number of the reason, and the byte that it names, or 0.
+    fn number(self) -> (u8, u8)
+        ensures { result ≡ number self };
 }
 
-/// The syntax of `time`'s format descriptions, version 2, as `[year]-[month]-[day]`.
-pub struct Brackets;
+impl Numbered for BracketReason {
+    ghost number = { bracket_number };
 
-impl Syntax for Brackets {
-    ghost described = { bracket_items };
-
-    #[tactic(auto, using(crate::proofs::ItemLemmas::none_held, crate::proofs::ItemLemmas::brackets_held, crate::proofs::ItemLemmas::brackets_faulty), unfolding(crate::specs::Described::bracket_items))]
-    fn put_items(items: &mut ItemRoom<'_>, text: &[u8]) -> Result<(), ParseError> {
-        match describe(items, text) {
-            Ok(()) => Ok(()),
-            Err(InvalidDescription::OutOfMemory) => unreachable!(),
-            Err(InvalidDescription::Invalid { reason, index }) => {
-                Err(ParseError::at(index, (bracket_number(reason), 0)))
-            }
+    fn number(self) -> (u8, u8) {
+        match self {
+            BracketReason::UnclosedBracket => (1, 0),
+            BracketReason::InvalidEscape => (2, 0),
+            BracketReason::MissingName => (3, 0),
+            BracketReason::UnknownName => (4, 0),
+            BracketReason::UnknownModifier => (5, 0),
+            BracketReason::InvalidValue => (6, 0),
+            BracketReason::MissingModifier => (7, 0),
+            BracketReason::MissingItems => (8, 0),
+            BracketReason::UnexpectedByte => (9, 0),
+            BracketReason::TooDeep => (10, 0),
+            BracketReason::TooManyItems => (11, 0),
         }
     }
 }
 
-/// The syntax of strftime.
-pub struct Strftime;
+impl Numbered for StrftimeReason {
+    ghost number = { strftime_number };
 
-impl Syntax for Strftime {
-    ghost described = { strftime_items };
-
-    #[tactic(auto, using(crate::proofs::ItemLemmas::none_held, crate::proofs::ItemLemmas::strftime_faulty), unfolding(crate::specs::Described::strftime_items))]
-    fn put_items(items: &mut ItemRoom<'_>, text: &[u8]) -> Result<(), ParseError> {
-        match describe_strftime(items, text) {
-            Ok(()) => Ok(()),
-            Err(InvalidStrftime::OutOfMemory) => unreachable!(),
-            Err(InvalidStrftime::Invalid { reason, index }) => {
-                Err(ParseError::at(index, strftime_number(reason)))
-            }
+    fn number(self) -> (u8, u8) {
+        match self {
+            StrftimeReason::TooManyItems => (11, 0),
+            StrftimeReason::Unfinished => (12, 0),
+            StrftimeReason::UnknownConversion(byte) => (13, byte),
+            StrftimeReason::ZoneName => (14, 0),
+            StrftimeReason::LocaleModifier(byte) => (15, byte),
+            StrftimeReason::FieldWidth(byte) => (16, byte),
+            StrftimeReason::CaseFlag(byte) => (17, byte),
+            StrftimeReason::PlusFlag => (18, 0),
+            StrftimeReason::SecondFlag(byte) => (19, byte),
+            StrftimeReason::FlagWithoutNumber(byte) => (20, byte),
         }
     }
 }
 
-/// The number of a reason.
-fn bracket_number(reason: Reason) -> u8
-    ensures { (result, 0) ≡ bracket_number reason }
+/// Adds the items that a text describes to an array that has none.
+#[tactic(auto, using(crate::proofs::ItemLemmas::none_held, crate::proofs::ItemLemmas::all_held, crate::proofs::ItemLemmas::fault_told))]
+pub fn put_items<S: Syntax<Reason: Numbered>>(
+    items: &mut ItemRoom<'_>,
+    text: &[u8],
+) -> Result<(), ParseError>
+    requires none { items.old.count ≡ 0 }
+    requires shown { items.old.hidden_at ≡ None }
+    ensures found { OnOk result (IsHeld text.now
+        (items_in S.Reason.number text.now (S.described text.now))
+        items.new.array.now items.new.count) }
+    ensures fault { IfErr result (λ f. items_in S.Reason.number text.now (S.described text.now)
+        ≡ Err f) }
+    ensures same_reference { items.new.array.ghost_name ≡ items.old.array.ghost_name }
 {
-    match reason {
-        Reason::UnclosedBracket => 1,
-        Reason::InvalidEscape => 2,
-        Reason::MissingName => 3,
-        Reason::UnknownName => 4,
-        Reason::UnknownModifier => 5,
-        Reason::InvalidValue => 6,
-        Reason::MissingModifier => 7,
-        Reason::MissingItems => 8,
-        Reason::UnexpectedByte => 9,
-        Reason::TooDeep => 10,
-        Reason::TooManyItems => 11,
-    }
-}
-
-/// The number of a reason, and the byte that it names.
-fn strftime_number(reason: StrftimeReason) -> (u8, u8)
-    ensures { result ≡ strftime_number reason }
-{
-    match reason {
-        StrftimeReason::TooManyItems => (11, 0),
-        StrftimeReason::Unfinished => (12, 0),
-        StrftimeReason::UnknownConversion(byte) => (13, byte),
-        StrftimeReason::ZoneName => (14, 0),
-        StrftimeReason::LocaleModifier(byte) => (15, byte),
-        StrftimeReason::FieldWidth(byte) => (16, byte),
-        StrftimeReason::CaseFlag(byte) => (17, byte),
-        StrftimeReason::PlusFlag => (18, 0),
-        StrftimeReason::SecondFlag(byte) => (19, byte),
-        StrftimeReason::FlagWithoutNumber(byte) => (20, byte),
+    match describe::<S, ItemRoom<'_>>(items, text) {
+        Ok(()) => Ok(()),
+        Err(InvalidDescription::OutOfMemory) => unreachable!(),
+        Err(InvalidDescription::Invalid { reason, index }) => {
+            Err(ParseError::at(index, reason.number()))
+        }
     }
 }

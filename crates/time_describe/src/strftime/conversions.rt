@@ -6,7 +6,7 @@ ghost use Rattle.std.specs.Prelude.{◌≡◌, ◌∷◌, [], option_map};
 ghost use Rattle.time_describe.specs.Conversions.{flag_named, number, word, sign, composition};
 ghost use Rattle.time_describe.specs.Conversions.{width, refusal};
 
-use crate::strftime::fault::StrftimeReason;
+use super::reason::StrftimeReason;
 use time_below::format_description::modifier::{Padding, SubsecondDigits};
 use time_below::format_description::{Component, modifier};
 

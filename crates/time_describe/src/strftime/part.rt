@@ -12,8 +12,9 @@ ghost use Rattle.time_describe.specs.Strftime.{conversion, first_part};
 ghost use Rattle.time_describe.specs.StrftimeOutcome.{items_of_part, front_of};
 
 use super::conversions::{composition, flag_named, number, refusal, sign, width, word};
-use super::fault::{Fault, StrftimeReason};
-use crate::pieces::first_and_rest;
+use super::reason::StrftimeReason;
+use crate::fault::Fault;
+use crate::text::first_and_rest;
 use time_below::format_description::modifier::{Padding, SubsecondDigits};
 use time_below::format_description::{Component, modifier};
 
@@ -84,7 +85,7 @@ fn part_of(letter: u8) -> Option<Part<'static>>
 /// What is after a flag, and that it takes two bytes after the `%`.
 #[inline(never)]
 #[tactic(auto, unfolding(crate::specs::Strftime::flagged))]
-fn flagged<'a>(flag: Padding, bytes: &'a [u8]) -> Result<(Part<'a>, usize), Fault>
+fn flagged<'a>(flag: Padding, bytes: &'a [u8]) -> Result<(Part<'a>, usize), Fault<StrftimeReason>>
     ensures part { (text : List ℕ) → front_of text result ≡ flagged (Some flag) bytes.now }
     ensures within { IfOk result (λ x. x.1 ≤ length bytes.now + 1) }
 {
@@ -108,7 +109,7 @@ fn flagged<'a>(flag: Padding, bytes: &'a [u8]) -> Result<(Part<'a>, usize), Faul
 /// What is after a colon, which stands `left` bytes before the end.
 #[inline(never)]
 #[tactic(auto, unfolding(crate::specs::Strftime::with_colon))]
-fn with_colon<'a>(left: usize, bytes: &'a [u8]) -> Result<(Part<'a>, usize), Fault>
+fn with_colon<'a>(left: usize, bytes: &'a [u8]) -> Result<(Part<'a>, usize), Fault<StrftimeReason>>
     requires { left ≡ length bytes.now + 1 }
     ensures part { (text : List ℕ) → front_of text result ≡ with_colon bytes.now }
     ensures within { IfOk result (λ x. x.1 ≤ length bytes.now + 1) }
@@ -132,7 +133,7 @@ fn with_width<'a>(
     digits: SubsecondDigits,
     left: usize,
     bytes: &'a [u8],
-) -> Result<(Part<'a>, usize), Fault>
+) -> Result<(Part<'a>, usize), Fault<StrftimeReason>>
     requires { left ≡ length bytes.now + 1 }
     ensures part { (text : List ℕ) → front_of text result ≡ with_width digit (Some digits) bytes.now }
     ensures within { IfOk result (λ x. x.1 ≤ length bytes.now + 1) }
@@ -157,7 +158,7 @@ fn with_width<'a>(
 /// without a call.
 #[inline(never)]
 #[tactic(auto, unfolding(crate::specs::Strftime::conversion))]
-fn conversion<'a>(bytes: &'a [u8]) -> Result<(Part<'a>, usize), Fault>
+fn conversion<'a>(bytes: &'a [u8]) -> Result<(Part<'a>, usize), Fault<StrftimeReason>>
     ensures part { (text : List ℕ) → front_of text result ≡ conversion bytes.now }
     ensures within { IfOk result (λ x. x.1 ≤ length bytes.now) }
 {
@@ -207,7 +208,7 @@ fn literal_len(bytes: &[u8]) -> usize
 
 /// The first part of a text, and how many bytes belong to it after the first one.
 #[tactic(auto, unfolding(crate::specs::Strftime::first_part))]
-pub fn first_part<'a>(text: &'a [u8]) -> Result<(Part<'a>, usize), Fault>
+pub fn first_part<'a>(text: &'a [u8]) -> Result<(Part<'a>, usize), Fault<StrftimeReason>>
     requires { 0 < length text.now }
     ensures part { front_of text.now result ≡ first_part text.now }
     ensures within { IfOk result (λ x. x.1 < length text.now) }

@@ -4,7 +4,7 @@ use std::process::Abort;
 use time_answers::command::date_time_numbers;
 use time_answers::fields::Fields;
 use time_answers::value::{
-    DateNumbers, DateTimeNumbers, OffsetNumbers, Part, TimeNumbers, date_time_value,
+    DateNumbers, DateTimeNumbers, OffsetNumbers, TimeNumbers, ValuePart, date_time_value,
 };
 use time_below::{Month, OffsetDateTime};
 

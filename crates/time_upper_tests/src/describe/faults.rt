@@ -1,108 +1,108 @@
 //! What is wrong with texts in brackets, and where.
 use crate::describe::texts::{assert_displays, fault_in_brackets};
-use time_describe::{InvalidDescription, Reason};
+use time_describe::{BracketReason, InvalidDescription};
 
 /// Rows of a text, its first fault with the index of the byte, and the words that display it beside the text.
-const FAULTS: &[(&str, Reason, usize, &str)] = &[
+const FAULTS: &[(&str, BracketReason, usize, &str)] = &[
     (
         "[year",
-        Reason::UnclosedBracket,
+        BracketReason::UnclosedBracket,
         0,
         "unclosed bracket at byte 0",
     ),
     (
         "[day [",
-        Reason::UnclosedBracket,
+        BracketReason::UnclosedBracket,
         0,
         "unclosed bracket at byte 0",
     ),
     (
         "[first [a",
-        Reason::UnclosedBracket,
+        BracketReason::UnclosedBracket,
         7,
         "unclosed bracket at byte 7",
     ),
     (
         "[first [a]",
-        Reason::UnclosedBracket,
+        BracketReason::UnclosedBracket,
         0,
         "unclosed bracket at byte 0",
     ),
     (
         r"x\y",
-        Reason::InvalidEscape,
+        BracketReason::InvalidEscape,
         1,
         r"invalid escape sequence `\y` at byte 1",
     ),
     (
         r"x\",
-        Reason::InvalidEscape,
+        BracketReason::InvalidEscape,
         1,
         r"invalid escape sequence `\` at byte 1",
     ),
     (
         "a[]",
-        Reason::MissingName,
+        BracketReason::MissingName,
         2,
         "missing component name at byte 2",
     ),
     (
         "[yaer]",
-        Reason::UnknownName,
+        BracketReason::UnknownName,
         1,
         "unknown component `yaer` at byte 1",
     ),
     (
         "[day pad:none]",
-        Reason::UnknownModifier,
+        BracketReason::UnknownModifier,
         5,
         "unknown modifier `pad:none` at byte 5",
     ),
     (
         "[day none]",
-        Reason::UnknownModifier,
+        BracketReason::UnknownModifier,
         5,
         "unknown modifier `none` at byte 5",
     ),
     (
         "[day padding:no]",
-        Reason::InvalidValue,
+        BracketReason::InvalidValue,
         5,
         "invalid modifier value `padding:no` at byte 5",
     ),
     (
         "[ignore count:0]",
-        Reason::InvalidValue,
+        BracketReason::InvalidValue,
         8,
         "invalid modifier value `count:0` at byte 8",
     ),
     (
         "[ignore count:65536]",
-        Reason::InvalidValue,
+        BracketReason::InvalidValue,
         8,
         "invalid modifier value `count:65536` at byte 8",
     ),
     (
         "[ignore]",
-        Reason::MissingModifier,
+        BracketReason::MissingModifier,
         7,
         "missing modifier `count` at byte 7",
     ),
     (
         "a[optional ]",
-        Reason::MissingItems,
+        BracketReason::MissingItems,
         11,
         "missing list of items at byte 11",
     ),
     (
         "[optional [a] [b]]",
-        Reason::UnexpectedByte,
+        BracketReason::UnexpectedByte,
         14,
         "unexpected text `[` at byte 14",
     ),
     (
         "[first [a] x]",
-        Reason::UnexpectedByte,
+        BracketReason::UnexpectedByte,
         11,
         "unexpected text `x` at byte 11",
     ),
@@ -112,14 +112,14 @@ const FAULTS: &[(&str, Reason, usize, &str)] = &[
 const LIMITS: &[(InvalidDescription, &str)] = &[
     (
         InvalidDescription::Invalid {
-            reason: Reason::TooDeep,
+            reason: BracketReason::TooDeep,
             index: 263,
         },
         "more than 32 lists in one another at byte 263",
     ),
     (
         InvalidDescription::Invalid {
-            reason: Reason::TooManyItems,
+            reason: BracketReason::TooManyItems,
             index: 65_536,
         },
         "more than 65536 items at byte 65536",
@@ -166,7 +166,7 @@ fn says_which_limit_is_passed(rt: HostRuntime) {
 #[test]
 fn displays_a_word_of_up_to_64_bytes(rt: HostRuntime) {
     let error = InvalidDescription::Invalid {
-        reason: Reason::UnknownName,
+        reason: BracketReason::UnknownName,
         index: 1,
     };
     for (text, words) in LONG_WORDS {
@@ -177,7 +177,7 @@ fn displays_a_word_of_up_to_64_bytes(rt: HostRuntime) {
 #[test]
 fn displays_no_word_that_is_long_or_no_text(rt: HostRuntime) {
     let error = InvalidDescription::Invalid {
-        reason: Reason::UnknownName,
+        reason: BracketReason::UnknownName,
         index: 1,
     };
     let words = "unknown component at byte 1";

@@ -3,7 +3,7 @@
 use crate::describe::texts::{fault_in_brackets, fault_in_percents, repeated};
 use std::alloc::{AllocError, Global};
 use std::process::Abort;
-use time_describe::Reason;
+use time_describe::BracketReason;
 
 /// Texts of both syntaxes that are changed and cut.
 const TEXTS: &[&[u8]] = &[
@@ -18,42 +18,60 @@ const BYTES: &[u8] = b"[]\\: %N0\n\0\xc3\xff";
 
 /// Long texts in brackets: what they begin with, what they repeat how often, what they end with, and the first
 /// fault or none.
-const LONG: &[(&[u8], &[u8], usize, &[u8], Option<(Reason, usize)>)] = &[
+const LONG: &[(&[u8], &[u8], usize, &[u8], Option<(BracketReason, usize)>)] = &[
     (
         b"",
         b"[",
         1_000_000,
         b"",
-        Some((Reason::TooManyItems, 65_536)),
+        Some((BracketReason::TooManyItems, 65_536)),
     ),
     (
         b"",
         b"\\[",
         40_000,
         b"",
-        Some((Reason::TooManyItems, 65_536)),
+        Some((BracketReason::TooManyItems, 65_536)),
     ),
     (
         b"",
         b"[day]",
         65_537,
         b"",
-        Some((Reason::TooManyItems, 327_680)),
+        Some((BracketReason::TooManyItems, 327_680)),
     ),
     (
         b"",
         b"[optional [",
         32_768,
         b"",
-        Some((Reason::TooDeep, 362)),
+        Some((BracketReason::TooDeep, 362)),
     ),
-    (b"", b"[first [", 33, b"", Some((Reason::TooDeep, 263))),
-    (b"", b"[aaaaaa", 1, b"", Some((Reason::UnclosedBracket, 0))),
+    (
+        b"",
+        b"[first [",
+        33,
+        b"",
+        Some((BracketReason::TooDeep, 263)),
+    ),
+    (
+        b"",
+        b"[aaaaaa",
+        1,
+        b"",
+        Some((BracketReason::UnclosedBracket, 0)),
+    ),
     (b"", b"]", 100_000, b"", None),
     (b"", b"x", 100_000, b"", None),
     (b"", b"\xff", 100_000, b"", None),
     (b"", b" ", 100_000, b"", None),
-    (b"[", b"a", 100_000, b"]", Some((Reason::UnknownName, 1))),
+    (
+        b"[",
+        b"a",
+        100_000,
+        b"]",
+        Some((BracketReason::UnknownName, 1)),
+    ),
     (b"", b"[day]", 16_384, b"", None),
 ];
 

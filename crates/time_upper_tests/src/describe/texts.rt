@@ -8,7 +8,8 @@ use std::process::Abort;
 use time_below::format_description::OwnedFormatItem;
 use time_below::{Date, Month, OffsetDateTime, Time, UtcOffset};
 use time_describe::{
-    InvalidDescription, InvalidStrftime, Reason, StrftimeReason, parse_owned, parse_strftime_owned,
+    BracketReason, InvalidDescription, InvalidStrftime, StrftimeReason, parse_owned,
+    parse_strftime_owned,
 };
 use time_fmt::{DateState, Formattable};
 
@@ -69,7 +70,7 @@ fn in_percents(rt: &impl Abort, alloc: Global, text: &str) -> OwnedFormatItem {
 }
 
 /// What is wrong with a text in brackets, and the index of its byte.
-pub(crate) fn fault_in_brackets(alloc: Global, text: &[u8]) -> Option<(Reason, usize)> {
+pub(crate) fn fault_in_brackets(alloc: Global, text: &[u8]) -> Option<(BracketReason, usize)> {
     match parse_owned(alloc, text) {
         Err(InvalidDescription::Invalid { reason, index }) => Some((reason, index)),
         _ => None,

@@ -4,10 +4,11 @@ use Rattle.std.proofs.lemmas.List.{drop-drop, length-drop}
 use Rattle.time_below.specs.Tree.{Tree}
 use Rattle.time_describe.specs.Limit.{most_items}
 use Rattle.time_describe.specs.Strftime.{fails, first_part, read}
-use Rattle.time_describe.specs.StrftimeOutcome.{Fails}
-use Rattle.time_describe.specs.declared.strftime.fault.Failure.{Failure}
-use Rattle.time_describe.specs.declared.strftime.fault.Failure.TheVariants.{OutOfMemory, Invalid}
-use Rattle.time_describe.specs.declared.strftime.fault.StrftimeReason.TheVariants.{TooManyItems}
+use Rattle.time_describe.specs.Description.{Fails}
+use Rattle.time_describe.specs.declared.fault.Failure.{Failure}
+use Rattle.time_describe.specs.declared.strftime.reason.StrftimeReason.{StrftimeReason}
+use Rattle.time_describe.specs.declared.fault.Failure.TheVariants.{OutOfMemory, Invalid}
+use Rattle.time_describe.specs.declared.strftime.reason.StrftimeReason.TheVariants.{TooManyItems}
 use Rattle.time_describe.proofs.LeafLemmas.{leaves_more}
 use Rattle.time_describe.proofs.StrftimeLemmas.{part_read, part_exceeds, part_refused}
 use Rattle.time_describe.proofs.strftime.step.Goals as goal
@@ -15,7 +16,7 @@ use Rattle.time_describe.proofs.strftime.step.Goals as goal
 some : (text : List ℕ) (at : ℕ) → at < length text → 0 < length (drop at text)
 some text at h = omega (arith, length-drop at text)
 
-failed : (can_refuse : Bool) (e : Failure) (before : List Tree) (text : List ℕ) → 0 < length text → Fails can_refuse e (first_part text) → Fails can_refuse e (read before 0 text)
+failed : (can_refuse : Bool) (e : Failure StrftimeReason) (before : List Tree) (text : List ℕ) → 0 < length text → Fails can_refuse e (first_part text) → Fails can_refuse e (read before 0 text)
 failed can_refuse OutOfMemory before text some h = h
 failed can_refuse (Invalid fault) before text some h = part_refused before text fault some h
 
