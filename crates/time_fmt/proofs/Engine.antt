@@ -1,14 +1,16 @@
 -- Nodes one after another: what is written so far, and then the outcome of what is left, is the outcome of all.
-use Rattle.std.proofs.Common.{◌≡◌, ap, sym, ◌∙◌, arith, ℕ, ◌+◌, ◌≤◌, ◌++◌, List, [], ◌∷◌, map, drop, length}
-use Rattle.std.proofs.Common.{append_assoc, length-append, subst, Some, None, Result, Ok, Err}
+use Rattle.std.proofs.Common.{◌≡◌, ap, sym, ◌∙◌, arith, ℕ, zero, suc, ◌+◌, ◌-◌, ◌<◌, ◌≤◌, ◌++◌, List, [], ◌∷◌, map, drop, length}
+use Rattle.std.proofs.Common.{append_assoc, get_or, length-append, refl, subst, Some, None, Result, Ok, Err}
 use Rattle.std.specs.Prelude.{slice_get}
-use Rattle.std.proofs.lemmas.List.{append-nil, at_drop_all}
+use Rattle.std.proofs.lemmas.List.{append-nil, drop-drop, length-drop}
+use Rattle.time_below.proofs.NodeLemmas.{larger_by, next_of}
 use Rattle.time_below.specs.Facts.{Facts}
-use Rattle.time_below.specs.Tree.{Tree, Trees, trees, byte_literal, all_of, first_of, nothing, more}
+use Rattle.time_below.specs.Size.{sizes}
+use Rattle.time_below.specs.Tree.{Tree, Trees, trees, byte_literal, all_of, end, first_of, nothing, more}
 use Rattle.time_below.specs.Width.{tree_width, trees_width, are_guaranteed_text}
 use Rattle.time_fmt.specs.declared.refused.Refused.{Refused}
 use Rattle.time_fmt.specs.Description.{tree_outcome, trees_outcome}
-use Rattle.time_fmt.specs.Guarantee.{IsTextIf, AppendsTree}
+use Rattle.time_fmt.specs.Guarantee.{IsTextIf, IsWrittenUpTo, AppendsTree}
 use Rattle.time_fmt.specs.Outcome.{Outcome}
 use Rattle.time_fmt.specs.Sink.{Block, Buffer, Fits, Puts}
 use Rattle.time_fmt.proofs.EndLemmas.{whole_text}
@@ -16,51 +18,93 @@ use Rattle.time_fmt.proofs.WriteLemmas.{join_refused, join_done}
 use Rattle.time_fmt.proofs.GuaranteeLemmas.{text_more, empty_utf8}
 use Rattle.std.proofs.lemmas.Grind.{common_steps}
 
--- a list was written so far without a refusal: its rest is the rest of the outcome, and fits the capacity
-pub record Along (agrees : Type 0) (old now : Buffer) (f : Facts) (all left : Trees) (all_size left_size : ℕ)
-    : Type 0 where
-  pub state : agrees
-  pub size : left_size ≤ all_size
-  pub bytes : old.bytes ++ (trees_outcome all f).bytes ≡ now.bytes ++ (trees_outcome left f).bytes
-  pub refusal : (trees_outcome all f).refusal ≡ (trees_outcome left f).refusal
-  pub grown : old.len + length (trees_outcome all f).bytes ≡ now.len + length (trees_outcome left f).bytes
-  pub room : now.len + trees_width left ≤ now.block.capacity
-  pub within : now.len + trees_width left ≤ old.len + trees_width all
-  pub block : now.block ≡ old.block
-  pub text : IsTextIf (are_guaranteed_text left) (trees_outcome left f)
-      → IsTextIf (are_guaranteed_text all) (trees_outcome all f)
+-- ---- what is left of a list
 
--- nothing is written before the first node
-pub along_from_the_start : {agrees : Type 0} (output : Buffer) (f : Facts) (all : Trees) (size : ℕ) → agrees
-    → Fits output (trees_width all) → Along agrees output output f all all size size
-along_from_the_start output f all size agrees room = grind arith
+-- the first of a list, and the others
+pub first_of_rest : {A : Type 0} (tree : A → Tree) (nodes others : List A) (x : A) → 1 ≤ length nodes → x ≡ get_or nodes 0 x
+    → others ≡ drop 1 nodes → trees (map tree nodes) ≡ more (tree x) (trees (map tree others))
+first_of_rest tree nodes others x some is are = rw are (next_of tree nodes 0 x (omega (arith, some)) is)
 
--- the next node fits the capacity
-pub room_for_next : {agrees : Type 0} {all_size left_size : ℕ} (old now : Buffer) (f : Facts)
-    (all left others : Trees) (t : Tree) →
-    Along agrees old now f all left all_size left_size → left ≡ more t others → Fits now (tree_width t)
-room_for_next old now f all left others t along next = grind arith
+-- a list is what is left of another one
+pub record IsRest {A : Type 0} (all left : List A) : Type 0 where
+  pub small : length left ≤ length all
+  pub is : left ≡ drop (length all - length left) all
 
--- the outcome of a list is that of its next node after what was written
-pub record StopsAt (old mid : Buffer) (all first : Outcome) : Type 0 where
-  pub bytes : old.bytes ++ all.bytes ≡ mid.bytes ++ first.bytes
-  pub refusal : all.refusal ≡ first.refusal
-  pub grown : old.len + length all.bytes ≡ mid.len + length first.bytes
+pub whole_rest : {A : Type 0} (all : List A) → IsRest all all
+whole_rest all =
+    let none : 0 ≡ length all - length all = omega arith in
+    record { small = omega arith; is = ap (λ n. drop n all) none }
 
--- a list ends with a node that is refused
-pub list_refused : {agrees : Type 0} {all_size left_size : ℕ} {reason : Refused} (old mid new : Buffer)
-    (f : Facts) (all left others : Trees) (t : Tree) →
-    Along agrees old mid f all left all_size left_size → left ≡ more t others
+pub less_rest : {A : Type 0} (all left others : List A) → 1 ≤ length left → others ≡ drop 1 left → IsRest all left
+    → IsRest all others
+less_rest all left others some are rest =
+    let n = length all - length left in
+    let long : length others ≡ length left - 1 = ap length are ∙ length-drop 1 left in
+    let more : n + 1 ≡ length all - length others = omega (arith, some, long, rest.small) in
+    record {
+      small = omega (arith, long, rest.small);
+      is = are ∙ ap (drop 1) rest.is ∙ drop-drop 1 n all ∙ ap (λ k. drop k all) more;
+    }
+
+-- what is left of what is left
+pub rest_of_rest : {A : Type 0} (all left found : List A) → IsRest all left → found ≡ drop (length left - length found) left
+    → IsRest all found
+rest_of_rest all left found rest are =
+    let n = length all - length left in
+    let m = length left - length found in
+    let long : length found ≡ length left - m = ap length are ∙ length-drop m left in
+    let more : n + m ≡ length all - length found = omega (arith, long, rest.small) in
+    record {
+      small = omega (arith, long, rest.small);
+      is = are ∙ ap (drop m) rest.is ∙ drop-drop m n all ∙ ap (λ k. drop k all) more;
+    }
+
+-- it is no larger
+smaller_drop : {A : Type 0} (size : A → ℕ) (n : ℕ) (nodes : List A)
+    → sizes (map size (drop n nodes)) ≤ sizes (map size nodes)
+smaller_drop size zero nodes = omega arith
+smaller_drop size (suc n) [] = omega arith
+smaller_drop size (suc n) (x ∷ xs) = omega (arith, smaller_drop size n xs)
+
+pub smaller_rest : {A : Type 0} (size : A → ℕ) (n : ℕ) (nodes others : List A) → others ≡ drop n nodes
+    → sizes (map size others) ≤ sizes (map size nodes)
+smaller_rest size n nodes others are = rw are (smaller_drop size n nodes)
+
+-- so its first node is smaller than all
+pub first_smaller : {A : Type 0} (size : A → ℕ) (all left : List A) (x : A) → IsRest all left → 1 ≤ length left
+    → x ≡ get_or left 0 x → size x < sizes (map size all)
+first_smaller size all left x rest some is =
+    omega (arith, larger_by size left 0 x (omega (arith, some)) is, smaller_rest size _ all left rest.is)
+
+-- ---- steps one after another
+
+-- nothing is written before the first step
+pub written_from_the_start : (f : Facts) (all : Trees) (output : Buffer) → Fits output (trees_width all)
+    → IsWrittenUpTo f all all output output
+written_from_the_start f all output room = grind arith
+
+-- the next step fits the capacity
+pub room_for_next : (f : Facts) (all left others : Trees) (t : Tree) (old now : Buffer) → IsWrittenUpTo f all left old now
+    → left ≡ more t others → Fits now (tree_width t)
+room_for_next f all left others t old now so_far next = grind arith
+
+-- a list ends with a step that is refused
+pub list_refused : {reason : Refused} (f : Facts) (all left others : Trees) (t : Tree) (old mid new : Buffer)
+    → IsWrittenUpTo f all left old mid → left ≡ more t others
     → AppendsTree t f mid new (Err reason) → AppendsTree (all_of all) f old new (Err reason)
-list_refused old mid new f all left others t along next step = grind (arith, join_refused)
+list_refused f all left others t old mid new so_far next step = grind (arith, join_refused)
 
--- what was written before a node, and what the node wrote, is followed by what is left
-pub written_along : {agrees agrees_after : Type 0} {all_size left_size rest_size : ℕ} (old mid new : Buffer)
-    (f : Facts) (all left others : Trees) (t : Tree) →
-    Along agrees old mid f all left all_size left_size → left ≡ more t others → rest_size ≤ left_size
-    → AppendsTree t f mid new (Ok tt) → agrees_after
-    → Along agrees_after old new f all others all_size rest_size
-written_along old mid new f all left others t along next smaller step agrees =
+-- so does one whose rest is refused
+pub rest_refused : {reason : Refused} (f : Facts) (all left : Trees) (old mid new : Buffer)
+    → IsWrittenUpTo f all left old mid → AppendsTree (all_of left) f mid new (Err reason)
+    → AppendsTree (all_of all) f old new (Err reason)
+rest_refused f all left old mid new so_far rest = grind arith
+
+-- what was written before a step, and what the step wrote, is followed by what is left
+pub written_more : (f : Facts) (all left others : Trees) (t : Tree) (old mid new : Buffer)
+    → IsWrittenUpTo f all left old mid → left ≡ more t others → AppendsTree t f mid new (Ok tt)
+    → IsWrittenUpTo f all others old new
+written_more f all left others t old mid new so_far next step =
     let a = tree_outcome t f in
     let b = trees_outcome others f in
     let e : trees_outcome left f ≡ record { bytes = a.bytes ++ b.bytes; refusal = b.refusal } =
@@ -71,25 +115,39 @@ written_along old mid new f all left others t along next smaller step agrees =
     let width : trees_width left ≡ tree_width t + trees_width others = ap trees_width next in
     let P : Trees → Type 0 = λ ts. IsTextIf (are_guaranteed_text ts) (trees_outcome ts f) in
     record {
-      state = agrees;
-      size = omega (arith, along.size, smaller);
       bytes =
-          along.bytes ∙ ap (λ bs. mid.bytes ++ bs) bytes ∙ sym (append_assoc mid.bytes a.bytes b.bytes)
+          so_far.bytes ∙ ap (λ bs. mid.bytes ++ bs) bytes ∙ sym (append_assoc mid.bytes a.bytes b.bytes)
           ∙ ap (λ bs. bs ++ b.bytes) (sym step.ends.appended);
-      refusal = along.refusal ∙ ap (λ (o : Outcome). o.refusal) e;
-      grown = omega (arith, along.grown, length, step.ends.grown);
-      room = omega (arith, along.room, width, ap (λ (b : Block). b.capacity) step.ends.block, step.ends.within);
-      within = omega (arith, along.within, width, step.ends.within);
-      block = step.ends.block ∙ along.block;
-      text = λ rest. along.text (subst P (sym next) (text_more t others f step.text rest));
+      refusal = so_far.refusal ∙ ap (λ (o : Outcome). o.refusal) e;
+      grown = omega (arith, so_far.grown, length, step.ends.grown);
+      room = omega (arith, so_far.room, width, ap (λ (b : Block). b.capacity) step.ends.block, step.ends.within);
+      within = omega (arith, so_far.within, width, step.ends.within);
+      block = step.ends.block ∙ so_far.block;
+      text = λ rest. so_far.text (subst P (sym next) (text_more t others f step.text rest));
     }
 
--- the end of a list leaves nothing, so that all of it is written
-pub all_along : {A agrees : Type 0} {all_size left_size : ℕ} (tree : A → Tree) (nodes : List A) (i : ℕ)
-    (old now : Buffer) (f : Facts) → length nodes ≤ i
-    → Along agrees old now f (trees (map tree nodes)) (trees (map tree (drop i nodes))) all_size left_size
-    → AppendsTree (all_of (trees (map tree nodes))) f old now (Ok tt)
-all_along tree nodes i old now f past along = grind (arith, common_steps, at_drop_all, append-nil, empty_utf8)
+-- what is left of what was left
+pub written_on : (f : Facts) (all left others : Trees) (old mid new : Buffer) → IsWrittenUpTo f all left old mid
+    → IsWrittenUpTo f left others mid new → IsWrittenUpTo f all others old new
+written_on f all left others old mid new first second = record {
+  bytes = first.bytes ∙ second.bytes;
+  refusal = first.refusal ∙ second.refusal;
+  grown = omega (arith, first.grown, second.grown);
+  room = second.room;
+  within = omega (arith, first.within, second.within);
+  block = second.block ∙ first.block;
+  text = λ rest. first.text (second.text rest);
+}
+
+-- where nothing is left, all is written
+pub all_written : (f : Facts) (all left : Trees) (old now : Buffer) → left ≡ end → IsWrittenUpTo f all left old now
+    → AppendsTree (all_of all) f old now (Ok tt)
+all_written f all left old now none so_far = grind (arith, common_steps, append-nil, empty_utf8)
+
+-- nothing is left of a list without steps
+pub no_trees : {A : Type 0} (tree : A → Tree) (nodes : List A) → length nodes < 1 → trees (map tree nodes) ≡ end
+no_trees tree [] none = refl
+no_trees tree (x ∷ xs) none = let no : ⊥ = omega (arith, none) in absurd no
 
 -- bytes are appended whole
 pub appends_bytes : {count : ℕ} {old new : Buffer} (bytes : List ℕ) (f : Facts) → Puts old new count bytes

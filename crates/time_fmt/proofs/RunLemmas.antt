@@ -1,17 +1,25 @@
 -- How long dates and times of day are, and that they are what their parts give.
 use Rattle.std.proofs.Common.{◌≡◌, ℕ, ◌≤◌, ◌∷◌, [], true, false, Ok, length, arith}
 use Rattle.std.proofs.lemmas.List.{append-nil}
+use Rattle.std.proofs.lemmas.Str.{IsUtf8-from_is_utf8}
 use Rattle.std.specs.Prelude.{ℤ, is_some, unsigned_abs}
-use Rattle.time_below.specs.declared.format_description.component.Component.TheVariants as component
+use Rattle.std.specs.Str.{is_utf8}
+use Rattle.time_below.specs.declared.format_description.component.Component.{Component}
 use Rattle.time_below.specs.declared.format_description.modifier.Padding.TheVariants as padding
 use Rattle.time_below.specs.Facts.{Facts, the_date, the_time}
-use Rattle.time_fmt.specs.Description.{component_outcome}
+use Rattle.time_below.specs.Tree.{of_component, text_literal, more, end}
+use Rattle.time_below.specs.Width.{is_guaranteed_text}
+use Rattle.time_fmt.specs.Description.{tree_outcome}
 use Rattle.time_fmt.specs.Ends.{Ends}
+use Rattle.time_fmt.specs.Guarantee.{IsTextIf}
 use Rattle.time_fmt.specs.Kind.{kind_text, extended_year}
-use Rattle.time_fmt.specs.Outcome.{Outcome, done, join}
-use Rattle.time_fmt.specs.Runs.{date_run, time_run}
+use Rattle.time_fmt.specs.Runs as runs
+use Rattle.time_fmt.specs.Runs.{date_run, run_tree, three_parts, time_run}
 use Rattle.time_fmt.specs.Sink.{Buffer, Puts}
+use Rattle.time_fmt.specs.declared.runs.Run.{Run}
+use Rattle.time_fmt.specs.declared.runs.Run.TheVariants as run
 use Rattle.time_fmt.proofs.EndLemmas.{whole_text}
+use Rattle.time_fmt.proofs.GuaranteeLemmas.{text_of_component, text_more, empty_utf8}
 use Rattle.time_fmt.proofs.TextLemmas.{signed_four_to_six}
 
 -- ---- lengths
@@ -23,24 +31,38 @@ length-year year small = omega (arith, signed_four_to_six)
 
 -- ---- outcomes
 
--- three parts, and a byte between each two
-abbrev three : Outcome → ℕ → Outcome → ℕ → Outcome → Outcome
-three a x b y c = join a (join (done (x ∷ [])) (join b (join (done (y ∷ [])) (join c (done [])))))
-
 -- a date that was written is its year, its month and its day
 pub date_ends : {count : ℕ} (x y : ℕ) (f : Facts) (old new : Buffer) → is_some f.date ≡ true → count ≤ 13
     → Puts old new count (date_run x y (the_date f))
-    → Ends 13 old new (Ok tt) (three
-    (component_outcome (component.CalendarYearFullExtendedRange (record { padding = padding.Zero; sign_is_mandatory = false })) f)
-    x (component_outcome (component.MonthNumerical (record { padding = padding.Zero })) f)
-    y (component_outcome (component.Day (record { padding = padding.Zero })) f))
+    → Ends 13 old new (Ok tt) (tree_outcome (three_parts runs.year_part x runs.month_part y runs.day_part) f)
 date_ends x y f old new there most put = grind (arith, whole_text, append-nil)
 
 -- so is a time of day its hour, its minute and its second
 pub time_ends : {count : ℕ} (x y : ℕ) (f : Facts) (old new : Buffer) → is_some f.time ≡ true → count ≤ 8
     → Puts old new count (time_run x y (the_time f))
-    → Ends 8 old new (Ok tt) (three
-    (component_outcome (component.Hour24 (record { padding = padding.Zero })) f)
-    x (component_outcome (component.Minute (record { padding = padding.Zero })) f)
-    y (component_outcome (component.Second (record { padding = padding.Zero })) f))
+    → Ends 8 old new (Ok tt) (tree_outcome (three_parts runs.hour_part x runs.minute_part y runs.second_part) f)
 time_ends x y f old new there most put = grind (arith, whole_text, append-nil)
+
+-- ---- texts
+
+-- three components are a text where the bytes between them are
+three_are_text : (p q r : Component) (first second : ℕ) (f : Facts) → is_utf8 (first ∷ []) ≡ true → is_utf8 (second ∷ []) ≡ true
+    → IsTextIf (is_guaranteed_text (three_parts p first q second r)) (tree_outcome (three_parts p first q second r) f)
+three_are_text p q r first second f is_first is_second =
+    let third = more (of_component r) end in
+    let from_second_byte = more (text_literal (second ∷ [])) third in
+    let from_second = more (of_component q) from_second_byte in
+    let from_first_byte = more (text_literal (first ∷ [])) from_second in
+    text_more (of_component p) from_first_byte f (λ _. text_of_component p f)
+    (text_more (text_literal (first ∷ [])) from_second f (λ _. IsUtf8-from_is_utf8 (first ∷ []) is_first)
+    (text_more (of_component q) from_second_byte f (λ _. text_of_component q f)
+    (text_more (text_literal (second ∷ [])) third f (λ _. IsUtf8-from_is_utf8 (second ∷ []) is_second)
+    (text_more (of_component r) end f (λ _. text_of_component r f) (λ _. empty_utf8)))))
+
+-- a run is a text
+pub run_text : (r : Run) (f : Facts) → IsTextIf (is_guaranteed_text (run_tree r)) (tree_outcome (run_tree r) f)
+run_text run.Empty f = λ _. empty_utf8
+run_text (run.Date b) f =
+    three_are_text runs.year_part runs.month_part runs.day_part b.first b.second f b.first_is_text b.second_is_text
+run_text (run.Time b) f =
+    three_are_text runs.hour_part runs.minute_part runs.second_part b.first b.second f b.first_is_text b.second_is_text

@@ -4,15 +4,76 @@
 ghost use Rattle.std.specs.Prelude.{◌≡◌, ◌+◌, ◌≤◌, ◌<◌, IsTrue, length};
 ghost use Rattle.time_below.specs.Facts.{the_date, the_time};
 ghost use Rattle.time_below.specs.Month.{month_number};
-ghost use Rattle.time_fmt.specs.Runs.{date_run, time_run, two_after, year_text};
+ghost use Rattle.time_below.specs.Width.{tree_width};
+ghost use Rattle.time_fmt.specs.Guarantee.{AppendsTree};
+ghost use Rattle.time_fmt.specs.Runs.{date_run, run_tree, time_run, two_after, year_text};
 ghost use Rattle.time_fmt.specs.Sink.{Fits, Puts};
 
 use crate::parts;
+use crate::refused::Refused;
+use crate::separators::Separators;
 use crate::sink::Sink;
 use crate::writers::{fmt_calendar_year_full_extended_range, format_two_digits_pad_zero};
 use time_below::Month;
 use time_digits::ru8;
 use time_provide::ComponentProvider;
+
+/// A run of components, which are written in one step.
+#[derive(Clone, Copy)]
+pub enum Run {
+    /// None, where a literal stands alone.
+    Empty,
+    /// `[year]`, `[month]` and `[day]`.
+    Date(Separators),
+    /// `[hour]`, `[minute]` and `[second]`.
+    Time(Separators),
+}
+
+impl Run {
+    /// The most bytes of its text.
+    pub fn width(&self) -> usize
+        ensures { result ≡ tree_width (run_tree self.now) }
+    {
+        match self {
+            Run::Empty => 0,
+            Run::Date(_) => 13,
+            Run::Time(_) => 8,
+        }
+    }
+}
+
+/// Appends the text of a run, or returns the refusal of a value without its components.
+#[inline(always)]
+pub fn write_run<S: Sink, V: ComponentProvider>(
+    run: &Run,
+    output: &mut S,
+    value: &V,
+    state: &mut V::State,
+) -> Result<(), Refused>
+    requires room { Fits (S.buffer output.old) (tree_width (run_tree run.now)) }
+    requires agrees { V.agrees state.old value.now }
+    ensures appends { AppendsTree (run_tree run.now) (V.facts value.now)
+        (S.buffer output.old) (S.buffer output.new) result }
+    ensures agrees { V.agrees state.new value.now }
+{
+    match run {
+        Run::Time(between) => {
+            if !V::SUPPLIES_TIME {
+                return Err(Refused::Unsupplied);
+            }
+            write_time((between.first, between.second), output, value, state);
+            Ok(())
+        }
+        Run::Date(between) => {
+            if !V::SUPPLIES_DATE {
+                return Err(Refused::Unsupplied);
+            }
+            write_date((between.first, between.second), output, value, state);
+            Ok(())
+        }
+        Run::Empty => Ok(()),
+    }
+}
 
 /// Appends the year of a value in at least four digits, after a sign if it is negative or above
 /// 9,999, and the month and the day in two digits each, with a byte before each of these two.
@@ -79,7 +140,8 @@ fn write_two_after<S: Sink>(
     second: ru8<0, 99>,
 ) -> usize
     requires room { Fits (S.buffer output.old) 6 }
-    ensures writes { Puts (S.buffer output.old) (S.buffer output.new) 6 (two_after between.0 first between.1 second) }
+    ensures writes { Puts (S.buffer output.old) (S.buffer output.new) 6
+        (two_after between.0 first between.1 second) }
     ensures count { result ≡ 6 }
 {
     output.put_byte(between.0);

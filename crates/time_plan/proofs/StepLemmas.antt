@@ -5,18 +5,17 @@ use Rattle.std.proofs.lemmas.List.{append-nil}
 use Rattle.std.proofs.lemmas.Str.{IsUtf8-from_is_utf8, is_utf8-from_IsUtf8}
 use Rattle.std.specs.Str.{is_utf8}
 use Rattle.time_below.specs.Facts.{Facts}
-use Rattle.time_below.specs.Tree.{of_component, text_literal, more, end}
+use Rattle.time_below.specs.Tree.{more, end}
 use Rattle.time_below.specs.Width.{tree_width, is_guaranteed_text}
 use Rattle.time_fmt.specs.Description.{tree_outcome}
 use Rattle.time_fmt.specs.Guarantee.{IsTextIf}
 use Rattle.time_fmt.specs.Outcome.{Outcome, Refusal, done, join}
+use Rattle.time_fmt.specs.declared.runs.Run.TheVariants as run
 use Rattle.time_fmt.proofs.GuaranteeLemmas.{text_of_component, text_more, empty_utf8}
+use Rattle.time_fmt.proofs.RunLemmas.{run_text}
 use Rattle.time_plan.specs.Literal.{literal_bytes, literal_tree}
-use Rattle.time_plan.specs.Shown.{part_component, three_parts, shown_tree}
+use Rattle.time_plan.specs.Shown.{shown_tree}
 use Rattle.time_plan.specs.Steps.{step_tree}
-use Rattle.time_plan.specs.declared.shown.Part.{Part}
-use Rattle.time_plan.specs.declared.shown.Part.TheVariants as part
-use Rattle.time_plan.specs.declared.shown.Run.TheVariants as run
 use Rattle.time_plan.specs.declared.shown.Shown.{Shown}
 use Rattle.time_plan.specs.declared.shown.Shown.TheVariants as shown
 use Rattle.time_plan.specs.declared.step.Step.{Step}
@@ -74,28 +73,10 @@ one_byte (b ∷ c ∷ bs) some few = let no : ⊥ = omega arith in absurd no
 
 -- ---- what is shown
 
--- three parts are a text where the bytes between them are
-three_are_text : (p q r : Part) (first second : ℕ) (f : Facts) → is_utf8 (first ∷ []) ≡ true → is_utf8 (second ∷ []) ≡ true
-    → IsTextIf (is_guaranteed_text (three_parts p first q second r)) (tree_outcome (three_parts p first q second r) f)
-three_are_text p q r first second f is_first is_second =
-    let third = more (of_component (part_component r)) end in
-    let from_second_byte = more (text_literal (second ∷ [])) third in
-    let from_second = more (of_component (part_component q)) from_second_byte in
-    let from_first_byte = more (text_literal (first ∷ [])) from_second in
-    text_more (of_component (part_component p)) from_first_byte f (λ _. text_of_component (part_component p) f)
-    (text_more (text_literal (first ∷ [])) from_second f (λ _. IsUtf8-from_is_utf8 (first ∷ []) is_first)
-    (text_more (of_component (part_component q)) from_second_byte f (λ _. text_of_component (part_component q) f)
-    (text_more (text_literal (second ∷ [])) third f (λ _. IsUtf8-from_is_utf8 (second ∷ []) is_second)
-    (text_more (of_component (part_component r)) end f (λ _. text_of_component (part_component r) f) (λ _. empty_utf8)))))
-
 -- what is shown is a text
 shown_text : (s : Shown) (f : Facts) → IsTextIf (is_guaranteed_text (shown_tree s)) (tree_outcome (shown_tree s) f)
 shown_text (shown.Component c) f = λ _. text_of_component c f
-shown_text (shown.Run run.Empty) f = λ _. empty_utf8
-shown_text (shown.Run (run.Date b)) f =
-    three_are_text part.Year part.Month part.Day b.first b.second f b.first_is_text b.second_is_text
-shown_text (shown.Run (run.Time b)) f =
-    three_are_text part.Hour part.Minute part.Second b.first b.second f b.first_is_text b.second_is_text
+shown_text (shown.Run r) f = run_text r f
 
 pub shown_guaranteed : (s : Shown) → is_guaranteed_text (shown_tree s) ≡ true
 shown_guaranteed (shown.Component c) = refl

@@ -6,7 +6,8 @@ use Rattle.time_below.specs.Tree.{Tree, Trees, of_component, text_literal, more,
 use Rattle.time_below.specs.Width.{is_guaranteed_text, are_guaranteed_text}
 use Rattle.time_fmt.specs.Description.{tree_outcome, trees_outcome}
 use Rattle.time_fmt.specs.Outcome.{Outcome, done, join}
-use Rattle.time_plan.specs.Shown.{part_component, three_parts}
+use Rattle.time_fmt.specs.Runs.{three_parts}
+use Rattle.time_plan.specs.Shown.{part_component}
 use Rattle.time_plan.specs.Steps.{IsAlike, Begins}
 use Rattle.time_plan.specs.declared.shown.Part.{Part}
 use Rattle.time_plan.proofs.StepLemmas.{join_assoc, join_nothing}
@@ -26,7 +27,7 @@ regrouped a x b y c o =
 three_begin : (p q r : Part) (x y : ℕ) (a b c : Tree) (left : Trees) → IsAlike a (of_component (part_component p))
     → IsAlike b (of_component (part_component q)) → IsAlike c (of_component (part_component r))
     → Begins (more a (more (text_literal (x ∷ [])) (more b (more (text_literal (y ∷ [])) (more c left)))))
-    (three_parts p x q y r) left
+    (three_parts (part_component p) x (part_component q) y (part_component r)) left
 three_begin p q r x y a b c left is_a is_b is_c = record {
   outcome = λ f.
       ap (λ o. join o (join (done (x ∷ [])) (join (tree_outcome b f) (join (done (y ∷ [])) (join (tree_outcome c f) (trees_outcome left f)))))) (is_a.same_outcome f)
@@ -46,7 +47,7 @@ pub run_begins : (p q r is_p is_q is_r : Part) (x y : ℕ) (a s b t c : Tree) (l
     → IsAlike a (of_component (part_component p)) → s ≡ text_literal (x ∷ [])
     → IsAlike b (of_component (part_component q)) → t ≡ text_literal (y ∷ [])
     → IsAlike c (of_component (part_component r)) → p ≡ is_p → q ≡ is_q → r ≡ is_r
-    → Begins (more a (more s (more b (more t (more c left))))) (three_parts is_p x is_q y is_r) left
+    → Begins (more a (more s (more b (more t (more c left))))) (three_parts (part_component is_p) x (part_component is_q) y (part_component is_r)) left
 run_begins p q r is_p is_q is_r x y a s b t c left is_a is_s is_b is_t is_c same_p same_q same_r =
     rw (is_s, is_t, ← same_p, ← same_q, ← same_r) (three_begin p q r x y a b c left is_a is_b is_c)
 

@@ -9,10 +9,11 @@ ghost use Rattle.time_plan.specs.Steps.{step_trees, Extends};
 
 use crate::literal::Literal;
 use crate::runs::{kept_of, run_of};
-use crate::shown::{Run, Shown};
+use crate::shown::Shown;
 use crate::step::Step;
 use std::alloc::{AllocError, Global};
 use time_below::format_description::{Component, Layer, Node};
+use time_fmt::Run;
 
 /// Adds the nodes in order. A date or a time of day is one step in place of three.
 #[cycle(flatten)]

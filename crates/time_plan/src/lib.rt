@@ -13,7 +13,8 @@ mod write;
 
 pub use literal::Literal;
 pub use plan::Plan;
-pub use shown::{Run, Separators, Shown};
+pub use shown::Shown;
 pub use step::Step;
 pub use time_describe::{InvalidDescription, InvalidStrftime};
+pub use time_fmt::{Run, Separators};
 pub use write::{end_shown, write_steps};

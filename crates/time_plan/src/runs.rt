@@ -8,11 +8,13 @@ ghost use Rattle.time_below.specs.Facts.{Facts};
 ghost use Rattle.time_below.specs.Tree.{Trees, of_component, text_literal, more, trees};
 ghost use Rattle.time_below.specs.Width.{component_width};
 ghost use Rattle.time_fmt.specs.Description.{component_outcome};
-ghost use Rattle.time_plan.specs.Shown.{part_component, run_tree};
+ghost use Rattle.time_fmt.specs.Runs.{run_tree};
+ghost use Rattle.time_plan.specs.Shown.{part_component};
 ghost use Rattle.time_plan.specs.Steps.{IsAlike, Begins};
 
-use crate::shown::{Part, Run, Separators};
+use crate::shown::Part;
 use time_below::format_description::{Component, Layer, Node, component_width};
+use time_fmt::{Run, Separators};
 
 /// The date or the time of day at the front of the nodes, and the nodes after it.
 #[inline(always)]

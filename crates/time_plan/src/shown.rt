@@ -1,11 +1,11 @@
 //! What a step shows of a value.
 //!
 //! Without `inline` the compiler leaves a call of the function that has it.
-ghost use Rattle.std.specs.Prelude.{◌≡◌, ◌∷◌, [], true, IfSome};
-ghost use Rattle.std.specs.Str.{is_utf8};
+ghost use Rattle.std.specs.Prelude.{◌≡◌, IfSome};
 
 use time_below::format_description::modifier::Padding;
 use time_below::format_description::{Component, component_width, modifier};
+use time_fmt::Run;
 
 /// What a step shows before its literal. Two kinds are told apart by one comparison.
 #[derive(Clone, Copy)]
@@ -26,33 +26,9 @@ impl Shown {
     {
         match self {
             Shown::Component(component) => component_width(component),
-            Shown::Run(Run::Empty) => 0,
-            Shown::Run(Run::Date(_)) => 13,
-            Shown::Run(Run::Time(_)) => 8,
+            Shown::Run(run) => run.width(),
         }
     }
-}
-
-/// A run of components.
-#[derive(Clone, Copy)]
-pub enum Run {
-    /// None, where a literal stands alone.
-    Empty,
-    /// `[year]`, `[month]` and `[day]`.
-    Date(Separators),
-    /// `[hour]`, `[minute]` and `[second]`.
-    Time(Separators),
-}
-
-/// The bytes between three components, of which each is a text.
-#[derive(Clone, Copy)]
-pub struct Separators {
-    /// The byte before the second component.
-    pub first: u8,
-    /// The byte before the third component.
-    pub second: u8,
-    ghost first_is_text: { is_utf8 (first ∷ []) ≡ true },
-    ghost second_is_text: { is_utf8 (second ∷ []) ≡ true },
 }
 
 /// A part of a date or of a time of day, with zeros before it and no sign that is not needed.

@@ -1,28 +1,27 @@
-//! The loop over the steps of a plan.
+//! The steps of a plan, as they are written.
 //!
 //! Without `inline(always)` the compiler leaves calls of the functions that have it.
 //! `inline(never)` keeps long or rare bodies out of their callers.
-ghost use Rattle.std.specs.Prelude.{◌≡◌, MatchOption, length};
+ghost use Rattle.std.specs.Prelude.{◌≡◌, MatchOption, false, length};
 ghost use Rattle.time_below.specs.Tree.{all_of};
 ghost use Rattle.time_below.specs.Width.{tree_width, trees_width};
 ghost use Rattle.time_fmt.specs.Description.{tree_outcome};
 ghost use Rattle.time_fmt.specs.Ends.{Ends};
-ghost use Rattle.time_fmt.specs.Guarantee.{AppendsLeaf, AppendsTree};
+ghost use Rattle.time_fmt.specs.Guarantee.{AppendsTree};
 ghost use Rattle.time_fmt.specs.Sink.{Fits, Puts, Ready};
 ghost use Rattle.time_plan.specs.Literal.{literal_bytes};
-ghost use Rattle.time_plan.specs.Shown.{run_tree, shown_tree};
+ghost use Rattle.time_plan.specs.Shown.{shown_tree};
 ghost use Rattle.time_plan.specs.Steps.{step_tree, step_trees};
 
 use crate::literal::Literal;
-use crate::shown::{Run, Shown};
+use crate::shown::Shown;
 use crate::step::Step;
 use time_fmt::writers::write_bytes;
-use time_fmt::{Refused, Sink, end_component, write_date, write_often, write_time};
+use time_fmt::{Refused, Sink, WriteStep, end_component, write_all, write_often, write_run};
 use time_provide::ComponentProvider;
 
-/// Writes the steps in order, up to the first that is refused, and returns its refusal. The sink is
-/// taken out of its borrow meanwhile, so that its address and its length stay in registers from one
-/// step to the next.
+/// Writes the steps in order, up to the first that is refused, and returns its refusal. None has
+/// items of its own, so that none is left.
 #[inline(never)]
 pub fn write_steps<S: Sink, V: ComponentProvider>(
     steps: &[Step],
@@ -36,51 +35,39 @@ pub fn write_steps<S: Sink, V: ComponentProvider>(
         (S.buffer output.old) (S.buffer output.new) result }
     ensures agrees { V.agrees state.new value.now }
 {
-    let mut taken = output.take_out();
-    for step in steps {
-        match write_step(step, &mut taken, value, state) {
-            Some(Ok(())) => {}
-            Some(Err(refused)) => {
-                output.put_back(taken);
-                return Err(refused);
-            }
-            None => {
-                let mut apart = taken;
-                match write_seldom(step, &mut apart, value, state) {
-                    Ok(_) => taken = apart,
-                    Err(refused) => {
-                        output.put_back(apart);
-                        return Err(refused);
-                    }
-                }
-            }
-        }
-    }
-    output.put_back(taken);
+    write_all(steps, output, value, state)?;
     Ok(())
 }
 
-/// Writes a step that is met often, and returns its refusal, if it is refused. Of any other it
-/// writes nothing, and returns `None`. It becomes part of the loop.
-fn write_step<S: Sink, V: ComponentProvider>(
-    step: &Step,
-    output: &mut S,
-    value: &V,
-    state: &mut V::State,
-) -> Option<Result<(), Refused>>
-    requires room { Fits (S.buffer output.old) (tree_width (step_tree step.now)) }
-    requires agrees { V.agrees state.old value.now }
-    ensures appends { AppendsLeaf (step_tree step.now) (V.facts value.now)
-        (S.buffer output.old) (S.buffer output.new) result }
-    ensures agrees { V.agrees state.new value.now }
-{
-    match write_shown(&step.shown, output, value, state) {
-        Some(Ok(())) => {
-            write_literal(output, &step.literal);
-            Some(Ok(()))
+impl WriteStep for Step {
+    ghost tree_of = { step_tree };
+
+    ghost may_have_items = { λ _. false };
+
+    fn write_often<S: Sink, V: ComponentProvider>(
+        &self,
+        output: &mut S,
+        value: &V,
+        state: &mut V::State,
+    ) -> Option<Result<(), Refused>> {
+        match write_shown(&self.shown, output, value, state) {
+            Some(Ok(())) => {
+                write_literal(output, &self.literal);
+                Some(Ok(()))
+            }
+            Some(Err(refused)) => Some(Err(refused)),
+            None => None,
         }
-        Some(Err(refused)) => Some(Err(refused)),
-        None => None,
+    }
+
+    #[inline(always)]
+    fn write_seldom<S: Sink, V: ComponentProvider>(
+        &self,
+        output: &mut S,
+        value: &V,
+        state: &mut V::State,
+    ) -> Option<Result<(), Refused>> {
+        Some(write_step(self, output, value, state))
     }
 }
 
@@ -95,7 +82,8 @@ fn write_shown<S: Sink, V: ComponentProvider>(
     requires ready { Ready (S.buffer output.old) (tree_width (shown_tree shown.now))
         (V.agrees state.old value.now) }
     ensures writes { MatchOption result (S.buffer output.new ≡ S.buffer output.old)
-        (λ answer. Ends (tree_width (shown_tree shown.now)) (S.buffer output.old) (S.buffer output.new) answer
+        (λ answer. Ends (tree_width (shown_tree shown.now))
+        (S.buffer output.old) (S.buffer output.new) answer
         (tree_outcome (shown_tree shown.now) (V.facts value.now))) × V.agrees state.new value.now }
 {
     match shown {
@@ -104,42 +92,9 @@ fn write_shown<S: Sink, V: ComponentProvider>(
     }
 }
 
-/// Writes a run of components. A value without them is refused.
-#[inline(always)]
-fn write_run<S: Sink, V: ComponentProvider>(
-    run: &Run,
-    output: &mut S,
-    value: &V,
-    state: &mut V::State,
-) -> Result<(), Refused>
-    requires room { Fits (S.buffer output.old) (tree_width (run_tree run.now)) }
-    requires agrees { V.agrees state.old value.now }
-    ensures ends { Ends (tree_width (run_tree run.now)) (S.buffer output.old) (S.buffer output.new) result
-        (tree_outcome (run_tree run.now) (V.facts value.now)) }
-    ensures agrees { V.agrees state.new value.now }
-{
-    match run {
-        Run::Time(between) => {
-            if !V::SUPPLIES_TIME {
-                return Err(Refused::Unsupplied);
-            }
-            write_time((between.first, between.second), output, value, state);
-            Ok(())
-        }
-        Run::Date(between) => {
-            if !V::SUPPLIES_DATE {
-                return Err(Refused::Unsupplied);
-            }
-            write_date((between.first, between.second), output, value, state);
-            Ok(())
-        }
-        Run::Empty => Ok(()),
-    }
-}
-
 /// Writes any step, or returns the refusal of what it shows.
 #[inline(never)]
-fn write_seldom<S: Sink, V: ComponentProvider>(
+fn write_step<S: Sink, V: ComponentProvider>(
     step: &Step,
     output: &mut S,
     value: &V,
@@ -169,7 +124,8 @@ pub fn end_shown<S: Sink, V: ComponentProvider>(
 ) -> Result<(), Refused>
     requires room { Fits (S.buffer output.old) (tree_width (shown_tree shown.now)) }
     requires agrees { V.agrees state.old value.now }
-    ensures ends { Ends (tree_width (shown_tree shown.now)) (S.buffer output.old) (S.buffer output.new) result
+    ensures ends { Ends (tree_width (shown_tree shown.now))
+        (S.buffer output.old) (S.buffer output.new) result
         (tree_outcome (shown_tree shown.now) (V.facts value.now)) }
     ensures agrees { V.agrees state.new value.now }
 {
@@ -184,7 +140,8 @@ pub fn end_shown<S: Sink, V: ComponentProvider>(
 #[inline(always)]
 fn write_literal<S: Sink>(output: &mut S, literal: &Literal) -> usize
     requires room { Fits (S.buffer output.old) (length (literal_bytes literal.now)) }
-    ensures writes { Puts (S.buffer output.old) (S.buffer output.new) result (literal_bytes literal.now) }
+    ensures writes { Puts (S.buffer output.old) (S.buffer output.new) result
+        (literal_bytes literal.now) }
 {
     let bytes = match literal {
         Literal::Byte(byte) => {

@@ -2,22 +2,22 @@
 //!
 //! Without `inline(always)` the compiler leaves calls of the functions that have it. `cold` and
 //! `inline(never)` keep long or rare bodies out of their callers.
-ghost use Rattle.std.specs.Prelude.{map};
+ghost use Rattle.std.specs.Prelude.{map, true};
 ghost use Rattle.time_below.specs.Tree.{all_of, trees};
 ghost use Rattle.time_below.specs.Width.{tree_width, trees_width};
-ghost use Rattle.time_fmt.specs.Guarantee.{AppendsLeaf, AppendsTree};
+ghost use Rattle.time_fmt.specs.Guarantee.{AppendsTree};
 ghost use Rattle.time_fmt.specs.Sink.{Fits};
 
 use crate::component::{end_component, write_current, write_often};
 use crate::refused::Refused;
 use crate::sink::Sink;
+use crate::step::{WriteStep, write_all};
 use crate::writers::{write, write_bytes, write_literal};
 use time_below::format_description::{Layer, Node};
 use time_provide::ComponentProvider;
 
-/// Writes the nodes in order, up to the first that is refused, and returns its refusal. The sink is
-/// taken out of its borrow meanwhile, so that its address and its length stay in registers from one
-/// leaf to the next.
+/// Writes the nodes in order, up to the first that is refused, and returns its refusal. One with
+/// items of its own is written by a call, after which the loop goes on behind it.
 #[cycle(engine)]
 #[inline(always)]
 pub(super) fn write_nodes<T: Node, S: Sink, V: ComponentProvider>(
@@ -32,99 +32,51 @@ pub(super) fn write_nodes<T: Node, S: Sink, V: ComponentProvider>(
         (S.buffer output.old) (S.buffer output.new) result }
     ensures agrees { V.agrees state.new value.now }
 {
-    let mut taken = output.take_out();
-    for node in nodes {
-        match write_leaf(node, &mut taken, value, state) {
-            Some(Ok(())) => {}
-            Some(Err(refused)) => {
-                output.put_back(taken);
-                return Err(refused);
-            }
-            None => {
-                let mut apart = taken;
-                match write_seldom(node, &mut apart, value, state) {
-                    Some(Ok(())) => taken = apart,
-                    Some(Err(refused)) => {
-                        output.put_back(apart);
-                        return Err(refused);
-                    }
-                    None => {
-                        output.put_back(apart);
-                        write_inner(node, output, value, state)?;
-                        taken = output.take_out();
-                    }
-                }
-            }
-        }
+    let mut left = nodes;
+    while let [node, behind @ ..] = write_all(left, output, value, state)? {
+        write_node(node, output, value, state)?;
+        left = behind;
     }
-    output.put_back(taken);
     Ok(())
 }
 
-/// Writes a literal, or a component that is met often, and returns its refusal, if it is refused.
-/// Of any other node it writes nothing, and returns `None`. It becomes part of the loop over a
-/// list.
-#[inline(always)]
-fn write_leaf<T: Node, S: Sink, V: ComponentProvider>(
-    node: &T,
-    output: &mut S,
-    value: &V,
-    state: &mut V::State,
-) -> Option<Result<(), Refused>>
-    requires room { Fits (S.buffer output.old) (tree_width (T.tree node.now)) }
-    requires agrees { V.agrees state.old value.now }
-    ensures appends { AppendsLeaf (T.tree node.now) (V.facts value.now)
-        (S.buffer output.old) (S.buffer output.new) result }
-    ensures agrees { V.agrees state.new value.now }
-{
-    let bytes = match node.layer() {
-        Layer::Bytes(bytes) => bytes,
-        Layer::Text(text) => text.as_bytes(),
-        Layer::Component(component) => return write_often(component, output, value, state),
-        _ => return None,
-    };
-    write_literal(output, bytes);
-    Some(Ok(()))
-}
+/// Each node is a step.
+impl<T: Node> WriteStep for T {
+    ghost tree_of = { T.tree };
 
-/// Writes a component that is not deprecated, and returns its refusal, if it is refused. Of any
-/// other node it writes nothing, and returns `None`.
-#[inline(always)]
-fn write_seldom<T: Node, S: Sink, V: ComponentProvider>(
-    node: &T,
-    output: &mut S,
-    value: &V,
-    state: &mut V::State,
-) -> Option<Result<(), Refused>>
-    requires room { Fits (S.buffer output.old) (tree_width (T.tree node.now)) }
-    requires agrees { V.agrees state.old value.now }
-    ensures appends { AppendsLeaf (T.tree node.now) (V.facts value.now)
-        (S.buffer output.old) (S.buffer output.new) result }
-    ensures agrees { V.agrees state.new value.now }
-{
-    match node.layer() {
-        Layer::Component(component) => write_current(component, output, value, state),
-        _ => None,
+    ghost may_have_items = { λ _. true };
+
+    /// Writes a literal, or a component that is met often.
+    #[inline(always)]
+    fn write_often<S: Sink, V: ComponentProvider>(
+        &self,
+        output: &mut S,
+        value: &V,
+        state: &mut V::State,
+    ) -> Option<Result<(), Refused>> {
+        let bytes = match self.layer() {
+            Layer::Bytes(bytes) => bytes,
+            Layer::Text(text) => text.as_bytes(),
+            Layer::Component(component) => return write_often(component, output, value, state),
+            _ => return None,
+        };
+        write_literal(output, bytes);
+        Some(Ok(()))
     }
-}
 
-/// Writes an item of a list by a cold call, so that the loop asks last whether an item has items of
-/// its own.
-#[cycle(engine)]
-#[cold]
-#[inline(never)]
-fn write_inner<T: Node, S: Sink, V: ComponentProvider>(
-    node: &T,
-    output: &mut S,
-    value: &V,
-    state: &mut V::State,
-) -> Result<(), Refused>
-    requires room { Fits (S.buffer output.old) (tree_width (T.tree node.now)) }
-    requires agrees { V.agrees state.old value.now }
-    ensures appends { AppendsTree (T.tree node.now) (V.facts value.now) (S.buffer output.old) (S.buffer output.new) result }
-    ensures agrees { V.agrees state.new value.now }
-{
-    write_node(node, output, value, state)
+    /// Writes a component that is not deprecated.
+    #[inline(always)]
+    fn write_seldom<S: Sink, V: ComponentProvider>(
+        &self,
+        output: &mut S,
+        value: &V,
+        state: &mut V::State,
+    ) -> Option<Result<(), Refused>> {
+        match self.layer() {
+            Layer::Component(component) => write_current(component, output, value, state),
+            _ => None,
+        }
+    }
 }
 
 /// Appends the text of the node, up to the first component that is refused, and returns its
@@ -139,7 +91,8 @@ pub(super) fn write_node<T: Node, S: Sink, V: ComponentProvider>(
 ) -> Result<(), Refused>
     requires room { Fits (S.buffer output.old) (tree_width (T.tree node.now)) }
     requires agrees { V.agrees state.old value.now }
-    ensures appends { AppendsTree (T.tree node.now) (V.facts value.now) (S.buffer output.old) (S.buffer output.new) result }
+    ensures appends { AppendsTree (T.tree node.now) (V.facts value.now)
+        (S.buffer output.old) (S.buffer output.new) result }
     ensures agrees { V.agrees state.new value.now }
 {
     match node.layer() {

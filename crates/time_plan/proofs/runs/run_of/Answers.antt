@@ -1,5 +1,5 @@
 use Rattle.std.proofs.lemmas.List.{take_rest}
-use Rattle.time_plan.specs.Shown.{run_tree}
+use Rattle.time_fmt.specs.Runs.{run_tree}
 use Rattle.time_plan.proofs.ThreeLemmas.{front_begins}
 use Rattle.time_plan.proofs.runs.run_of.Goals as goal
 

@@ -1,5 +1,5 @@
 use Rattle.time_fmt.proofs.GuaranteeLemmas.{leaf_of_written}
-use Rattle.time_fmt.proofs.formattable.engine.write_leaf.Goals as goal
+use Rattle.time_fmt.proofs.formattable.engine.AnyWriteStep.write_often.Goals as goal
 
 pub returns-in-Component-clause-appends : goal.returns-in-Component-clause-appends
 returns-in-Component-clause-appends g c = rw (← c.in-Component.ensures.tree)
