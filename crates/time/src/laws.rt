@@ -3,6 +3,7 @@
 ghost use Rattle.std.specs.Prelude.{◌≡◌, IsSomeAnd};
 ghost use Rattle.time.specs.DisplayText.{date_items, time_items, offset_items, date_time_items, utc_items, local_items, Spell};
 
+use crate::parse_iso8601::NotReadByIso8601;
 use crate::parse_value::NotReadByPlan;
 use std::fmt::Display;
 use time_below::{Date, OffsetDateTime, PlainDateTime, Time, Timestamp, UtcDateTime, UtcOffset};
@@ -60,4 +61,9 @@ pub fn timestamp_is_shown_by_its_description(value: Timestamp)
 /// A clone of an error of reading by a plan is the same.
 pub fn clones_of_errors(error: NotReadByPlan, copy: NotReadByPlan)
     ensures { ⟦<NotReadByPlan as Clone>⟧.is_clone error copy → copy ≡ error }
+{}
+
+/// A clone of an error of reading by a configuration of ISO 8601 is the same.
+pub fn clones_of_iso8601_errors(error: NotReadByIso8601, copy: NotReadByIso8601)
+    ensures { ⟦<NotReadByIso8601 as Clone>⟧.is_clone error copy → copy ≡ error }
 {}

@@ -20,6 +20,7 @@ pub mod laws;
 pub mod literals;
 pub mod log;
 pub mod macros;
+mod parse_iso8601;
 mod parse_value;
 pub mod parsing;
 pub mod parts;

@@ -1,6 +1,9 @@
-//! Texts of RFC 3339, RFC 2822, stamps and plans, read back.
+//! Texts of RFC 3339, RFC 2822, ISO 8601, stamps and plans, read back.
+pub use crate::parse_iso8601::NotReadByIso8601;
 pub use crate::parse_value::{NotReadByPlan, Parsable};
-pub use time_read::{Expected, LenientReader, Names, NotRead, Profile, rfc2822, rfc3339, stamp};
+pub use time_read::{
+    Expected, LenientReader, Names, NotRead, Profile, iso8601, rfc2822, rfc3339, stamp,
+};
 
 /// Texts of plans.
 pub mod plan {

@@ -9,6 +9,7 @@ use time::format_description::{Plan, parse_owned};
 use time::macros::datetime;
 use time::parsing::rfc3339;
 use time::parts::*;
+use time::prelude::*;
 use time::{OffsetDateTime, UtcOffset};
 use time_jiff::{LocalOffset, NowLocal};
 
@@ -133,6 +134,8 @@ fn texts_are_read(rt: HostRuntime) -> Result<(), Fail> {
     let moment = rfc3339::read(b"2026-11-22T09:55:06.12-06:00")?;
     assert_that(&rt, moment.unix_timestamp() == 1_795_362_906);
     let moment = rfc3339::read_lenient(b"2026-11-22t09:55:06.12-06:00")?;
+    assert_that(&rt, moment.unix_timestamp() == 1_795_362_906);
+    let moment = OffsetDateTime::parse("2026-11-22T09:55:06.120000000-06:00", &Iso8601::default())?;
     assert_that(&rt, moment.unix_timestamp() == 1_795_362_906);
     Ok(())
 }
