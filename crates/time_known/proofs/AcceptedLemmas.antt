@@ -34,11 +34,11 @@ pub usual_accepted : (c : Choices) (k : DateKind) (has_separators : Bool) (digit
 usual_accepted c k has_separators digits sign d t o text e accepted = grind (arith, common_steps, test_is_passed)
 
 -- a year that is refused is refused by the text of these choices
-pub usual_year_refused : (c : Choices) (k : DateKind) (u : Usual) (d : DateFacts) (t : TimeOfDay) (o : Offset) (text : List ℕ)
-    → c ≡ choices_of k u
-    → checked_text 0 25 (year_of_kind k d) (unsigned_abs o.hours) (unsigned_abs o.seconds) text ≡ refused_for out.Year
+pub usual_year_refused : (c : Choices) (u : Usual) (d : DateFacts) (t : TimeOfDay) (o : Offset) (text : List ℕ)
+    → c ≡ choices_of u
+    → checked_text 0 25 d.year (unsigned_abs o.hours) (unsigned_abs o.seconds) text ≡ refused_for out.Year
     → iso_of_groups components.DateTimeOffset c d t o ≡ refused_for out.Year
-usual_year_refused c k u d t o text e refused = grind (arith, common_steps, any_hour)
+usual_year_refused c u d t o text e refused = grind (arith, common_steps, any_hour)
 
 -- the refusals of a text by these choices are those of its year and of the seconds of its offset
 refusal_is : (outside zed seconds : Bool) (year after time zero hours minutes text name : List ℕ)

@@ -85,33 +85,14 @@ pub struct Usual {
 /// The function by which a text is written, so far as a configuration decides it.
 #[derive(Clone, Copy)]
 pub(super) enum Way {
-    /// All parts, with what is left to choose.
+    /// All parts, with what is left to choose. By the parts one after another, the default text
+    /// costs half as much again.
     Usual(Usual),
-    /// Any other text. Which one is asked only then, so that a usual text needs no jump through a
-    /// table.
-    Unusual(Unusual),
-}
-
-/// The function by which an unusual text is written. Each of them but the last writes where nothing
-/// of the value is refused.
-#[derive(Clone, Copy)]
-pub(super) enum Unusual {
-    /// All parts with the date by week and weekday, and with what else is left to choose.
-    Week(Usual),
-    /// The date alone by month and day, after four digits of the year.
-    CalendarDate,
-    /// The date alone by week and weekday.
-    WeekDate,
-    /// The date alone by the day of the year, with a dash before it.
-    OrdinalDate,
-    /// The date alone by the day of the year, without a dash.
-    CompactOrdinalDate,
-    /// The time alone.
-    Time,
-    /// The date by month and day, after four digits of the year, and the time.
-    DateTime,
-    /// Any other text.
-    Other,
+    /// The date alone, after four digits of the year. By the parts, one by month and day costs a
+    /// third more.
+    ShortDate,
+    /// Any other text, part by part.
+    Parts,
 }
 
 impl Model for Config {
@@ -297,30 +278,19 @@ impl Config {
         ensures way { result ≡ way_of self.now }
         ensures fits { FitsWay self.now result }
     {
+        if self.year_is_six_digits {
+            return Way::Parts;
+        }
         let parts = (self.formatted_components, self.date_kind);
-        let unusual = match (parts, self.time_precision, self.offset_precision) {
-            ((FormattedComponents::Time, _), _, _) => Unusual::Time,
-            _ if self.year_is_six_digits => Unusual::Other,
+        match (parts, self.time_precision, self.offset_precision) {
+            ((FormattedComponents::Date, _), _, _) => Way::ShortDate,
             (
                 (FormattedComponents::DateTimeOffset, DateKind::Calendar),
                 TimePrecision::Second { decimal_digits },
                 OffsetPrecision::Minute,
-            ) => return Way::Usual(self.usual(decimal_digits)),
-            (
-                (FormattedComponents::DateTimeOffset, DateKind::Week),
-                TimePrecision::Second { decimal_digits },
-                OffsetPrecision::Minute,
-            ) => Unusual::Week(self.usual(decimal_digits)),
-            ((FormattedComponents::Date, DateKind::Calendar), _, _) => Unusual::CalendarDate,
-            ((FormattedComponents::Date, DateKind::Week), _, _) => Unusual::WeekDate,
-            ((FormattedComponents::Date, DateKind::Ordinal), _, _) if self.use_separators => {
-                Unusual::OrdinalDate
-            }
-            ((FormattedComponents::Date, DateKind::Ordinal), _, _) => Unusual::CompactOrdinalDate,
-            ((FormattedComponents::DateTime, DateKind::Calendar), _, _) => Unusual::DateTime,
-            _ => Unusual::Other,
-        };
-        Way::Unusual(unusual)
+            ) => Way::Usual(self.usual(decimal_digits)),
+            _ => Way::Parts,
+        }
     }
 
     // What is left to choose with these decimals of the second.

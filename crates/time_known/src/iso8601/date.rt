@@ -2,7 +2,7 @@
 //!
 //! Without `inline(always)` the compiler leaves calls of the functions that have it.
 ghost use Rattle.std.specs.Prelude.{◌≡◌, MatchOption, Ok, false, ◌+◌, ◌*◌, ◌++◌, length};
-ghost use Rattle.std.specs.Prelude.{unsigned_abs, true, IsTrue};
+ghost use Rattle.std.specs.Prelude.{true, IsTrue};
 ghost use Rattle.time_below.specs.Facts.{the_date};
 ghost use Rattle.time_digits.specs.Digits.{zero_padded};
 ghost use Rattle.time_fmt.specs.Outcome.{AppendsUpTo};
@@ -53,26 +53,22 @@ pub fn format_date<V: ComponentProvider>(
     let answer = put_date(&mut taken, config, value, state);
     let count = taken.len() - begin;
     put_back(output, taken);
-    match answer {
-        Ok(()) => Ok(count),
-        Err(component) => Err(Format::InvalidComponent(component.name())),
-    }
+    answer?;
+    Ok(count)
 }
 
 // Appends the date, where four digits hold its year; else it appends nothing. The compiler sees the
-// kind, and perhaps whether there are dashes, so that no other is tested.
+// kind, so that no other is tested.
 #[inline(always)]
 #[tactic(auto, using(crate::proofs::LengthLemmas::joined_lengths))]
 pub(super) fn write_date_by<V: ComponentProvider>(
     config: &Config,
     kind: DateKind,
-    has_dash: bool,
     output: &mut Vec<u8>,
     value: &V,
     state: &mut V::State,
 ) -> Option<usize>
     requires kind { config.now.date_kind ≡ kind }
-    requires dash { config.now.use_separators ≡ has_dash }
     requires short { config.now.year_is_six_digits ≡ false }
     requires supplied { IsTrue V.SUPPLIES_DATE }
     requires room { HasRoom output.old (iso_date_width config.now) }
@@ -90,7 +86,7 @@ pub(super) fn write_date_by<V: ComponentProvider>(
     let year = ru16::within(number.unsigned_abs() as u16);
     let mut taken = take_out(output);
     let begin = taken.len();
-    if has_dash {
+    if config.use_separators() {
         put_short(&mut taken, year, &date.rest, true);
     } else {
         put_short(&mut taken, year, &date.rest, false);
@@ -194,12 +190,7 @@ fn dash(is_wanted: bool) -> &'static str
 // of them.
 #[inline(always)]
 #[tactic(auto, using(crate::proofs::LengthLemmas::joined_lengths))]
-pub(super) fn put_week<S: Sink>(
-    output: &mut S,
-    separator: &str,
-    week: ru8<0, 99>,
-    weekday: ru8<0, 9>,
-)
+fn put_week<S: Sink>(output: &mut S, separator: &str, week: ru8<0, 99>, weekday: ru8<0, 9>)
     requires room { Fits (S.buffer output.old) (4 + 2 * length separator.now) }
     ensures puts { PutsUpTo (4 + 2 * length separator.now)
         (S.buffer output.old) (S.buffer output.new)

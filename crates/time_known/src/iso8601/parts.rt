@@ -2,27 +2,27 @@
 //!
 //! Without `inline(always)` the compiler leaves calls of the functions that have it.
 //! `inline(never)` keeps long or rare bodies out of their callers.
-ghost use Rattle.std.specs.Prelude.{◌≡◌, ◌≢◌, ◌+◌, IfSome, IsTrue, MatchOption, Ok, OnOk, OnSome};
+ghost use Rattle.std.specs.Prelude.{◌≡◌, ◌≢◌, IfSome, IsTrue, MatchOption, Ok, OnOk};
 ghost use Rattle.std.specs.Prelude.{false};
-ghost use Rattle.time_below.specs.Facts.{the_date, the_time};
-ghost use Rattle.time_fmt.specs.Outcome.{AppendsUpTo, join};
+ghost use Rattle.time_below.specs.Facts.{the_date};
+ghost use Rattle.time_fmt.specs.Outcome.{AppendsUpTo};
 ghost use Rattle.time_fmt.specs.Room.{HasRoom};
-ghost use Rattle.time_fmt.specs.Sink.{Fits, vec_buffer};
+ghost use Rattle.time_fmt.specs.Sink.{Fits};
 ghost use Rattle.time_provide.specs.Real.{AgreesOnDate};
-ghost use Rattle.time_known.specs.Iso8601.{iso8601_outcome, iso_date, iso_time};
+ghost use Rattle.time_known.specs.Iso8601.{iso8601_outcome};
 ghost use Rattle.time_known.specs.Iso8601Parts.{AreOfDate, IsRealWhole, SuppliesParts};
-ghost use Rattle.time_known.specs.Iso8601Width.{iso8601_width, iso_date_width, iso_time_width};
+ghost use Rattle.time_known.specs.Iso8601Width.{iso8601_width};
 ghost use Rattle.time_known.specs.Accepted.{AppendsAllOrNone, PutsOutcome};
-ghost use Rattle.time_known.specs.Ways.{FitsUnusual, FitsWay};
+ghost use Rattle.time_known.specs.Ways.{FitsWay};
 
 use crate::accepted::OutOfRange;
 use crate::days::CalendarDay;
 use crate::fields::{offset_of, time_of};
-use crate::iso8601::config::{Config, DateKind, FormattedComponents, Unusual, Way};
+use crate::iso8601::config::{Config, DateKind, FormattedComponents, Way};
 use crate::iso8601::date::{put_date, write_date_by};
 use crate::iso8601::offset::put_offset;
-use crate::iso8601::time::{put_time, write_time};
-use crate::iso8601::usual_text::{write_usual, write_usual_week};
+use crate::iso8601::time::put_time;
+use crate::iso8601::usual_text::write_usual;
 use time_digits::ru8;
 use time_fmt::writers::{put_back, take_out};
 use time_fmt::{Format, Sink};
@@ -121,7 +121,7 @@ pub fn put_parts<S: Sink, V: ComponentProvider>(
     date?;
     if config.has_time() {
         let time = time_of(value, state);
-        put_time::<S, false>(output, config, config.has_time_letter(), time);
+        put_time(output, config, time);
     }
     if config.has_offset() {
         put_offset(output, config, offset_of(value))
@@ -130,9 +130,8 @@ pub fn put_parts<S: Sink, V: ComponentProvider>(
     }
 }
 
-// Appends the parts that are formatted, of a value that supplies their groups. A configuration that
-// formats nothing is refused. The compiler keeps each return apart where this function is not
-// inlined.
+// Appends the parts that are formatted, of a value that supplies their groups, by the function that
+// the configuration decided. A configuration that formats nothing is refused.
 pub(super) fn write_parts<V: ComponentProvider>(
     config: &Config,
     way: &Way,
@@ -150,21 +149,12 @@ pub(super) fn write_parts<V: ComponentProvider>(
     ensures agrees { V.agrees state.new value.now }
 {
     match write_by_way(config, way, output, value, state) {
-        Some(Ok(count)) => return Ok(count),
-        Some(Err(component)) => return Err(Format::InvalidComponent(component.name())),
-        None => {}
-    }
-    if config.formats_nothing() {
-        return Err(Format::InsufficientTypeInformation);
-    }
-    let begin = output.len();
-    match write_each(config, output, value, state) {
-        Ok(()) => Ok(output.len() - begin),
-        Err(component) => Err(Format::InvalidComponent(component.name())),
+        Some(answer) => Ok(answer?),
+        None => write_each(config, output, value, state),
     }
 }
 
-// Appends the parts that are formatted, by any configuration that formats something. It is copied
+// Appends the parts that are formatted, one after another, by any configuration. It is copied
 // first, so that no byte that is written may change it.
 #[inline(never)]
 fn write_each<V: ComponentProvider>(
@@ -172,25 +162,30 @@ fn write_each<V: ComponentProvider>(
     output: &mut Vec<u8>,
     value: &V,
     state: &mut V::State,
-) -> Result<(), OutOfRange>
-    requires some { config.now.formatted_components ≢ FormattedComponents.None }
+) -> Result<usize, Format>
     requires supplied { SuppliesParts config.now V.SUPPLIES_DATE V.SUPPLIES_TIME V.SUPPLIES_OFFSET }
     requires room { HasRoom output.old (iso8601_width config.now) }
     requires agrees { V.agrees state.old value.now }
-    ensures puts { PutsOutcome (iso8601_width config.now) (vec_buffer output.old)
-        (vec_buffer output.new) result (iso8601_outcome config.now (V.facts value.now)) }
+    ensures appends { AppendsUpTo (iso8601_width config.now) output.old output.new result
+        (iso8601_outcome config.now (V.facts value.now)) }
     ensures real { OnOk result (IsRealWhole config.now (V.facts value.now)) }
     ensures agrees { V.agrees state.new value.now }
 {
+    if config.formats_nothing() {
+        return Err(Format::InsufficientTypeInformation);
+    }
     let config = *config;
     let mut taken = take_out(output);
+    let begin = taken.len();
     let answer = put_parts(&mut taken, &config, value, state);
+    let count = taken.len() - begin;
     put_back(output, taken);
-    answer
+    answer?;
+    Ok(count)
 }
 
-// Appends by the function that the configuration decided, where nothing of the value is refused. It
-// may refuse what the text refuses before any byte; else it appends nothing.
+// Appends by that function, where it is another than for any text and nothing of the value is
+// refused. It may refuse what the text refuses before any byte; else it appends nothing.
 fn write_by_way<V: ComponentProvider>(
     config: &Config,
     way: &Way,
@@ -210,80 +205,36 @@ fn write_by_way<V: ComponentProvider>(
 {
     match way {
         Way::Usual(usual) => write_usual(config, usual, output, value, state),
-        Way::Unusual(unusual) => match write_unusual(config, unusual, output, value, state) {
+        Way::ShortDate => match write_short_date(config, output, value, state) {
             Some(count) => Some(Ok(count)),
             None => None,
         },
+        Way::Parts => None,
     }
 }
 
-// Appends an unusual text by the function that the configuration decided, where nothing of the
-// value is refused; else it appends nothing.
-#[tactic(auto, using(crate::proofs::iso8601::PartsLemmas::some_parts))]
-fn write_unusual<V: ComponentProvider>(
+// Appends a date alone, where four digits hold its year; else it appends nothing. The compiler makes
+// the text of each kind apart.
+#[tactic(auto, using(crate::proofs::iso8601::PartsLemmas::date_alone))]
+fn write_short_date<V: ComponentProvider>(
     config: &Config,
-    unusual: &Unusual,
     output: &mut Vec<u8>,
     value: &V,
     state: &mut V::State,
 ) -> Option<usize>
-    requires fits { FitsUnusual config.now unusual.now }
+    requires alone { config.now.formatted_components ≡ FormattedComponents.Date }
+    requires short { config.now.year_is_six_digits ≡ false }
     requires supplied { SuppliesParts config.now V.SUPPLIES_DATE V.SUPPLIES_TIME V.SUPPLIES_OFFSET }
     requires room { HasRoom output.old (iso8601_width config.now) }
     requires agrees { V.agrees state.old value.now }
     ensures appends { MatchOption result (output.new ≡ output.old)
         (λ n. AppendsUpTo (iso8601_width config.now) output.old output.new (Ok n)
         (iso8601_outcome config.now (V.facts value.now))) }
-    ensures real { OnSome result (IsRealWhole config.now (V.facts value.now)) }
     ensures agrees { V.agrees state.new value.now }
 {
-    match unusual {
-        Unusual::Week(usual) => write_usual_week(config, usual, output, value, state),
-        Unusual::CalendarDate => {
-            let has_dash = config.use_separators();
-            write_date_by(config, DateKind::Calendar, has_dash, output, value, state)
-        }
-        Unusual::WeekDate => {
-            let has_dash = config.use_separators();
-            write_date_by(config, DateKind::Week, has_dash, output, value, state)
-        }
-        Unusual::OrdinalDate => {
-            write_date_by(config, DateKind::Ordinal, true, output, value, state)
-        }
-        Unusual::CompactOrdinalDate => {
-            write_date_by(config, DateKind::Ordinal, false, output, value, state)
-        }
-        Unusual::Time => {
-            let has_letter = !config.use_separators();
-            Some(write_time(config, has_letter, output, value, state))
-        }
-        Unusual::DateTime => write_date_time(config, output, value, state),
-        Unusual::Other => None,
+    match config.date_kind() {
+        DateKind::Calendar => write_date_by(config, DateKind::Calendar, output, value, state),
+        DateKind::Week => write_date_by(config, DateKind::Week, output, value, state),
+        DateKind::Ordinal => write_date_by(config, DateKind::Ordinal, output, value, state),
     }
-}
-
-// Appends the date by month and day after four digits of the year, and the time.
-#[inline(never)]
-fn write_date_time<V: ComponentProvider>(
-    config: &Config,
-    output: &mut Vec<u8>,
-    value: &V,
-    state: &mut V::State,
-) -> Option<usize>
-    requires parts { config.now.formatted_components ≡ FormattedComponents.DateTime }
-    requires short { config.now.year_is_six_digits ≡ false }
-    requires kind { config.now.date_kind ≡ DateKind.Calendar }
-    requires date { IsTrue V.SUPPLIES_DATE }
-    requires time { IsTrue V.SUPPLIES_TIME }
-    requires room { HasRoom output.old (iso_date_width config.now + iso_time_width config.now) }
-    requires agrees { V.agrees state.old value.now }
-    ensures appends { MatchOption result (output.new ≡ output.old)
-        (λ n. AppendsUpTo (iso_date_width config.now + iso_time_width config.now)
-        output.old output.new (Ok n) (join (iso_date config.now (the_date (V.facts value.now)))
-        (iso_time config.now (the_time (V.facts value.now))))) }
-    ensures agrees { V.agrees state.new value.now }
-{
-    let has_dash = config.use_separators();
-    let date = write_date_by(config, DateKind::Calendar, has_dash, output, value, state)?;
-    Some(date + write_time(config, true, output, value, state))
 }
