@@ -2,8 +2,9 @@
 """Writes what the header and the Rust crate have from the code.
 
 The exports of movaliren_c give the prototypes of movaliren.h, each in its place, and the functions and structs of
-`library.rs`; `reason.rt` the reasons, also of C++, and `library.rt` their words; `item.rt` the kinds of items and their choices, which
-`component.rt` of time_below documents; `syntax.rt` the faults of descriptions, which time_describe documents.
+`library.rs`; `answers/reason.rt` the reasons, also of C++, and `answers/library.rt` their words; `described/item.rt` the kinds of items
+and their choices, which `component.rt` of time_below documents; `described/syntax.rt` the faults of descriptions, which time_describe
+documents.
 
     bindings/interface.py           writes the three headers, `description.rs`, `parse.rs` and `library.rs`
     bindings/interface.py --check   ends with status 1 where one is not what would be written
@@ -150,9 +151,9 @@ def with_prototypes(header):
 
 def reasons():
     """Each reason by its number: its name and its words."""
-    body = re.search(r"fn words_numbered.*?\n\}", source("library"), re.S)[0]
+    body = re.search(r"fn words_numbered.*?\n\}", source("answers/library"), re.S)[0]
     words = {int(number): said for number, said in re.findall(r'^ +(\d+) =>\s*b("[^"]*")', body, re.M)}
-    named = re.search(r"enum Reason \{(.*?)\n\}", source("reason"), re.S)[1]
+    named = re.search(r"enum Reason \{(.*?)\n\}", source("answers/reason"), re.S)[1]
     found = re.findall(r"(\w+) = (\d+)", named)
     return [(int(number), name, words[int(number)]) for name, number in found if name not in NEVER]
 
@@ -183,7 +184,7 @@ def error_cases():
 
 def kinds():
     """Each component with its number and its choices, by the number."""
-    found = re.findall(r"(\d+) => component!\((\w+): ([\w, ]+)\)", source("item"))
+    found = re.findall(r"(\d+) => component!\((\w+): ([\w, ]+)\)", source("described/item"))
     return sorted((int(number), name, choices.split(", ")) for number, name, choices in found)
 
 
@@ -242,7 +243,7 @@ def said_of_faults():
 
 def faults():
     """Each fault with its number and what is said of it, by the number."""
-    found = re.findall(r"Reason::(\w+)(?:\(\w+\))? => \(?(\d+)", source("syntax"))
+    found = re.findall(r"Reason::(\w+)(?:\(\w+\))? => \(?(\d+)", source("described/syntax"))
     said = said_of_faults()
     return sorted({(int(number), name, said[name]) for name, number in found})
 

@@ -39,7 +39,7 @@ OF_OTHERS = {
 # A file, a folder, or a definition or lemma with its folder; and a lemma or a definition by its name alone.
 FILE = re.compile(r"(?:[\w-]+/)*[\w-]+\.(?:rt|antt|rs|c|cpp|h|hpp|py|md)|(?:[\w-]+/)+[\w-]*|[A-Z][a-z]+(?:[A-Z]\w+)*")
 # The format that the steps make, which is not there, words of Rust and of the field, and the folder of a crate's mutants in any crate.
-MADE = {"specs/ImfFixdate", "src/imf_fixdate.rt", "must-fail/", "Err", "None"}
+MADE = {"specs/ImfFixdate", "src/imf_fixdate.rt", "src/formats/imf_fixdate.rt", "must-fail/", "Err", "None"}
 # The pages for users of the library, each with the sources of its language, and the words of these pages that are no names of theirs.
 OF_LANGUAGES = {
     "docs/C.md": ["bindings/c/*.c", "bindings/c/*.cpp", "bindings/c/*.h", "bindings/c/*.hpp"],

@@ -11,6 +11,27 @@ pub(crate) struct Progress {
 
 #[repr(C)]
 #[derive(Clone, Copy, Debug, PartialEq, Eq, Hash)]
+pub(crate) struct Item {
+    pub(crate) kind: u32,
+    pub(crate) padding: u8,
+    pub(crate) flag: u8,
+    pub(crate) digits: u8,
+    pub(crate) byte: u8,
+    pub(crate) start: usize,
+    pub(crate) len: usize,
+}
+
+#[repr(C)]
+#[derive(Clone, Copy, Debug, PartialEq, Eq, Hash)]
+pub(crate) struct ParseError {
+    pub(crate) at: usize,
+    pub(crate) items: usize,
+    pub(crate) kind: u8,
+    pub(crate) byte: u8,
+}
+
+#[repr(C)]
+#[derive(Clone, Copy, Debug, PartialEq, Eq, Hash)]
 pub(crate) struct Iso8601Config {
     pub(crate) parts: u8,
     pub(crate) date_kind: u8,
@@ -20,18 +41,6 @@ pub(crate) struct Iso8601Config {
     pub(crate) use_separators: u8,
     pub(crate) year_is_six_digits: u8,
     pub(crate) comma: u8,
-}
-
-#[repr(C)]
-#[derive(Clone, Copy, Debug, PartialEq, Eq, Hash)]
-pub(crate) struct Item {
-    pub(crate) kind: u32,
-    pub(crate) padding: u8,
-    pub(crate) flag: u8,
-    pub(crate) digits: u8,
-    pub(crate) byte: u8,
-    pub(crate) start: usize,
-    pub(crate) len: usize,
 }
 
 #[repr(C)]
@@ -53,15 +62,6 @@ pub(crate) struct ReadError {
     pub(crate) last: u8,
     pub(crate) is_lenient: u8,
     pub(crate) is_second_60: u8,
-}
-
-#[repr(C)]
-#[derive(Clone, Copy, Debug, PartialEq, Eq, Hash)]
-pub(crate) struct ParseError {
-    pub(crate) at: usize,
-    pub(crate) items: usize,
-    pub(crate) kind: u8,
-    pub(crate) byte: u8,
 }
 
 // Some are for C alone.

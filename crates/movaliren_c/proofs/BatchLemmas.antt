@@ -6,7 +6,7 @@ use Rattle.std.proofs.lemmas.Grind.{common_steps}
 use Rattle.std.proofs.lemmas.Option.{slice_get-get_or}
 use Rattle.movaliren_c.specs.Answer.{IsRefusedFor, IsText}
 use Rattle.movaliren_c.specs.Batch.{ended, Stand, StopsAt}
-use Rattle.movaliren_c.specs.declared.reason.Reason.{Reason}
+use Rattle.movaliren_c.specs.declared.answers.reason.Reason.{Reason}
 use Rattle.time_fmt.specs.Outcome.{Outcome, join}
 use Rattle.time_fmt.proofs.WriteLemmas.{join_done, join_refused, some_of}
 

@@ -9,10 +9,10 @@ use Rattle.movaliren_c.specs.Answer.{IsReasonFor, IsRefusedFor, IsText}
 use Rattle.movaliren_c.specs.Items.{EndsItem, EndsRun, IsPut, IsShown, IsWithinWidth, PutsOrLoses, as_one, described, list_of, reason_before}
 use Rattle.movaliren_c.specs.Items.{first_part, run_before, second_part, third_part}
 use Rattle.movaliren_c.specs.Value.{with_value}
-use Rattle.movaliren_c.specs.declared.reason.Reason.{Reason}
-use Rattle.movaliren_c.specs.declared.reason.Reason.TheVariants as reason
-use Rattle.movaliren_c.specs.declared.run.Run.{Run}
-use Rattle.movaliren_c.specs.declared.run.Run.TheVariants as run
+use Rattle.movaliren_c.specs.declared.answers.reason.Reason.{Reason}
+use Rattle.movaliren_c.specs.declared.answers.reason.Reason.TheVariants as reason
+use Rattle.movaliren_c.specs.declared.described.run.Run.{Run}
+use Rattle.movaliren_c.specs.declared.described.run.Run.TheVariants as run
 use Rattle.time_below.specs.Facts.{Facts, the_date}
 use Rattle.time_below.specs.Tree.{Tree, trees, all_of}
 use Rattle.time_below.specs.Width.{component_width, tree_width, trees_width}

@@ -7,10 +7,10 @@ use Rattle.movaliren_c.specs.Answer.{IsText}
 use Rattle.movaliren_c.specs.Described.{AreItems, DescribeNothing, Describes, HoldsIn, HoldsItems, HoldsListsIn, IsHeld, IsItem, IsItemOf, Leaves, bracket_items, bracket_number, few_in, fault_at, is_shown, no_item, shown, strftime_items, strftime_number}
 use Rattle.movaliren_c.specs.Flat.{closed_at, flat, flat_items, hidden_at, or_at, shown_in}
 use Rattle.movaliren_c.specs.Items.{component_of, date_component, described, item_tree, trees_of}
-use Rattle.movaliren_c.specs.declared.item.Item.{Item}
-use Rattle.movaliren_c.specs.declared.reason.Reason.{Reason}
-use Rattle.movaliren_c.specs.declared.syntax.ParseError.{ParseError}
-use Rattle.movaliren_c.specs.declared.reason.Reason.TheVariants as reason
+use Rattle.movaliren_c.specs.declared.described.item.Item.{Item}
+use Rattle.movaliren_c.specs.declared.answers.reason.Reason.{Reason}
+use Rattle.movaliren_c.specs.declared.described.syntax.ParseError.{ParseError}
+use Rattle.movaliren_c.specs.declared.answers.reason.Reason.TheVariants as reason
 use Rattle.time_below.specs.Conversion.{current_component, is_current}
 use Rattle.time_below.specs.Facts.{Facts}
 use Rattle.time_below.specs.Tree.{Tree, trees, all_of, byte_literal, of_component}

@@ -12,7 +12,7 @@ use Rattle.movaliren_c.specs.Chosen.{iso8601_by}
 use Rattle.movaliren_c.specs.Log.{Remembers, head_of, log_choices, log_config}
 use Rattle.movaliren_c.specs.Utc.{local_value}
 use Rattle.movaliren_c.specs.Value.{timestamp_value}
-use Rattle.movaliren_c.specs.declared.reason.Reason.{Reason}
+use Rattle.movaliren_c.specs.declared.answers.reason.Reason.{Reason}
 use Rattle.time_below.specs.Facts.{date_facts}
 use Rattle.time_below.specs.Moment.{OffsetDateAndTime}
 use Rattle.time_fmt.specs.Decimals.{decimals}

@@ -5,7 +5,7 @@ use Rattle.std.proofs.lemmas.Bool.Decides.{nat_tests}
 use Rattle.std.proofs.lemmas.Int.{ints}
 use Rattle.movaliren_c.specs.Utc.{Means, with_offset, utc_value, east_value, local_there, local_value}
 use Rattle.movaliren_c.specs.Value.{checked, with_value, timestamp_value}
-use Rattle.movaliren_c.specs.declared.reason.Reason.{Reason}
+use Rattle.movaliren_c.specs.declared.answers.reason.Reason.{Reason}
 use Rattle.time_below.specs.Moment.{Moment, OffsetDateAndTime, IsMoment, local_at, moved, unix_seconds, utc_date_and_time}
 use Rattle.time_below.specs.Offset.{Offset, IsOffset, offset_seconds, utc}
 use Rattle.time_below.proofs.MomentLemmas.{IsDate-utc_date, IsTimeOfDay-utc_time, unix_seconds-utc, local_unix_seconds-local_at, only_local_at}

@@ -4,7 +4,7 @@ use Rattle.std.proofs.lemmas.Bool.Decides.{nat_tests}
 use Rattle.std.proofs.lemmas.Bool.{and_parts, le-leb, leb-true, lt-ltb}
 use Rattle.movaliren_c.specs.Known.{IsDayOf, offset_of_parts, time_of_parts}
 use Rattle.movaliren_c.specs.Value.{date_value, moment_value, offset_value, time_value}
-use Rattle.movaliren_c.specs.declared.moment.Moment.{Moment}
+use Rattle.movaliren_c.specs.declared.values.moment.Moment.{Moment}
 use Rattle.time_below.specs.Calendar.{IsDate, OrdinalDate, day_of, month_of}
 use Rattle.time_below.specs.Moment.{OffsetDateAndTime}
 use Rattle.time_below.specs.Offset.{HasNoOtherSign, IsOffset, Offset}

@@ -4,8 +4,8 @@ use Rattle.std.specs.Prelude.{Err, IfSome, IsOkAnd, MatchResult, slice_get}
 use Rattle.std.specs.List.{flat_map}
 use Rattle.movaliren_c.specs.Answer.{Explains, reason_number}
 use Rattle.movaliren_c.specs.Value.{with_value}
-use Rattle.movaliren_c.specs.declared.batch.Progress.{Progress}
-use Rattle.movaliren_c.specs.declared.reason.Reason.{Reason}
+use Rattle.movaliren_c.specs.declared.answers.batch.Progress.{Progress}
+use Rattle.movaliren_c.specs.declared.answers.reason.Reason.{Reason}
 use Rattle.time_fmt.specs.Outcome.{Outcome, done, join}
 
 -- a text and the byte that ends it; a refused text has none

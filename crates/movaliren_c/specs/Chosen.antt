@@ -2,9 +2,9 @@
 use Rattle.std.specs.Prelude.{ℕ, true, ◌==◌, [], ◌∷◌, Option, Some, None, Result, Ok, if◌then◌else◌}
 use Rattle.movaliren_c.specs.Answer.{gives}
 use Rattle.movaliren_c.specs.Value.{flag_at, numbered, with_value}
-use Rattle.movaliren_c.specs.declared.iso8601.config.Iso8601Config.{Iso8601Config}
-use Rattle.movaliren_c.specs.declared.reason.Reason.{Reason}
-use Rattle.movaliren_c.specs.declared.reason.Reason.TheVariants as reason
+use Rattle.movaliren_c.specs.declared.formats.iso8601.config.Iso8601Config.{Iso8601Config}
+use Rattle.movaliren_c.specs.declared.answers.reason.Reason.{Reason}
+use Rattle.movaliren_c.specs.declared.answers.reason.Reason.TheVariants as reason
 use Rattle.time_below.specs.Moment.{OffsetDateAndTime}
 use Rattle.time_fmt.specs.Outcome.{Outcome}
 use Rattle.time_known.specs.Config.{Choices}

@@ -2,10 +2,10 @@
 use Rattle.std.specs.Prelude.{ℕ, ◌≡◌, ◌<◌, ◌≤◌, ◌-◌, ◌++◌, min, Option, Bool, true, false, nat_le, List, [], ◌∷◌, length, take, Result, Ok, Err, if◌then◌else◌}
 use Rattle.movaliren_c.specs.Flat.{first_shown, flat_items, hidden_at, shown_in}
 use Rattle.movaliren_c.specs.Items.{component_of, item_tree, trees_of}
-use Rattle.movaliren_c.specs.declared.item.Item.{Item}
-use Rattle.movaliren_c.specs.declared.reason.Reason.{Reason}
-use Rattle.movaliren_c.specs.declared.reason.Reason.TheVariants as reason
-use Rattle.movaliren_c.specs.declared.syntax.ParseError.{ParseError}
+use Rattle.movaliren_c.specs.declared.described.item.Item.{Item}
+use Rattle.movaliren_c.specs.declared.answers.reason.Reason.{Reason}
+use Rattle.movaliren_c.specs.declared.answers.reason.Reason.TheVariants as reason
+use Rattle.movaliren_c.specs.declared.described.syntax.ParseError.{ParseError}
 use Rattle.time_below.specs.Conversion.{is_current}
 use Rattle.time_below.specs.Facts.{Facts}
 use Rattle.time_below.specs.Tree.{Tree, trees}

@@ -4,13 +4,13 @@ use Rattle.std.specs.Prelude.{ℕ, ◌≡◌, ◌≢◌, ◌<◌, ◌≤◌, ◌
 use Rattle.std.specs.Prelude.{slice_range, Result, Ok, Err, IfOk, IsOkAnd, if◌then◌else◌}
 use Rattle.movaliren_c.specs.Answer.{IsRefusedFor, IsText, gives}
 use Rattle.movaliren_c.specs.Value.{flag_at, numbered, with_value}
-use Rattle.movaliren_c.specs.declared.item.Item.{Item}
-use Rattle.movaliren_c.specs.declared.item.Part.{Part}
-use Rattle.movaliren_c.specs.declared.item.Part.TheVariants as part
-use Rattle.movaliren_c.specs.declared.reason.Reason.{Reason}
-use Rattle.movaliren_c.specs.declared.reason.Reason.TheVariants as reason
-use Rattle.movaliren_c.specs.declared.run.Run.{Run}
-use Rattle.movaliren_c.specs.declared.run.Run.TheVariants as run
+use Rattle.movaliren_c.specs.declared.described.item.Item.{Item}
+use Rattle.movaliren_c.specs.declared.described.item.Part.{Part}
+use Rattle.movaliren_c.specs.declared.described.item.Part.TheVariants as part
+use Rattle.movaliren_c.specs.declared.answers.reason.Reason.{Reason}
+use Rattle.movaliren_c.specs.declared.answers.reason.Reason.TheVariants as reason
+use Rattle.movaliren_c.specs.declared.described.run.Run.{Run}
+use Rattle.movaliren_c.specs.declared.described.run.Run.TheVariants as run
 use Rattle.time_below.specs.Facts.{Facts}
 use Rattle.time_below.specs.Tree.{Tree, trees, all_of, byte_literal, of_component}
 use Rattle.time_below.specs.Width.{tree_width, trees_width}

@@ -1,8 +1,8 @@
 -- What a local date and time is by its parts, and what its state holds.
 use Rattle.std.specs.Prelude.{ℕ, ◌≡◌, ◌<◌, Option, IfSome}
 use Rattle.std.specs.Int.{IsInRange}
-use Rattle.movaliren_c.specs.declared.local_parts.LocalState.{LocalState}
-use Rattle.movaliren_c.specs.declared.moment.Moment.{Moment}
+use Rattle.movaliren_c.specs.declared.described.local_parts.LocalState.{LocalState}
+use Rattle.movaliren_c.specs.declared.values.moment.Moment.{Moment}
 use Rattle.time_below.specs.Calendar.{OrdinalDate, day_of, month_of}
 use Rattle.time_below.specs.Facts.{DateFacts}
 use Rattle.time_below.specs.Month.{month_number}

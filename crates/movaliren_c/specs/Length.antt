@@ -1,7 +1,7 @@
 -- How many bytes the text of an outcome has.
 use Rattle.std.specs.Prelude.{ℕ, ◌≡◌, min, length, None, Result, Ok, Err}
 use Rattle.movaliren_c.specs.Answer.{IsRefusedFor}
-use Rattle.movaliren_c.specs.declared.reason.Reason.{Reason}
+use Rattle.movaliren_c.specs.declared.answers.reason.Reason.{Reason}
 use Rattle.time_fmt.specs.Outcome.{Outcome}
 
 -- the number of bytes of a completed outcome, up to the greatest `isize`; or the reason why it is refused, or why there

@@ -2,8 +2,8 @@
 use Rattle.std.specs.Prelude.{ℕ, ◌<◌, ◌≡◌, ℤ, true, List, ◌++◌, codes, take, Some, Ok}
 use Rattle.movaliren_c.specs.Answer.{gives}
 use Rattle.movaliren_c.specs.Utc.{local_value}
-use Rattle.movaliren_c.specs.declared.iso8601.config.Iso8601Config.{Iso8601Config}
-use Rattle.movaliren_c.specs.declared.log.LogCache.{LogCache}
+use Rattle.movaliren_c.specs.declared.formats.iso8601.config.Iso8601Config.{Iso8601Config}
+use Rattle.movaliren_c.specs.declared.formats.log.LogCache.{LogCache}
 use Rattle.time_fmt.specs.Decimals.{decimals}
 use Rattle.time_fmt.specs.Outcome.{done}
 use Rattle.time_known.specs.Config.{Choices}

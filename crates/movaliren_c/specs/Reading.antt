@@ -2,10 +2,10 @@
 use Rattle.std.specs.Prelude.{◌≡◌, ◌↔◌, ◌≤◌, ℕ, ℤ, pos, Bool, IsTrue, List, length, take, drop, Result, Ok, Err, if◌then◌else◌}
 use Rattle.movaliren_c.specs.Answer.{reason_number}
 use Rattle.movaliren_c.specs.Value.{moment_value}
-use Rattle.movaliren_c.specs.declared.moment.Moment.{Moment}
-use Rattle.movaliren_c.specs.declared.moment.UtcMoment.{UtcMoment}
-use Rattle.movaliren_c.specs.declared.read.ReadError.{ReadError}
-use Rattle.movaliren_c.specs.declared.reason.Reason.TheVariants as reason
+use Rattle.movaliren_c.specs.declared.values.moment.Moment.{Moment}
+use Rattle.movaliren_c.specs.declared.values.moment.UtcMoment.{UtcMoment}
+use Rattle.movaliren_c.specs.declared.formats.read.ReadError.{ReadError}
+use Rattle.movaliren_c.specs.declared.answers.reason.Reason.TheVariants as reason
 use Rattle.time_below.specs.Moment.{OffsetDateAndTime, local_unix_seconds}
 use Rattle.time_known.specs.Rules.{Rule}
 use Rattle.time_read.specs.Fault.{IsFirstFault, IsSecond60, SpellsSome}

@@ -1,8 +1,8 @@
 -- The value that seconds since 1970 and a nanosecond give, in UTC or at an offset.
 use Rattle.std.specs.Prelude.{◌≡◌, ℕ, ℤ, ◌+ℤ◌, unsigned_abs, nat_lt, Result, Ok}
 use Rattle.movaliren_c.specs.Value.{checked, is_in_years, with_value, timestamp_value}
-use Rattle.movaliren_c.specs.declared.reason.Reason.{Reason}
-use Rattle.movaliren_c.specs.declared.reason.Reason.TheVariants as reason
+use Rattle.movaliren_c.specs.declared.answers.reason.Reason.{Reason}
+use Rattle.movaliren_c.specs.declared.answers.reason.Reason.TheVariants as reason
 use Rattle.time_below.specs.Calendar.{IsDate}
 use Rattle.time_below.specs.Moment.{Moment, DateAndTime, OffsetDateAndTime, local_at, local_unix_seconds, utc_date_and_time}
 use Rattle.time_below.specs.Offset.{Offset, IsOffset, offset_of_seconds, offset_seconds, utc}

@@ -1,9 +1,9 @@
 -- The value that the parts of a moment give, or the first part that is outside its range.
 use Rattle.std.specs.Prelude.{ℕ, ◌+◌, ℤ, Bool, true, false, ◌&&◌, not, ◌==◌, nat_le, nat_lt, int_le, int_lt, pos, neg_ℤ, unsigned_abs, List, [], ◌∷◌}
 use Rattle.std.specs.Prelude.{Result, Ok, Err, if◌then◌else◌}
-use Rattle.movaliren_c.specs.declared.reason.Reason.{Reason}
-use Rattle.movaliren_c.specs.declared.reason.Reason.TheVariants as reason
-use Rattle.movaliren_c.specs.declared.moment.Moment.{Moment}
+use Rattle.movaliren_c.specs.declared.answers.reason.Reason.{Reason}
+use Rattle.movaliren_c.specs.declared.answers.reason.Reason.TheVariants as reason
+use Rattle.movaliren_c.specs.declared.values.moment.Moment.{Moment}
 use Rattle.time_below.specs.Calendar.{OrdinalDate, date_of, days_in_month, is_leap_year}
 use Rattle.time_below.specs.Moment as moments
 use Rattle.time_below.specs.Moment.{OffsetDateAndTime, seconds_before}

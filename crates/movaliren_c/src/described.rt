@@ -17,12 +17,21 @@ ghost use Rattle.time_fmt.specs.Description.{component_outcome, tree_outcome};
 ghost use Rattle.time_fmt.specs.Ends.{Ends};
 ghost use Rattle.time_fmt.specs.Sink.{Fits, Puts, Ready};
 
-use crate::item::{Item, Part, part_of, text_of};
-use crate::local_parts::{FirstState, local_parts_at, local_parts_of};
-use crate::moment::{Moment, date_value, timestamp_value};
-use crate::reason::{Reason, answer_number, reason_of};
-use crate::room::copy_text;
-use crate::run::{Run, begins_with_run, head_of, run_of};
+mod describe;
+mod item;
+mod item_room;
+mod length;
+mod local_parts;
+mod made_item;
+mod run;
+mod syntax;
+
+use crate::answers::reason::{Reason, answer_number, reason_of};
+use crate::answers::room::copy_text;
+use crate::described::item::{Item, Part, part_of, text_of};
+use crate::described::local_parts::{FirstState, local_parts_at, local_parts_of};
+use crate::described::run::{Run, begins_with_run, head_of, run_of};
+use crate::values::moment::{Moment, date_value, timestamp_value};
 use std::marker::Brand;
 use time_below::format_description::modifier::Padding;
 use time_below::format_description::{component_width, modifier};

@@ -9,27 +9,8 @@
 //! condition, and none allocates.
 #![tactic(auto)]
 
-mod batch;
-mod describe;
+mod answers;
 mod described;
-mod iso8601;
-mod item;
-mod item_room;
+mod formats;
 pub mod laws;
-mod length;
-mod library;
-mod local_parts;
-mod log;
-mod made_item;
-mod moment;
-mod moment_text;
-mod read;
-mod reason;
-mod rfc2822;
-mod rfc3339;
-mod room;
-mod run;
-mod source;
-mod stamp;
-mod syntax;
-mod writer;
+mod values;

@@ -1,5 +1,0 @@
-use Rattle.std.proofs.Common.{refl}
-use Rattle.movaliren_c.proofs.item_room.ItemRoomItems.put_component.Goals as goal
-
-pub returns-clause-put : goal.returns-clause-put
-returns-clause-put c = λ text fs before held. c.put.ensures.put text fs _ (c.item_of.ensures text) refl before held

@@ -1,0 +1,311 @@
+//! ISO 8601-1:2019, by its default configuration and by any other.
+//!
+//! `inline(never)` keeps long or rare bodies out of their callers.
+ghost use Rattle.std.specs.Prelude.{◌≡◌, ◌≢◌, ◌≤◌, IfErr, IfOk, Ok, length};
+ghost use Rattle.movaliren_c.specs.Answer.{IsAnswer, IsRefusedFor, IsText, IsWritten, gives};
+ghost use Rattle.movaliren_c.specs.Batch.{IsBatch};
+ghost use Rattle.movaliren_c.specs.Chosen.{choices_at, iso8601_by, separated};
+ghost use Rattle.movaliren_c.specs.Utc.{local_value, utc_value};
+ghost use Rattle.movaliren_c.specs.Value.{moment_value};
+ghost use Rattle.time_fmt.specs.Outcome.{done};
+ghost use Rattle.time_known.specs.Config.{default_choices};
+ghost use Rattle.time_known.specs.Iso8601.{iso8601_of};
+ghost use Rattle.time_known.specs.Iso8601Width.{iso8601_width};
+
+mod config;
+
+use crate::answers::batch::{Progress, write_lines};
+use crate::answers::reason::{Reason, answer_number};
+use crate::answers::room::copy_text;
+use crate::answers::writer::Writer;
+use crate::formats::moment_text::{Format, answer_at, put_at_start, texts_of};
+use crate::values::moment::{Moment, UtcMoment};
+use crate::values::source::{AtOffset, ByParts, InUtc, Source};
+use config::separated_config_at;
+pub use config::{Iso8601Config, config_at};
+use std::default::Default;
+use std::marker::Brand;
+use time_below::OffsetDateTime;
+use time_digits::ru8;
+use time_fmt::{Before, RoomSink};
+use time_known::fields::accepted_fields;
+use time_known::iso8601::{
+    Config, DecimalSign, FormattedComponents, SeparatedText, Usual, put_parts,
+};
+use time_known::sink::Text;
+use time_provide::DateState;
+
+/// The most bytes of a text: 13 of the date, 265 of the time and 6 of the offset.
+const MOST_BYTES: usize = 284;
+
+/// The format of ISO 8601 by its default configuration.
+#[derive(Clone, Copy)]
+struct Iso8601;
+
+impl Format for Iso8601 {
+    type Text = SeparatedText;
+
+    ghost WIDTH = { 35 };
+
+    const WIDTH: usize = 35;
+
+    ghost outcome = { λ _. iso8601_of default_choices };
+
+    fn text(self, value: &OffsetDateTime) -> Result<SeparatedText, Reason> {
+        let usual = Usual {
+            has_separators: true,
+            decimal_digits: ru8::new(9),
+            decimal_sign: DecimalSign::Point,
+        };
+        separated_text(&usual, value)
+    }
+}
+
+/// The text of the value by such choices with separators, or the reason why it has none.
+fn separated_text(usual: &Usual, value: &OffsetDateTime) -> Result<SeparatedText, Reason>
+    ensures chosen { IfOk result (λ t. t.usual ≡ usual.now) }
+    ensures text { IfOk result (λ t. iso8601_of (separated usual.now) value.now
+        ≡ done (⟦<SeparatedText as Text>⟧.text t)) }
+    ensures refused { IfErr result (λ r. IsRefusedFor r
+        (iso8601_of (separated usual.now) value.now)) }
+{
+    let fields = accepted_fields(0, 25, value, &mut DateState::default())?;
+    let usual = *usual;
+    Ok(SeparatedText { usual, fields })
+}
+
+/// The text of ISO 8601 by the default configuration.
+#[unsafe(no_mangle)]
+pub extern "C" fn movaliren_iso8601(moment: &Moment, buffer: &mut [u8]) -> isize
+    ensures { IsAnswer (gives (moment_value moment.now) (iso8601_of default_choices))
+        result buffer.old buffer.new }
+{
+    answer_number(texts_of(Iso8601, ByParts).write(moment, buffer))
+}
+
+/// The text of ISO 8601 of a moment in UTC, by the default configuration.
+#[unsafe(no_mangle)]
+pub extern "C" fn movaliren_iso8601_utc(seconds: i64, nanosecond: u32, buffer: &mut [u8]) -> isize
+    ensures { IsAnswer (gives (utc_value seconds nanosecond) (iso8601_of default_choices))
+        result buffer.old buffer.new }
+{
+    answer_at(&texts_of(Iso8601, InUtc), seconds, nanosecond, buffer)
+}
+
+/// The text of ISO 8601 of a moment by the default configuration, at an offset of this many seconds
+/// east of UTC.
+#[unsafe(no_mangle)]
+pub extern "C" fn movaliren_iso8601_local(
+    seconds: i64,
+    nanosecond: u32,
+    offset: i64,
+    buffer: &mut [u8],
+) -> isize
+    ensures { IsAnswer (gives (local_value seconds nanosecond offset) (iso8601_of default_choices))
+        result buffer.old buffer.new }
+{
+    let texts = texts_of(Iso8601, AtOffset(offset));
+    answer_at(&texts, seconds, nanosecond, buffer)
+}
+
+/// The texts of ISO 8601 of the moments by the default configuration, one after another, each ended
+/// by this byte.
+#[unsafe(no_mangle)]
+pub extern "C" fn movaliren_iso8601_batch(
+    moments: &[Moment],
+    end: u8,
+    buffer: &mut [u8],
+) -> Progress
+    ensures { IsBatch moments.now end (λ m. gives (moment_value m) (iso8601_of default_choices))
+        result buffer.old buffer.new }
+{
+    write_lines(&texts_of(Iso8601, ByParts), moments, end, buffer)
+}
+
+/// The texts of ISO 8601 of the moments in UTC by the default configuration, one after another,
+/// each ended by this byte.
+#[unsafe(no_mangle)]
+pub extern "C" fn movaliren_iso8601_utc_batch(
+    moments: &[UtcMoment],
+    end: u8,
+    buffer: &mut [u8],
+) -> Progress
+    ensures { IsBatch moments.now end
+        (λ m. gives (utc_value m.seconds m.nanosecond) (iso8601_of default_choices))
+        result buffer.old buffer.new }
+{
+    write_lines(&texts_of(Iso8601, InUtc), moments, end, buffer)
+}
+
+/// The format of ISO 8601 by a configuration, over the moments of a source.
+#[derive(Clone, Copy)]
+struct Iso8601By<S> {
+    config: Iso8601Config,
+    source: S,
+}
+
+impl<S: Source> Writer for Iso8601By<S> {
+    type Item = S::Item;
+
+    ghost asked = { λ by item. iso8601_by by.config (S.given by.source item) };
+
+    #[tactic(auto, unfolding(crate::specs::Chosen::iso8601_by))]
+    fn write(&self, item: &S::Item, room: &mut [u8]) -> Result<usize, Reason> {
+        match separated_config_at(&self.config) {
+            Some(usual) if room.len() >= usual.width() => match self.source.value(item) {
+                Ok(value) => self.put_usual(&usual, &value, room),
+                Err(reason) => Err(reason),
+            },
+            _ => self.write_by(item, room),
+        }
+    }
+}
+
+/// The texts of ISO 8601 by this configuration, of the moments of this source.
+fn iso8601_by<S: Source>(config: &Iso8601Config, source: S) -> Iso8601By<S>
+    ensures { result ≡ record { config = config.now; source = source } }
+{
+    Iso8601By {
+        config: *config,
+        source,
+    }
+}
+
+/// The text of ISO 8601 by a configuration, whose numbers are tested before the moment.
+#[unsafe(no_mangle)]
+pub extern "C" fn movaliren_iso8601_with(
+    config: &Iso8601Config,
+    moment: &Moment,
+    buffer: &mut [u8],
+) -> isize
+    ensures { IsAnswer (iso8601_by config.now (moment_value moment.now)) result buffer.old buffer.new }
+{
+    answer_number(iso8601_by(config, ByParts).write(moment, buffer))
+}
+
+/// The text of ISO 8601 of a moment in UTC by a configuration, whose numbers are tested before the
+/// moment.
+#[unsafe(no_mangle)]
+pub extern "C" fn movaliren_iso8601_with_utc(
+    config: &Iso8601Config,
+    seconds: i64,
+    nanosecond: u32,
+    buffer: &mut [u8],
+) -> isize
+    ensures { IsAnswer (iso8601_by config.now (utc_value seconds nanosecond))
+        result buffer.old buffer.new }
+{
+    answer_at(&iso8601_by(config, InUtc), seconds, nanosecond, buffer)
+}
+
+/// The text of ISO 8601 of a moment by a configuration, whose numbers are tested before the moment,
+/// at an offset of this many seconds east of UTC.
+#[unsafe(no_mangle)]
+pub extern "C" fn movaliren_iso8601_with_local(
+    config: &Iso8601Config,
+    seconds: i64,
+    nanosecond: u32,
+    offset: i64,
+    buffer: &mut [u8],
+) -> isize
+    ensures { IsAnswer (iso8601_by config.now (local_value seconds nanosecond offset))
+        result buffer.old buffer.new }
+{
+    let texts = iso8601_by(config, AtOffset(offset));
+    answer_at(&texts, seconds, nanosecond, buffer)
+}
+
+/// The texts of ISO 8601 of the moments by a configuration, one after another, each ended by this
+/// byte.
+#[unsafe(no_mangle)]
+pub extern "C" fn movaliren_iso8601_with_batch(
+    config: &Iso8601Config,
+    moments: &[Moment],
+    end: u8,
+    buffer: &mut [u8],
+) -> Progress
+    ensures { IsBatch moments.now end (λ m. iso8601_by config.now (moment_value m))
+        result buffer.old buffer.new }
+{
+    write_lines(&iso8601_by(config, ByParts), moments, end, buffer)
+}
+
+/// The texts of ISO 8601 of the moments in UTC by a configuration, one after another, each ended by
+/// this byte.
+#[unsafe(no_mangle)]
+pub extern "C" fn movaliren_iso8601_with_utc_batch(
+    config: &Iso8601Config,
+    moments: &[UtcMoment],
+    end: u8,
+    buffer: &mut [u8],
+) -> Progress
+    ensures { IsBatch moments.now end
+        (λ m. iso8601_by config.now (utc_value m.seconds m.nanosecond))
+        result buffer.old buffer.new }
+{
+    write_lines(&iso8601_by(config, InUtc), moments, end, buffer)
+}
+
+impl<S: Source> Iso8601By<S> {
+    /// Puts the text of the value by such choices with separators at the start of the buffer. Each
+    /// source has one call of a function of its own, so that the compiler can inline it.
+    fn put_usual(
+        &self,
+        usual: &Usual,
+        value: &OffsetDateTime,
+        room: &mut [u8],
+    ) -> Result<usize, Reason>
+        requires room { iso8601_width (separated usual.now) ≤ length room.old }
+        ensures { IsWritten result (iso8601_of (separated usual.now) value.now)
+            room.old room.new }
+    {
+        Ok(put_at_start(&separated_text(usual, value)?, room))
+    }
+
+    /// Writes the text of the item by any configuration to the start of the buffer.
+    #[inline(never)]
+    #[tactic(auto, unfolding(crate::specs::Chosen::iso8601_by))]
+    fn write_by(&self, item: &S::Item, room: &mut [u8]) -> Result<usize, Reason>
+        ensures { IsText (iso8601_by self.now.config (S.given self.now.source item.now))
+            result room.old room.new }
+    {
+        let config = config_at(&self.config)?;
+        write_parts(&config, &self.source.value(item)?, room)
+    }
+}
+
+/// Writes the text of the value to an array first, part by part, since one may be refused after
+/// others.
+#[inline(never)]
+fn write_parts(config: &Config, value: &OffsetDateTime, room: &mut [u8]) -> Result<usize, Reason>
+    ensures { IsWritten result (iso8601_of config.now value.now) room.old room.new }
+{
+    if config.formats_nothing() {
+        return Err(Reason::Insufficient);
+    }
+    let mut line = [0u8; MOST_BYTES];
+    let _width = config.width();
+    match put_at_once::<Brand>(config, value, &mut line) {
+        Ok(count) => copy_text(&line[..count], room),
+        Err(reason) => Err(reason),
+    }
+}
+
+/// Puts the parts at the start of a buffer that holds them, up to what is refused.
+fn put_at_once<B: Before>(
+    config: &Config,
+    value: &OffsetDateTime,
+    room: &mut [u8],
+) -> Result<usize, Reason>
+    requires before { room.old ≡ B.before }
+    requires some { config.now.formatted_components ≢ FormattedComponents.None }
+    requires room { iso8601_width config.now ≤ length room.old }
+    ensures text { IfOk result (λ n. IsWritten (Ok n) (iso8601_of config.now value.now) room.old room.new) }
+    ensures fits { IfOk result (λ n. n ≤ length room.old) }
+    ensures refused { IfErr result (λ r. IsRefusedFor r (iso8601_of config.now value.now)) }
+    ensures len { length room.new ≡ length room.old }
+{
+    let mut sink = RoomSink::<B>::new(room);
+    put_parts(&mut sink, config, value, &mut DateState::default())?;
+    Ok(sink.len())
+}

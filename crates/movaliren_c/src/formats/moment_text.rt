@@ -1,0 +1,141 @@
+//! Formats of moments, whose texts are written without an allocation.
+//!
+//! Without `inline(always)` the compiler leaves calls of the functions that have it. `cold` and
+//! `inline(never)` keep long or rare bodies out of their callers.
+ghost use Rattle.std.specs.Prelude.{◌≡◌, ◌≤◌, ◌++◌, ℕ, IfOk, IfErr, drop, length};
+ghost use Rattle.movaliren_c.specs.Answer.{IsAnswer, IsRefusedFor, IsText, IsWritten, gives};
+ghost use Rattle.time_below.specs.Moment.{OffsetDateAndTime};
+ghost use Rattle.time_fmt.specs.Outcome.{Outcome, done};
+
+use crate::answers::reason::{Reason, answer_number};
+use crate::answers::room::copy_text;
+use crate::answers::writer::Writer;
+use crate::values::moment::UtcMoment;
+use crate::values::source::Source;
+use std::marker::Brand;
+use time_below::OffsetDateTime;
+use time_fmt::{Before, RoomSink};
+use time_known::sink::Text;
+
+/// A format of moments, whose texts have at most 35 bytes.
+pub trait Format: Copy {
+    /// A text, of a value of which nothing is refused.
+    type Text: Text + Copy;
+
+    ghost WIDTH: { ℕ };
+
+    /// The most bytes of a text.
+    const WIDTH: usize;
+
+    /// What the format gives.
+    ghost outcome: { Self → OffsetDateAndTime → Outcome };
+
+    /// The text of the value, or the reason why it has none.
+    fn text(self, value: &OffsetDateTime) -> Result<Self::Text, Reason>
+        ensures text { IfOk result (λ t. outcome self value.now ≡ done (Self.Text.text t)) }
+        ensures width { IfOk result (λ t. Self.Text.width t ≤ WIDTH) }
+        ensures short { WIDTH ≤ 35 }
+        ensures refused { IfErr result (λ r. IsRefusedFor r (outcome self value.now)) };
+}
+
+/// The texts of a format, of the moments of a source.
+#[derive(Clone, Copy)]
+pub struct Texts<F, S> {
+    format: F,
+    source: S,
+}
+
+/// Returns the texts of this format, of the moments of this source.
+pub fn texts_of<F: Format, S: Source>(format: F, source: S) -> Texts<F, S>
+    ensures { result ≡ record { format = format; source = source } }
+{
+    Texts { format, source }
+}
+
+impl<F: Format, S: Source> Writer for Texts<F, S> {
+    type Item = S::Item;
+
+    ghost asked = { λ texts item. gives (S.given texts.source item) (F.outcome texts.format) };
+
+    fn write(&self, item: &S::Item, room: &mut [u8]) -> Result<usize, Reason> {
+        if room.len() < F::WIDTH {
+            return self.copy(item, room);
+        }
+        match self.source.value(item) {
+            Ok(value) => self.put(&value, room),
+            Err(reason) => Err(reason),
+        }
+    }
+}
+
+impl<F: Format, S: Source> Texts<F, S> {
+    /// Puts the text of the value at the start of a buffer that holds every text. Each format and
+    /// source has one call of a function of its own, so that the compiler can inline it.
+    fn put(&self, value: &OffsetDateTime, room: &mut [u8]) -> Result<usize, Reason>
+        requires room { F.WIDTH ≤ length room.old }
+        ensures { IsWritten result (F.outcome self.now.format value.now) room.old room.new }
+    {
+        match self.format.text(value) {
+            Ok(text) => Ok(put_at_start(&text, room)),
+            Err(reason) => Err(reason),
+        }
+    }
+
+    /// Writes the text of the item to the start of a buffer that may be too small.
+    #[cold]
+    #[inline(never)]
+    fn copy(&self, item: &S::Item, room: &mut [u8]) -> Result<usize, Reason>
+        ensures { IsText (gives (S.given self.now.source item.now) (F.outcome self.now.format))
+            result room.old room.new }
+    {
+        let value = self.source.value(item)?;
+        let text = self.format.text(&value)?;
+        let mut line = [0u8; 35];
+        let count = put_at_start(&text, &mut line);
+        copy_text(&line[..count], room)
+    }
+}
+
+/// Puts the text at the start of the buffer, and returns the number of its bytes.
+#[inline(always)]
+pub fn put_at_start<T: Text>(text: &T, room: &mut [u8]) -> usize
+    requires room { T.width text.now ≤ length room.old }
+    ensures fits { result ≤ length room.old }
+    ensures count { result ≡ length (T.text text.now) }
+    ensures text { room.new
+        ≡ T.text text.now ++ drop (length (T.text text.now)) room.old }
+{
+    put_before::<Brand, T>(text, room)
+}
+
+/// Puts it at the start of a buffer that held these bytes before.
+#[inline(always)]
+fn put_before<B: Before, T: Text>(text: &T, room: &mut [u8]) -> usize
+    requires before { room.old ≡ B.before }
+    requires room { T.width text.now ≤ length room.old }
+    ensures fits { result ≤ length room.old }
+    ensures count { result ≡ length (T.text text.now) }
+    ensures text { room.new
+        ≡ T.text text.now ++ drop (length (T.text text.now)) room.old }
+{
+    let mut sink = RoomSink::<B>::new(room);
+    text.put_into(&mut sink);
+    sink.len()
+}
+
+/// Answers for a moment by its seconds since 1970 and its nanosecond.
+pub fn answer_at<W: Writer<Item = UtcMoment>>(
+    writer: &W,
+    seconds: i64,
+    nanosecond: u32,
+    room: &mut [u8],
+) -> isize
+    ensures { IsAnswer (W.asked writer.now (record { seconds = seconds; nanosecond = nanosecond }))
+        result room.old room.new }
+{
+    let moment = UtcMoment {
+        seconds,
+        nanosecond,
+    };
+    answer_number(writer.write(&moment, room))
+}

@@ -1,0 +1,69 @@
+//! Stamps: texts of moments in UTC whose bytes are in the order of the moments.
+ghost use Rattle.movaliren_c.specs.Answer.{IsAnswer, gives};
+ghost use Rattle.movaliren_c.specs.Batch.{IsBatch};
+ghost use Rattle.movaliren_c.specs.Utc.{utc_stamp_of, utc_value};
+ghost use Rattle.time_known.specs.Stamps.{stamp_length};
+
+use crate::answers::batch::{Progress, write_lines};
+use crate::answers::reason::Reason;
+use crate::answers::writer::Writer;
+use crate::formats::moment_text::{Format, answer_at, texts_of};
+use crate::values::moment::UtcMoment;
+use crate::values::source::InUtc;
+use std::default::Default;
+use time_below::{OffsetDateTime, UtcDateTime};
+use time_known::fields::accepted_fields;
+use time_known::iso8601::StampText;
+use time_provide::DateState;
+
+/// Stamps of moments in UTC.
+#[derive(Clone, Copy)]
+struct Stamp;
+
+impl Format for Stamp {
+    type Text = StampText;
+
+    ghost WIDTH = { stamp_length };
+
+    const WIDTH: usize = 30;
+
+    ghost outcome = { λ _. utc_stamp_of };
+
+    fn text(self, value: &OffsetDateTime) -> Result<StampText, Reason> {
+        let value = UtcDateTime::new(value.date(), value.time());
+        let fields = accepted_fields(0, 25, &value, &mut DateState::default())?;
+        Ok(StampText { fields })
+    }
+}
+
+/// Without this step a stamp costs an instruction more.
+impl Writer for Stamp {
+    type Item = UtcMoment;
+
+    ghost asked = { λ _ moment. gives (utc_value moment.seconds moment.nanosecond) utc_stamp_of };
+
+    fn write(&self, moment: &UtcMoment, room: &mut [u8]) -> Result<usize, Reason> {
+        texts_of(*self, InUtc).write(moment, room)
+    }
+}
+
+/// The stamp of a moment.
+#[unsafe(no_mangle)]
+pub extern "C" fn movaliren_stamp_utc(seconds: i64, nanosecond: u32, buffer: &mut [u8]) -> isize
+    ensures { IsAnswer (gives (utc_value seconds nanosecond) utc_stamp_of) result buffer.old buffer.new }
+{
+    answer_at(&Stamp, seconds, nanosecond, buffer)
+}
+
+/// The stamps of the moments, one after another, each ended by this byte.
+#[unsafe(no_mangle)]
+pub extern "C" fn movaliren_stamp_utc_batch(
+    moments: &[UtcMoment],
+    end: u8,
+    buffer: &mut [u8],
+) -> Progress
+    ensures { IsBatch moments.now end (λ m. gives (utc_value m.seconds m.nanosecond) utc_stamp_of)
+        result buffer.old buffer.new }
+{
+    write_lines(&Stamp, moments, end, buffer)
+}
