@@ -1,10 +1,10 @@
 -- The parts that are written, one after another, give the outcome and the width of the choices.
-use Rattle.std.proofs.Common.{◌≡◌, ◌≢◌, ℕ, ◌+◌, Bool, append_assoc, length-append, arith, Result, Ok, MatchOption, Option, Vec}
+use Rattle.std.proofs.Common.{◌≡◌, ◌≢◌, ℕ, ◌+◌, Bool, append_assoc, length-append, arith, Result, Ok, Vec}
 use Rattle.std.specs.Global.{Global}
 use Rattle.std.proofs.lemmas.Grind.{common_steps}
-use Rattle.time_fmt.specs.Outcome.{AppendsUpTo, Outcome, join}
+use Rattle.time_fmt.specs.Outcome.{Outcome, join}
 use Rattle.time_fmt.specs.Sink.{Buffer}
-use Rattle.time_known.specs.Accepted.{PutsOutcome}
+use Rattle.time_known.specs.Accepted.{AppendsAllOrNone, PutsOutcome}
 use Rattle.time_known.specs.Config.{Choices, has_date, has_time, has_offset}
 use Rattle.time_known.specs.Groups.{AreAllSupplied, at_groups}
 use Rattle.time_known.specs.Iso8601.{iso8601_outcome, iso_of_groups, iso_date, iso_time, iso_offset, part_if}
@@ -48,12 +48,12 @@ put_by_choice c f some supplied groups p q r = rw (parts_are c f some supplied g
 
 -- ---- a date alone
 
--- what is appended of a date alone, if anything, is the whole text
-pub date_alone : {date time offset moment : Bool} (found : Option ℕ) (old new : Vec ℕ Global) (c : Choices) (f : Facts)
+-- what is appended or refused of a date alone is so of the whole text
+pub date_alone : {date time offset moment : Bool} (answer : Result ℕ OutOfRange) (old new : Vec ℕ Global) (c : Choices) (f : Facts)
     → c.formatted_components ≡ components.Date → SuppliesParts c date time offset → Supplies date time offset moment f
-    → MatchOption found (new ≡ old) (λ n. AppendsUpTo (iso_date_width c) old new (Ok n) (iso_date c (the_date f)))
-    → MatchOption found (new ≡ old) (λ n. AppendsUpTo (iso8601_width c) old new (Ok n) (iso8601_outcome c f))
-date_alone found old new c f e supplied groups h = grind (arith, common_steps)
+    → AppendsAllOrNone (iso_date_width c) old new answer (iso_date c (the_date f))
+    → AppendsAllOrNone (iso8601_width c) old new answer (iso8601_outcome c f)
+date_alone answer old new c f e supplied groups h = grind (arith, common_steps)
 
 -- ---- usual texts
 

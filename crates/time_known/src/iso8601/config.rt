@@ -85,13 +85,25 @@ pub struct Usual {
 /// The function by which a text is written, so far as a configuration decides it.
 #[derive(Clone, Copy)]
 pub(super) enum Way {
-    /// All parts, with what is left to choose. By the parts one after another, the default text
-    /// costs half as much again.
+    /// All parts, with what is left to choose. One part after another, they cost more.
     Usual(Usual),
-    /// The date alone, after four digits of the year. By the parts, one by month and day costs a
-    /// third more.
-    ShortDate,
-    /// Any other text, part by part.
+    /// Any other text. Which one is asked only then, so that a usual text needs no jump through a
+    /// table.
+    Unusual(Unusual),
+}
+
+/// The function by which an unusual text is written.
+#[derive(Clone, Copy)]
+pub(super) enum Unusual {
+    /// The date alone by month and day, after four digits of the year.
+    CalendarDate,
+    /// The date alone by week and weekday, after four digits of the year.
+    WeekDate,
+    /// The date alone by the day of the year, after four digits of the year and a dash.
+    OrdinalDate,
+    /// The same without the dash. By one function that tests for the dash, both cost more.
+    CompactOrdinalDate,
+    /// Any other text, one part after another.
     Parts,
 }
 
@@ -278,19 +290,23 @@ impl Config {
         ensures way { result ≡ way_of self.now }
         ensures fits { FitsWay self.now result }
     {
-        if self.year_is_six_digits {
-            return Way::Parts;
-        }
         let parts = (self.formatted_components, self.date_kind);
-        match (parts, self.time_precision, self.offset_precision) {
-            ((FormattedComponents::Date, _), _, _) => Way::ShortDate,
+        let unusual = match (parts, self.time_precision, self.offset_precision) {
+            _ if self.year_is_six_digits => Unusual::Parts,
             (
                 (FormattedComponents::DateTimeOffset, DateKind::Calendar),
                 TimePrecision::Second { decimal_digits },
                 OffsetPrecision::Minute,
-            ) => Way::Usual(self.usual(decimal_digits)),
-            _ => Way::Parts,
-        }
+            ) => return Way::Usual(self.usual(decimal_digits)),
+            ((FormattedComponents::Date, DateKind::Calendar), _, _) => Unusual::CalendarDate,
+            ((FormattedComponents::Date, DateKind::Week), _, _) => Unusual::WeekDate,
+            ((FormattedComponents::Date, DateKind::Ordinal), _, _) if self.use_separators => {
+                Unusual::OrdinalDate
+            }
+            ((FormattedComponents::Date, DateKind::Ordinal), _, _) => Unusual::CompactOrdinalDate,
+            _ => Unusual::Parts,
+        };
+        Way::Unusual(unusual)
     }
 
     // What is left to choose with these decimals of the second.

@@ -1,7 +1,6 @@
 //! The parts of a value that a text is made of, one after another.
 //!
 //! Without `inline(always)` the compiler leaves calls of the functions that have it.
-//! `inline(never)` keeps long or rare bodies out of their callers.
 ghost use Rattle.std.specs.Prelude.{◌≡◌, ◌≢◌, IfSome, IsTrue, MatchOption, Ok, OnOk};
 ghost use Rattle.std.specs.Prelude.{false};
 ghost use Rattle.time_below.specs.Facts.{the_date};
@@ -13,12 +12,12 @@ ghost use Rattle.time_known.specs.Iso8601.{iso8601_outcome};
 ghost use Rattle.time_known.specs.Iso8601Parts.{AreOfDate, IsRealWhole, SuppliesParts};
 ghost use Rattle.time_known.specs.Iso8601Width.{iso8601_width};
 ghost use Rattle.time_known.specs.Accepted.{AppendsAllOrNone, PutsOutcome};
-ghost use Rattle.time_known.specs.Ways.{FitsWay};
+ghost use Rattle.time_known.specs.Ways.{FitsUnusual, FitsWay};
 
 use crate::accepted::OutOfRange;
 use crate::days::CalendarDay;
 use crate::fields::{offset_of, time_of};
-use crate::iso8601::config::{Config, DateKind, FormattedComponents, Way};
+use crate::iso8601::config::{Config, DateKind, FormattedComponents, Unusual, Way};
 use crate::iso8601::date::{put_date, write_date_by};
 use crate::iso8601::offset::put_offset;
 use crate::iso8601::time::put_time;
@@ -156,7 +155,6 @@ pub(super) fn write_parts<V: ComponentProvider>(
 
 // Appends the parts that are formatted, one after another, by any configuration. It is copied
 // first, so that no byte that is written may change it.
-#[inline(never)]
 fn write_each<V: ComponentProvider>(
     config: &Config,
     output: &mut Vec<u8>,
@@ -205,36 +203,45 @@ fn write_by_way<V: ComponentProvider>(
 {
     match way {
         Way::Usual(usual) => write_usual(config, usual, output, value, state),
-        Way::ShortDate => match write_short_date(config, output, value, state) {
-            Some(count) => Some(Ok(count)),
-            None => None,
-        },
-        Way::Parts => None,
+        Way::Unusual(unusual) => write_unusual(config, unusual, output, value, state),
     }
 }
 
-// Appends a date alone, where four digits hold its year; else it appends nothing. The compiler makes
-// the text of each kind apart.
+// Appends a date alone, or refuses a year that four digits do not hold, by the function that the
+// configuration decided. The compiler makes the text of each kind apart: by the parts, a date by
+// month and day costs more. Of any other text it appends nothing.
 #[tactic(auto, using(crate::proofs::iso8601::PartsLemmas::date_alone))]
-fn write_short_date<V: ComponentProvider>(
+fn write_unusual<V: ComponentProvider>(
     config: &Config,
+    unusual: &Unusual,
     output: &mut Vec<u8>,
     value: &V,
     state: &mut V::State,
-) -> Option<usize>
-    requires alone { config.now.formatted_components ≡ FormattedComponents.Date }
-    requires short { config.now.year_is_six_digits ≡ false }
+) -> Option<Result<usize, OutOfRange>>
+    requires fits { FitsUnusual config.now unusual.now }
     requires supplied { SuppliesParts config.now V.SUPPLIES_DATE V.SUPPLIES_TIME V.SUPPLIES_OFFSET }
     requires room { HasRoom output.old (iso8601_width config.now) }
     requires agrees { V.agrees state.old value.now }
     ensures appends { MatchOption result (output.new ≡ output.old)
-        (λ n. AppendsUpTo (iso8601_width config.now) output.old output.new (Ok n)
+        (λ answer. AppendsAllOrNone (iso8601_width config.now) output.old output.new answer
         (iso8601_outcome config.now (V.facts value.now))) }
+    ensures real { IfSome result (λ answer. OnOk answer (IsRealWhole config.now (V.facts value.now))) }
     ensures agrees { V.agrees state.new value.now }
 {
-    match config.date_kind() {
-        DateKind::Calendar => write_date_by(config, DateKind::Calendar, output, value, state),
-        DateKind::Week => write_date_by(config, DateKind::Week, output, value, state),
-        DateKind::Ordinal => write_date_by(config, DateKind::Ordinal, output, value, state),
+    let has_dash = config.use_separators();
+    match unusual {
+        Unusual::CalendarDate => {
+            Some(write_date_by(config, DateKind::Calendar, has_dash, output, value, state))
+        }
+        Unusual::WeekDate => {
+            Some(write_date_by(config, DateKind::Week, has_dash, output, value, state))
+        }
+        Unusual::OrdinalDate => {
+            Some(write_date_by(config, DateKind::Ordinal, true, output, value, state))
+        }
+        Unusual::CompactOrdinalDate => {
+            Some(write_date_by(config, DateKind::Ordinal, false, output, value, state))
+        }
+        Unusual::Parts => None,
     }
 }

@@ -1,7 +1,6 @@
 //! The time of day of a text of ISO 8601-1:2019, section 5.3.
 //!
 //! Without `inline(always)` the compiler leaves calls of the functions that have it.
-//! `inline(never)` keeps long or rare bodies out of their callers.
 #![tactic(auto, using(crate::proofs::LengthLemmas::joined_lengths))]
 
 ghost use Rattle.std.specs.Prelude.{◌≡◌, Ok, ◌+◌, ◌*◌, ◌<◌, ◌≤◌, ◌++◌, length, IsTrue};

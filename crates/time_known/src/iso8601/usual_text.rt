@@ -1,7 +1,6 @@
 //! The texts of the usual configurations, in pieces that are inlined.
 //!
 //! Without `inline(always)` the compiler leaves calls of the functions that have it.
-//! `inline(never)` keeps long or rare bodies out of their callers.
 #![tactic(auto, using(crate::proofs::LengthLemmas::joined_lengths))]
 
 ghost use Rattle.std.specs.Prelude.{◌≡◌, ◌≤◌, ◌+◌, ◌*◌, ◌++◌, length, IfSome, MatchOption, OnOk};
@@ -206,10 +205,10 @@ pub(super) fn put_fraction_by<S: Sink>(
     }
 }
 
-// Puts this many decimals of the second.
+/// Puts this many decimals of the second.
 #[inline(always)]
 #[tactic(auto, using(crate::proofs::iso8601::LengthLemmas::decimals_of_second))]
-fn put_decimals<S: Sink>(output: &mut S, nanosecond: Nanoseconds, digits: ru8<1, 255>)
+pub fn put_decimals<S: Sink>(output: &mut S, nanosecond: Nanoseconds, digits: ru8<1, 255>)
     requires room { Fits (S.buffer output.old) digits }
     ensures puts { Puts (S.buffer output.old) (S.buffer output.new) digits
         (decimals nanosecond NANOSECONDS_PER_SECOND digits) }

@@ -19,7 +19,7 @@ impl Way {
     {
         match self {
             Way::Usual(usual) => usual.width(),
-            Way::ShortDate | Way::Parts => config.width(),
+            Way::Unusual(_) => config.width(),
         }
     }
 }

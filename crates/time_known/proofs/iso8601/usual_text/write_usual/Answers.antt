@@ -3,7 +3,6 @@ use Rattle.time_known.specs.Fields.{Shown}
 use Rattle.time_known.specs.Groups.{at_groups}
 use Rattle.time_known.specs.UsualText.{choices_of, usual_text}
 use Rattle.time_known.specs.Values.{the_date, the_time, the_offset}
-use Rattle.time_known.specs.declared.iso8601.config.DateKind.TheVariants as kind
 use Rattle.time_known.proofs.AcceptedLemmas.{appended_as, usual_accepted, usual_year_refused}
 use Rattle.time_known.proofs.iso8601.PartsLemmas.{all_parts}
 use Rattle.time_known.proofs.iso8601.usual_text.write_usual.Goals as goal
@@ -17,7 +16,7 @@ returns-in-Ok-clause-appends g c =
     rw (
       all_parts c.args.config.now f c.args.usual.now c.requires.usual c.requires.supplied
           (g.met.V.ComponentProvider.groups c.args.value.now),
-      usual_accepted c.args.config.now kind.Calendar u.has_separators u.decimal_digits u.decimal_sign (the_date f) (the_time f)
+      usual_accepted c.args.config.now u.has_separators u.decimal_digits u.decimal_sign (the_date f) (the_time f)
           (the_offset f) text c.requires.usual (c.in-Ok.ensures.accepted text),
       c.requires.usual,
     )
