@@ -24,7 +24,7 @@ DEFINED = [re.compile(pattern, re.M) for pattern in (
     r"\b(?:fn|struct|enum|trait|mod|const|type|macro_rules!|data|record|abbrev) (\w[\w-]*)",
     r"^(?:(?:pub|abbrev|record|data|unfoldable|opaque) )*([\w-]+) :",
     r"^\s+(?:pub )?(\w+) ?: ",
-    r"^    (\w+)(?:\(.*|,| \{)?$",
+    r"^    (\w+)(?:\(.*| = \d+,|,| \{)?$",
 )]
 OF_RATTLE = {
     "usize", "None", "Ok", "Err", "From", "TryFrom", "Vec", "Debug", "true", "false", "Result", "Option", "must-fail",

@@ -9,7 +9,7 @@ use Rattle.std.proofs.lemmas.List.{append-nil, drop-drop, drop_all, drop_at, tak
 use Rattle.std.specs.Prelude.{codes}
 use Rattle.movaliren_c.specs.Answer.{IsAnswer, IsWritten, answer_number}
 use Rattle.movaliren_c.specs.Chosen.{iso8601_by}
-use Rattle.movaliren_c.specs.Log.{Remembers, head_of, log_choices, log_config}
+use Rattle.movaliren_c.specs.Log.{Remembers, log_choices, log_config}
 use Rattle.movaliren_c.specs.Utc.{local_value}
 use Rattle.movaliren_c.specs.Value.{timestamp_value}
 use Rattle.movaliren_c.specs.declared.answers.reason.Reason.{Reason}
@@ -22,8 +22,8 @@ use Rattle.time_known.proofs.AcceptedLemmas.{usual_accepted}
 use Rattle.time_known.specs.Accepted.{checked_text}
 use Rattle.time_known.specs.Fields.{Shown, fields}
 use Rattle.time_known.specs.Iso8601.{iso8601_of}
+use Rattle.time_known.specs.Rfc3339.{second_text}
 use Rattle.time_known.specs.WellKnown.{clock_text, offset_text, date_text}
-use Rattle.time_known.specs.declared.iso8601.config.DateKind.TheVariants as kind
 use Rattle.time_known.specs.declared.iso8601.config.DecimalSign.TheVariants as sign
 use Rattle.std.proofs.lemmas.Grind.{common_steps}
 
@@ -51,14 +51,14 @@ regrouped date clock fraction offset = simp append_assoc
 pub remembered : (s east : ℤ) (v : OffsetDateAndTime) (f : Shown) → local_value s 0 east ≡ Ok v
     → checked_text 0 25 v.date.year (unsigned_abs v.offset.hours) (unsigned_abs v.offset.seconds) [] ≡ done []
     → f ≡ fields (date_facts v.date) v.time v.offset
-    → Remembers s east (head_of f.date f.time) (offset_text (codes ":") f.offset)
+    → Remembers s east (second_text f.date f.time) (offset_text (codes ":") f.offset)
 remembered s east v f value accepted shown = λ n d small.
     let w = at n v in
     let date = date_text (codes "-") (date_facts w.date) in
     let clock = clock_text (codes ":") w.time in
     let offset = offset_text (codes ":") w.offset in
     let text : iso8601_of (log_choices d) w ≡ done (date ++ (codes "T" ++ (clock ++ (codes "." ++ decimals n 1_000_000_000 d))) ++ offset) =
-    usual_accepted (log_choices d) kind.Calendar true (Some d) sign.Point (date_facts w.date) w.time w.offset [] refl accepted in
+    usual_accepted (log_choices d) true (Some d) sign.Point (date_facts w.date) w.time w.offset [] refl accepted in
     rw (later s east n v value small, text, shown) (ap (λ (t : List ℕ). Ok (done t)) (regrouped date clock (decimals n 1_000_000_000 d) offset))
 
 -- the bytes that are kept are those

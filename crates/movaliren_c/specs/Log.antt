@@ -1,5 +1,5 @@
 -- What is kept for the times of the lines of one second.
-use Rattle.std.specs.Prelude.{ℕ, ◌<◌, ◌≡◌, ℤ, true, List, ◌++◌, codes, take, Some, Ok}
+use Rattle.std.specs.Prelude.{ℕ, ◌<◌, ◌≡◌, ℤ, true, List, ◌++◌, take, Some, Ok}
 use Rattle.movaliren_c.specs.Answer.{gives}
 use Rattle.movaliren_c.specs.Utc.{local_value}
 use Rattle.movaliren_c.specs.declared.formats.iso8601.config.Iso8601Config.{Iso8601Config}
@@ -9,8 +9,6 @@ use Rattle.time_fmt.specs.Outcome.{done}
 use Rattle.time_known.specs.Config.{Choices}
 use Rattle.time_known.specs.Iso8601.{iso8601_of}
 use Rattle.time_known.specs.UsualText.{usual_choices}
-use Rattle.time_known.specs.WellKnown.{clock_text, date_text}
-use Rattle.time_known.specs.Values.{DateFacts, TimeOfDay}
 use Rattle.time_known.specs.declared.iso8601.config.DecimalSign.TheVariants as sign
 
 -- the configuration of ISO 8601 by default, with so many decimals: a date, a time to the second and an offset to the minute
@@ -29,10 +27,6 @@ log_config digits = record {
 -- what that chooses, of one decimal or more
 abbrev pub log_choices : ℕ → Choices
 log_choices digits = usual_choices true (Some digits) sign.Point
-
--- what stands before the decimals
-abbrev pub head_of : DateFacts → TimeOfDay → List ℕ
-head_of d t = date_text (codes "-") d ++ codes "T" ++ clock_text (codes ":") t ++ codes "."
 
 -- each moment of the second has a text: what stands before its decimals, these, and what stands after them
 abbrev pub Remembers : ℤ → ℤ → List ℕ → List ℕ → Type 0

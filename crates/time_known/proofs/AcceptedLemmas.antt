@@ -7,8 +7,8 @@ use Rattle.std.proofs.lemmas.Grind.{common_steps}
 use Rattle.std.specs.Prelude.{codes, if◌then◌else◌}
 use Rattle.time_fmt.specs.Outcome.{AppendsUpTo, done, refused, join, invalid_component}
 use Rattle.time_known.specs.Accepted.{checked_text, component_name, refused_for}
-use Rattle.time_known.specs.Config.{Choices, DecimalSign, DateKind}
-use Rattle.time_known.specs.Iso8601.{iso_of_groups, year_of_kind}
+use Rattle.time_known.specs.Config.{Choices, DecimalSign}
+use Rattle.time_known.specs.Iso8601.{iso_of_groups}
 use Rattle.time_known.specs.UsualText.{choices_of, usual_choices, usual_text}
 use Rattle.time_known.specs.Values.{DateFacts, Offset, TimeOfDay}
 use Rattle.time_known.specs.WellKnown.{refused_if, is_outside}
@@ -25,20 +25,20 @@ pub any_hour : (first : ℕ) (year : ℤ) (hour second : ℕ) (text : List ℕ) 
     (refused_if (nat_lt 0 second) (codes "offset_second") (done text))
 any_hour first year hour second text h = rw (above_not 25 hour h) refl
 
--- an accepted year and offset complete the text of these choices, with a date of this kind
-pub usual_accepted : (c : Choices) (k : DateKind) (has_separators : Bool) (digits : Option ℕ) (sign : DecimalSign)
+-- an accepted year and offset complete the text of these choices
+pub usual_accepted : (c : Choices) (has_separators : Bool) (digits : Option ℕ) (sign : DecimalSign)
     (d : DateFacts) (t : TimeOfDay) (o : Offset) (text : List ℕ)
-    → c ≡ record (usual_choices has_separators digits sign) { date_kind = k }
-    → checked_text 0 25 (year_of_kind k d) (unsigned_abs o.hours) (unsigned_abs o.seconds) text ≡ done text
+    → c ≡ usual_choices has_separators digits sign
+    → checked_text 0 25 d.year (unsigned_abs o.hours) (unsigned_abs o.seconds) text ≡ done text
     → iso_of_groups components.DateTimeOffset c d t o ≡ done (usual_text c digits d t o)
-usual_accepted c k has_separators digits sign d t o text e accepted = grind (arith, common_steps, test_is_passed)
+usual_accepted c has_separators digits sign d t o text e accepted = grind (arith, common_steps, test_is_passed)
 
 -- a year that is refused is refused by the text of these choices
-pub usual_year_refused : (c : Choices) (k : DateKind) (u : Usual) (d : DateFacts) (t : TimeOfDay) (o : Offset) (text : List ℕ)
-    → c ≡ choices_of k u
-    → checked_text 0 25 (year_of_kind k d) (unsigned_abs o.hours) (unsigned_abs o.seconds) text ≡ refused_for out.Year
+pub usual_year_refused : (c : Choices) (u : Usual) (d : DateFacts) (t : TimeOfDay) (o : Offset) (text : List ℕ)
+    → c ≡ choices_of u
+    → checked_text 0 25 d.year (unsigned_abs o.hours) (unsigned_abs o.seconds) text ≡ refused_for out.Year
     → iso_of_groups components.DateTimeOffset c d t o ≡ refused_for out.Year
-usual_year_refused c k u d t o text e refused = grind (arith, common_steps, any_hour)
+usual_year_refused c u d t o text e refused = grind (arith, common_steps, any_hour)
 
 -- the refusals of a text by these choices are those of its year and of the seconds of its offset
 refusal_is : (outside zed seconds : Bool) (year after time zero hours minutes text name : List ℕ)

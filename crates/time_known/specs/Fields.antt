@@ -22,10 +22,6 @@ no_date = record {
 abbrev pub by_month_and_day : ℕ → ℕ → ℕ → DateFacts
 by_month_and_day year month day = record no_date { year = pos year; month = month; day = day }
 
--- a date by its year, its week and its weekday alone
-abbrev pub by_week : ℕ → ℕ → ℕ → DateFacts
-by_week year week weekday = record no_date { iso_year = pos year; iso_week = week; weekday = weekday }
-
 -- a date, a time of day and an offset
 pub record Shown : Type 0 where
   pub date : DateFacts

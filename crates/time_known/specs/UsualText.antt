@@ -1,7 +1,7 @@
 -- The text of ISO 8601 by the usual configurations, of a value of which nothing is refused.
 use Rattle.std.specs.Prelude.{ℕ, ◌++◌, Bool, List, codes, unsigned_abs, Option}
 use Rattle.time_digits.specs.Digits.{zero_padded}
-use Rattle.time_known.specs.Config.{Choices, default_choices, separator, DateKind, DecimalSign}
+use Rattle.time_known.specs.Config.{Choices, default_choices, separator, DecimalSign}
 use Rattle.time_known.specs.Iso8601.{decimal_part, text_after_year, year_of_kind}
 use Rattle.time_known.specs.Values.{Offset, TimeOfDay, DateFacts}
 use Rattle.time_known.specs.WellKnown.{clock_text, offset_text}
@@ -17,9 +17,9 @@ usual_choices has_separators digits sign = record default_choices {
   decimal_sign = sign;
 }
 
--- the same as they were chosen, with a date of this kind
-abbrev pub choices_of : DateKind → Usual → Choices
-choices_of k u = record (usual_choices u.has_separators u.decimal_digits u.decimal_sign) { date_kind = k }
+-- the same as they were chosen
+abbrev pub choices_of : Usual → Choices
+choices_of u = usual_choices u.has_separators u.decimal_digits u.decimal_sign
 
 -- the time of such a text
 abbrev pub usual_time_text : List ℕ → DecimalSign → Option ℕ → TimeOfDay → List ℕ

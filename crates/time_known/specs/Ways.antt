@@ -18,16 +18,12 @@ usual_of c digits = record { has_separators = c.use_separators; decimal_digits =
 
 -- by the parts, the kind of date, whether the year has six digits, the two precisions, and the choices
 abbrev pub way_by : FormattedComponents → DateKind → Bool → TimePrecision → OffsetPrecision → Choices → Way
-way_by components.Time k six p o c = way.Unusual unusual.Time
 way_by components.Date kind.Calendar false p o c = way.Unusual unusual.CalendarDate
 way_by components.Date kind.Week false p o c = way.Unusual unusual.WeekDate
 way_by components.Date kind.Ordinal false p o c =
     way.Unusual (if c.use_separators then unusual.OrdinalDate else unusual.CompactOrdinalDate)
-way_by components.DateTime kind.Calendar false p o c = way.Unusual unusual.DateTime
 way_by components.DateTimeOffset kind.Calendar false (precision.Second d) offset_precision.Minute c = way.Usual (usual_of c d)
-way_by components.DateTimeOffset kind.Week false (precision.Second d) offset_precision.Minute c =
-    way.Unusual (unusual.Week (usual_of c d))
-way_by _ _ _ _ _ _ = way.Unusual unusual.Other
+way_by _ _ _ _ _ _ = way.Unusual unusual.Parts
 
 -- the function that the choices decide
 abbrev pub way_of : Choices → Way
@@ -39,16 +35,12 @@ IsShortDate c k = (c.formatted_components ≡ components.Date) × (c.year_is_six
 
 -- what such a function says of the choices
 abbrev pub FitsUnusual : Choices → Unusual → Type 0
-FitsUnusual c (unusual.Week u) = c ≡ choices_of kind.Week u
 FitsUnusual c unusual.CalendarDate = IsShortDate c kind.Calendar
 FitsUnusual c unusual.WeekDate = IsShortDate c kind.Week
 FitsUnusual c unusual.OrdinalDate = IsShortDate c kind.Ordinal × (c.use_separators ≡ true)
 FitsUnusual c unusual.CompactOrdinalDate = IsShortDate c kind.Ordinal × (c.use_separators ≡ false)
-FitsUnusual c unusual.Time = c.formatted_components ≡ components.Time
-FitsUnusual c unusual.DateTime =
-    (c.formatted_components ≡ components.DateTime) × (c.year_is_six_digits ≡ false) × (c.date_kind ≡ kind.Calendar)
-FitsUnusual c unusual.Other = Unit
+FitsUnusual c unusual.Parts = Unit
 
 abbrev pub FitsWay : Choices → Way → Type 0
-FitsWay c (way.Usual u) = c ≡ choices_of kind.Calendar u
+FitsWay c (way.Usual u) = c ≡ choices_of u
 FitsWay c (way.Unusual u) = FitsUnusual c u

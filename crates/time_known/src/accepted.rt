@@ -1,10 +1,11 @@
 //! What of a value a format has no place for.
 ghost use Rattle.std.specs.Prelude.{◌≡◌, ◌≤◌, ℕ, List, IfOk, IfErr, unsigned_abs};
-ghost use Rattle.time_fmt.specs.Outcome.{done};
+ghost use Rattle.time_fmt.specs.Outcome.{Names, done, invalid_component};
 ghost use Rattle.time_known.specs.Accepted.{checked_text, component_name, refused_for};
 
 use time_below::UtcOffset;
 use time_digits::ru16;
+use time_fmt::Format;
 
 /// A component of a value that a format refuses.
 #[derive(Debug, Clone, Copy)]
@@ -30,6 +31,14 @@ impl OutOfRange {
             OutOfRange::OffsetMinute => "offset_minute",
             OutOfRange::OffsetSecond => "offset_second",
         }
+    }
+}
+
+impl From<OutOfRange> for Format {
+    ghost from_gives = { λ component format. Names format (invalid_component (component_name component)) };
+
+    fn from(component: OutOfRange) -> Format {
+        Format::InvalidComponent(component.name())
     }
 }
 

@@ -87,12 +87,13 @@ const ORDINALS: &str = "\
 -341-342-343-344-345-346-347-348-349-350-351-352-353-354-355-356-357-358-359-360\
 -361-362-363-364-365-366";
 
-/// The month and the day of a date, by what is at hand.
+/// The month and the day of a date.
 #[derive(Clone, Copy)]
 pub enum CalendarDay {
     /// Those of this day of a leap year.
     OfLeapYear(Ordinal),
-    /// These.
+    /// These, which nothing makes. With the other variant alone the compiler vectorizes the copies
+    /// of the table's text, and RFC 3339 and RFC 2822 cost more.
     OfMonth {
         /// The month, 1 to 12.
         month: ru8<1, 12>,

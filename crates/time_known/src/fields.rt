@@ -13,7 +13,7 @@ ghost use Rattle.time_known.specs.Groups.{AreAllSupplied, at_groups};
 use crate::accepted::{OutOfRange, accepted_year};
 use crate::days::CalendarDay;
 use time_below::{Time, UtcOffset};
-use time_digits::{ri32, ru16};
+use time_digits::ru16;
 use time_provide::ComponentProvider;
 
 /// The fields of a date of the years 0 to 9,999, of a time of day and of an offset.
@@ -53,22 +53,15 @@ pub fn accepted_fields<V: ComponentProvider>(
     ensures offset { IsOffset (the_offset (V.facts value.now)) }
     ensures agrees { V.agrees state.new value.now }
 {
-    let year = value.calendar_year(state).get();
+    let number = value.calendar_year(state);
     let offset = offset_of(value);
-    match accepted_year(first, greatest_hour, year, offset) {
-        Ok(year) => {
-            let number = ri32::within(i32::from(year.get()));
-            let date = CalendarDay::in_year(number, value.ordinal(state));
-            let time = time_of(value, state);
-            Ok(Fields {
-                year,
-                date,
-                time,
-                offset,
-            })
-        }
-        Err(component) => Err(component),
-    }
+    let year = accepted_year(first, greatest_hour, number.get(), offset)?;
+    Ok(Fields {
+        year,
+        date: CalendarDay::in_year(number, value.ordinal(state)),
+        time: time_of(value, state),
+        offset,
+    })
 }
 
 // The value's time of day.

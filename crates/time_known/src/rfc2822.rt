@@ -64,13 +64,9 @@ impl Formattable for Rfc2822 {
         if !Groups::ALL.are_supplied_by::<V>() {
             return Err(Format::InsufficientTypeInformation);
         }
-        match accepted_fields(1900, 25, value, state) {
-            Ok(fields) => {
-                let weekday = value.weekday(state);
-                Ok(append(output, &Rfc2822Text { weekday, fields }))
-            }
-            Err(component) => Err(Format::InvalidComponent(component.name())),
-        }
+        let fields = accepted_fields(1900, 25, value, state)?;
+        let weekday = value.weekday(state);
+        Ok(append(output, &Rfc2822Text { weekday, fields }))
     }
 }
 

@@ -7,6 +7,7 @@ ghost use Rattle.time_known.specs.Fields.{shown};
 ghost use Rattle.time_known.specs.Longest.{FillsRfc3339Width};
 ghost use Rattle.time_known.specs.ReadBack.{ReadsAs};
 ghost use Rattle.time_known.specs.Rfc3339.{rfc3339_outcome, rfc3339_text, rfc3339_width};
+ghost use Rattle.time_known.specs.Rfc3339.{full_time_text, full_time_width, second_text, second_width};
 ghost use Rattle.time_known.specs.Rfc3339.{time_secfrac_text, time_secfrac_width};
 ghost use Rattle.time_known.specs.Rfc3339Grammar.{Rfc3339Spells, IsCanonicalRfc3339};
 ghost use Rattle.time_known.specs.Sink.{PutsUpTo};
@@ -15,7 +16,7 @@ use crate::fields::{Fields, accepted_fields};
 use crate::groups::Groups;
 use crate::put::{put_clock, put_date, put_offset};
 use crate::sink::{Text, append};
-use time_below::Time;
+use time_below::{Time, UtcOffset};
 use time_digits::ru32;
 use time_fmt::writers::{write, write_fraction};
 use time_fmt::{ComputeMetadata, Format, Formattable, Metadata, Sink};
@@ -64,10 +65,8 @@ impl Formattable for Rfc3339 {
         if !Groups::ALL.are_supplied_by::<V>() {
             return Err(Format::InsufficientTypeInformation);
         }
-        match accepted_fields(0, 23, value, state) {
-            Ok(fields) => Ok(append(output, &Rfc3339Text { fields })),
-            Err(component) => Err(Format::InvalidComponent(component.name())),
-        }
+        let fields = accepted_fields(0, 23, value, state)?;
+        Ok(append(output, &Rfc3339Text { fields }))
     }
 }
 
@@ -88,16 +87,50 @@ impl Text for Rfc3339Text {
     fn put_into<S: Sink>(&self, output: &mut S) {
         put_date(output, &self.fields, "-");
         write(output, "T");
-        put_clock(output, self.fields.time, ":");
-        put_time_secfrac(output, self.fields.time);
-        put_offset(output, self.fields.offset, ":");
+        put_full_time(output, self.fields.time, self.fields.offset);
     }
 }
 
-/// Puts `time-secfrac` (RFC 3339, section 5.6), if there is a fraction of a second.
+/// The text of a second up to its decimals, as `1985-04-12T23:20:50.`, by fields of which nothing is
+/// refused.
+#[derive(Clone, Copy)]
+pub struct SecondText {
+    /// The fields, of which the nanosecond and the offset are not shown.
+    pub fields: Fields,
+}
+
+impl Text for SecondText {
+    ghost width = { λ _. second_width };
+
+    ghost text = { λ t. second_text (shown t.fields).date t.fields.time };
+
+    #[tactic(auto, using(crate::proofs::LengthLemmas::joined_lengths))]
+    fn put_into<S: Sink>(&self, output: &mut S) {
+        put_date(output, &self.fields, "-");
+        write(output, "T");
+        put_clock(output, self.fields.time, ":");
+        write(output, ".");
+    }
+}
+
+/// Puts `full-time` (RFC 3339, section 5.6): the clock, the fraction of a second where there is
+/// one, and the offset.
+#[inline(always)]
+#[tactic(auto, using(crate::proofs::LengthLemmas::joined_lengths))]
+pub fn put_full_time<S: Sink>(output: &mut S, time: Time, offset: UtcOffset)
+    requires room { Fits (S.buffer output.old) full_time_width }
+    ensures puts { PutsUpTo full_time_width (S.buffer output.old) (S.buffer output.new)
+        (full_time_text time offset) }
+{
+    put_clock(output, time, ":");
+    put_time_secfrac(output, time);
+    put_offset(output, offset, ":");
+}
+
+// Puts `time-secfrac`, if there is a fraction of a second.
 #[inline(always)]
 #[tactic(auto, using(crate::proofs::LengthLemmas::fraction_lengths))]
-pub fn put_time_secfrac<S: Sink>(output: &mut S, time: Time)
+fn put_time_secfrac<S: Sink>(output: &mut S, time: Time)
     requires room { Fits (S.buffer output.old) time_secfrac_width }
     ensures puts { PutsUpTo time_secfrac_width (S.buffer output.old) (S.buffer output.new)
         (time_secfrac_text time.nanosecond) }

@@ -1,14 +1,15 @@
 //! Texts that are put into a sink piece by piece.
 //!
 //! Without `inline(always)` the compiler leaves calls of the functions that have it.
-ghost use Rattle.std.specs.Prelude.{ℕ, List, Ok};
+ghost use Rattle.std.specs.Prelude.{◌≡◌, ◌≤◌, ◌++◌, ℕ, List, Ok, drop, length};
 ghost use Rattle.time_fmt.specs.Outcome.{AppendsUpTo, done};
 ghost use Rattle.time_fmt.specs.Room.{HasRoom};
 ghost use Rattle.time_fmt.specs.Sink.{Fits};
 ghost use Rattle.time_known.specs.Sink.{PutsUpTo};
 
-use time_fmt::Sink;
+use std::marker::Brand;
 use time_fmt::writers::{put_back, take_out};
+use time_fmt::{Before, RoomSink, Sink};
 
 /// A text that is not written yet.
 pub trait Text {
@@ -38,4 +39,31 @@ pub(crate) fn append<T: Text>(output: &mut Vec<u8>, text: &T) -> usize
     let count = taken.len() - begin;
     put_back(output, taken);
     count
+}
+
+/// Puts the text at the start of the buffer, and returns the number of its bytes.
+#[inline(always)]
+pub fn put_at_start<T: Text>(text: &T, room: &mut [u8]) -> usize
+    requires room { T.width text.now ≤ length room.old }
+    ensures fits { result ≤ length room.old }
+    ensures count { result ≡ length (T.text text.now) }
+    ensures text { room.new
+        ≡ T.text text.now ++ drop (length (T.text text.now)) room.old }
+{
+    put_before::<Brand, T>(text, room)
+}
+
+// Puts it at the start of a buffer that held these bytes before.
+#[inline(always)]
+fn put_before<B: Before, T: Text>(text: &T, room: &mut [u8]) -> usize
+    requires before { room.old ≡ B.before }
+    requires room { T.width text.now ≤ length room.old }
+    ensures fits { result ≤ length room.old }
+    ensures count { result ≡ length (T.text text.now) }
+    ensures text { room.new
+        ≡ T.text text.now ++ drop (length (T.text text.now)) room.old }
+{
+    let mut sink = RoomSink::<B>::new(room);
+    text.put_into(&mut sink);
+    sink.len()
 }

@@ -1,5 +1,5 @@
 -- Texts of RFC 3339 by the text of their day.
-use Rattle.std.proofs.Common.{ℕ, ◌≡◌, ◌+◌, ◌-◌, ◌/◌, ◌%◌, ◌<◌, ◌≤◌, ℤ, pos, ◌+ℤ◌, ◌-ℤ◌, Bool, true, false, List, ◌++◌, take, drop, length, length-append, append_assoc, unsigned_abs, Option, Some, None, refl, sym, ap, subst, ◌∙◌, arith, is_some}
+use Rattle.std.proofs.Common.{ℕ, ◌≡◌, ◌+◌, ◌-◌, ◌/◌, ◌%◌, ◌<◌, ◌≤◌, ℤ, pos, ◌+ℤ◌, ◌-ℤ◌, Bool, true, false, List, ◌++◌, take, drop, length, length-append, unsigned_abs, Option, Some, None, refl, sym, ap, subst, ◌∙◌, arith, is_some}
 use Rattle.std.proofs.lemmas.Int.{ints}
 use Rattle.std.proofs.Math.Seq.{drop-append_seam}
 use Rattle.std.proofs.lemmas.List.{take_at, take_rest, length-take-le}
@@ -17,8 +17,8 @@ use Rattle.time_below.proofs.MonthLemmas.{month_of_date, day_of_date, month_leng
 use Rattle.time_digits.specs.Digits.{padded}
 use Rattle.time_fmt.specs.Outcome.{Outcome, Refusal, done}
 use Rattle.time_fmt.proofs.NumberLemmas.{two_zeros, four_zeros}
-use Rattle.time_known.specs.Rfc3339.{rfc3339_of, rfc3339_text, rfc3339_outcome, time_secfrac_text}
-use Rattle.time_known.specs.WellKnown.{clock_text, is_outside, offset_text}
+use Rattle.time_known.specs.Rfc3339.{full_time_text, rfc3339_of, rfc3339_text, rfc3339_outcome}
+use Rattle.time_known.specs.WellKnown.{is_outside}
 use Rattle.time_known.proofs.LawLemmas.{accepted_is_done, IsAccepted}
 use Rattle.time_known.proofs.OutcomeLemmas.{completed_by_bytes, same_bytes, test_is_passed, year_is_within}
 use Rattle.time_known.specs.Laws.{IsValue}
@@ -62,27 +62,16 @@ in_day midnight s passed range start e small =
 
 -- ---- a text by the text of its day
 
--- the pieces of a text, and those of its day
-regrouped : (day clock fraction zone : List ℕ)
-    → day ++ clock ++ fraction ++ zone ≡ day ++ (clock ++ fraction ++ zone)
-regrouped day clock fraction zone = simp append_assoc
-
 -- an offset that has a text
 pub record HasZoneText (o : Offset) : Type 0 where
   pub offset : IsOffset o
   pub hours : unsigned_abs o.hours ≤ 23
   pub seconds : o.seconds ≡ pos 0
 
--- what follows the text of the day
-abbrev after_day : TimeOfDay → Offset → List ℕ
-after_day t o = clock_text (codes ":") t ++ time_secfrac_text t.nanosecond ++ offset_text (codes ":") o
-
 -- the text of a value whose day has this text
 text_is : (v : OffsetDateAndTime) (day : List ℕ) → IsValue v → is_outside 0 9_999 v.date.year ≡ false → HasZoneText v.offset
     → day ≡ day_text v.date
-    → Some (day ++ clock_text (codes ":") v.time ++ time_secfrac_text v.time.nanosecond
-    ++ offset_text (codes ":") v.offset)
-    ≡ text_of (rfc3339_of v)
+    → Some (day ++ full_time_text v.time v.offset) ≡ text_of (rfc3339_of v)
 text_is v day value year zone text =
     let accepted : IsAccepted 0 23 v = record {
       value = value;
@@ -97,8 +86,7 @@ text_is v day value year zone text =
 pub shown_by_day : (m : Moment) (o : Offset) (midnight : ℤ) (day : List ℕ) (passed : ℕ) (t : TimeOfDay) (old new : List ℕ)
     → IsMoment m → IsDayText midnight day → HasZoneText o → (moved m o).seconds ≡ midnight +ℤ pos passed → passed < 86_400
     → t ≡ time_at passed m.nanosecond
-    → new ≡ old ++ (day ++ clock_text (codes ":") t ++ time_secfrac_text t.nanosecond
-    ++ offset_text (codes ":") o)
+    → new ≡ old ++ (day ++ full_time_text t o)
     → AppendsShown (ShowsAt rfc3339_outcome o m) old new true
 shown_by_day m o midnight day passed t old new real kept zone second small time e =
     let there = in_day midnight (moved m o).seconds passed kept.range kept.start second small in
@@ -145,11 +133,10 @@ day_of_written v old new has_text date has shown =
     let hours = test_is_passed (nat_lt 23 (unsigned_abs v.offset.hours)) (codes "offset_hour") _ bytes year.done in
     let seconds = test_is_passed (nat_lt 0 (unsigned_abs v.offset.seconds)) (codes "offset_second") _ bytes hours.done in
     let is : bytes ≡ rfc3339_text (date_facts v.date) v.time v.offset = sym (same_bytes (rfc3339_text (date_facts v.date) v.time v.offset) bytes seconds.done) in
-    let rest = after_day v.time v.offset in
+    let rest = full_time_text v.time v.offset in
     let after : drop (length old) new ≡ day_text v.date ++ rest =
     ap (drop (length old)) shown.3 ∙ drop-append_seam old (bytes_of shown.0)
-    ∙ ap bytes_of shown.1 ∙ completed (rfc3339_of v) bytes (written (rfc3339_of v) some) ∙ is
-    ∙ regrouped (day_text v.date) (clock_text (codes ":") v.time) (time_secfrac_text v.time.nanosecond) _ in
+    ∙ ap bytes_of shown.1 ∙ completed (rfc3339_of v) bytes (written (rfc3339_of v) some) ∙ is in
     let long = length-day_text v.date date year.right in
     record {
       year = year.right;

@@ -1,12 +1,11 @@
 //! Texts of RFC 3339 at the clock of a place, by the cached text of a day.
-ghost use Rattle.std.specs.Prelude.{◌≡◌, ◌+◌, ◌<◌, ◌≤◌, ◌++◌, ◌-ℤ◌, ◌≤ℤ◌, ◌<ℤ◌, ℕ, List, Option, IfOk, IsTrue, codes, true, false, length, pos, unsigned_abs};
+ghost use Rattle.std.specs.Prelude.{◌≡◌, ◌+◌, ◌<◌, ◌≤◌, ◌++◌, ◌-ℤ◌, ◌≤ℤ◌, ◌<ℤ◌, IfOk, true, false, length, pos, unsigned_abs};
 ghost use Rattle.time_below.specs.Moment.{IsMoment, IsNearTimestampSecond, IsTimestampSecond, moved, utc_date};
 ghost use Rattle.time_below.specs.Offset.{IsOffset, Offset};
 ghost use Rattle.time_below.specs.TimeOfDay.{time_at};
 ghost use Rattle.time_fmt.specs.Room.{HasRoom};
 ghost use Rattle.time_fmt.specs.Sink.{Puts, vec_buffer};
-ghost use Rattle.time_known.specs.Rfc3339.{rfc3339_outcome, time_secfrac_text};
-ghost use Rattle.time_known.specs.WellKnown.{clock_text, offset_text};
+ghost use Rattle.time_known.specs.Rfc3339.{full_time_text, rfc3339_outcome};
 ghost use Rattle.time_lines.specs.Day.{BeginsWithDay, IsDayText};
 ghost use Rattle.time_lines.specs.Shown.{AppendsShown, ShowsAt};
 
@@ -17,8 +16,7 @@ use time_below::{Time, Timestamp, UtcOffset};
 use time_fmt::make_room;
 use time_fmt::writers::{put_back, take_out};
 use time_known::Rfc3339;
-use time_known::put::{put_clock, put_offset};
-use time_known::rfc3339::put_time_secfrac;
+use time_known::rfc3339::put_full_time;
 use time_provide::DateState;
 
 /// The bytes of a date and the letter `T`.
@@ -201,13 +199,10 @@ fn push_each(output: &mut Vec<u8>, bytes: [u8; LENGTH])
 fn put_text(output: &mut Vec<u8>, day: &[u8; LENGTH], time: Time, offset: UtcOffset)
     requires day { length day.now ≡ LENGTH }
     requires room { HasRoom output.old WIDTH }
-    ensures { output.new.items ≡ output.old.items ++ (day.now ++ clock_text (codes ":") time
-        ++ time_secfrac_text time.nanosecond ++ offset_text (codes ":") offset) }
+    ensures { output.new.items ≡ output.old.items ++ (day.now ++ full_time_text time offset) }
 {
     let mut taken = take_out(output);
     push_each(&mut taken, *day);
-    put_clock(&mut taken, time, ":");
-    put_time_secfrac(&mut taken, time);
-    put_offset(&mut taken, offset, ":");
+    put_full_time(&mut taken, time, offset);
     put_back(output, taken);
 }

@@ -1,6 +1,6 @@
 //! Texts that are written without an allocation, and read without one where they stand in the
 //! input.
-ghost use Rattle.std.specs.Prelude.{◌≡◌, ◌≤◌, ◌++◌, IfOk, IsUtf8, OnOk, drop, length};
+ghost use Rattle.std.specs.Prelude.{◌≤◌, IfOk, IsUtf8, OnOk};
 ghost use Rattle.std.specs.Cow.{cow_str_bytes};
 ghost use Rattle.serde.specs.Event.{Logs, text as text_event};
 ghost use Rattle.time_serde.specs.Events.{IsGiven};
@@ -8,34 +8,7 @@ ghost use Rattle.time_serde.specs.Events.{IsGiven};
 use serde::{Deserializer, Format, Serializer};
 use std::alloc::Global;
 use std::borrow::CowStr;
-use std::marker::Brand;
-use time_fmt::{Before, RoomSink};
-use time_known::sink::Text;
-
-/// Puts the text at the start of the buffer, and returns the number of its bytes.
-pub(crate) fn put_at_start<T: Text>(text: &T, room: &mut [u8]) -> usize
-    requires room { T.width text.now ≤ length room.old }
-    ensures fits { result ≤ length room.old }
-    ensures count { result ≡ length (T.text text.now) }
-    ensures text { room.new
-        ≡ T.text text.now ++ drop (length (T.text text.now)) room.old }
-{
-    put_before::<Brand, T>(text, room)
-}
-
-/// Puts it at the start of a buffer that held these bytes before.
-fn put_before<B: Before, T: Text>(text: &T, room: &mut [u8]) -> usize
-    requires before { room.old ≡ B.before }
-    requires room { T.width text.now ≤ length room.old }
-    ensures fits { result ≤ length room.old }
-    ensures count { result ≡ length (T.text text.now) }
-    ensures text { room.new
-        ≡ T.text text.now ++ drop (length (T.text text.now)) room.old }
-{
-    let mut sink = RoomSink::<B>::new(room);
-    text.put_into(&mut sink);
-    sink.len()
-}
+use time_known::sink::{Text, put_at_start};
 
 /// Writes a text of at most 35 bytes.
 pub(crate) fn write_text<T: Text, S: Serializer>(text: &T, out: &mut S) -> Result<(), S::Error>

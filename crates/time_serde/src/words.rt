@@ -10,7 +10,7 @@ const WORDS: usize = 100;
 
 /// The words of `time_fmt` for a component that RFC 3339 cannot write.
 pub(crate) fn unwritten(component: OutOfRange) -> InlineText<WORDS> {
-    InlineText::of(Format::InvalidComponent(component.name()))
+    InlineText::of(Format::from(component))
 }
 
 /// The words of `time_read` for the position at which a text is not one of RFC 3339.

@@ -18,7 +18,7 @@ use crate::answers::batch::{Progress, write_lines};
 use crate::answers::reason::{Reason, answer_number};
 use crate::answers::room::copy_text;
 use crate::answers::writer::Writer;
-use crate::formats::moment_text::{Format, answer_at, put_at_start, texts_of};
+use crate::formats::moment_text::{Format, answer_at, texts_of};
 use crate::values::moment::{Moment, UtcMoment};
 use crate::values::source::{AtOffset, ByParts, InUtc, Source};
 use config::separated_config_at;
@@ -32,7 +32,7 @@ use time_known::fields::accepted_fields;
 use time_known::iso8601::{
     Config, DecimalSign, FormattedComponents, SeparatedText, Usual, put_parts,
 };
-use time_known::sink::Text;
+use time_known::sink::{Text, put_at_start};
 use time_provide::DateState;
 
 /// The most bytes of a text: 13 of the date, 265 of the time and 6 of the offset.

@@ -5,26 +5,27 @@ ghost use Rattle.std.specs.Prelude.{◌≡◌, ◌<◌, ◌≤◌, ◌+◌, ◌+
 ghost use Rattle.std.specs.Prelude.{length, take};
 ghost use Rattle.movaliren_c.specs.Answer.{IsAnswer, IsWritten};
 ghost use Rattle.movaliren_c.specs.Chosen.{iso8601_by};
-ghost use Rattle.movaliren_c.specs.Log.{IsKept, Remembers, head_of, log_config};
+ghost use Rattle.movaliren_c.specs.Log.{IsKept, Remembers, log_config};
 ghost use Rattle.movaliren_c.specs.Utc.{local_value};
 ghost use Rattle.time_fmt.specs.Decimals.{decimals as decimals_of};
 ghost use Rattle.time_fmt.specs.Outcome.{done};
 ghost use Rattle.time_known.specs.Fields.{shown};
+ghost use Rattle.time_known.specs.Rfc3339.{second_text};
 ghost use Rattle.time_known.specs.WellKnown.{offset_text};
 
 use crate::answers::reason::{Reason, answer_number};
 use crate::formats::iso8601::{Iso8601Config, movaliren_iso8601_with_local};
-use crate::formats::moment_text::put_at_start;
 use crate::values::source::local_value;
 use std::default::Default;
 use std::marker::Brand;
 use time_below::UtcOffset;
-use time_digits::ru32;
-use time_fmt::writers::{write, write_nine_digits, write_six_decimals, write_three_decimals};
+use time_digits::{ru8, ru32};
 use time_fmt::{Before, RoomSink, Sink, write_over};
 use time_known::fields::{Fields, accepted_fields};
-use time_known::put::{put_clock, put_date, put_offset};
-use time_known::sink::Text;
+use time_known::iso8601;
+use time_known::put::put_offset;
+use time_known::rfc3339::SecondText;
+use time_known::sink::{Text, put_at_start};
 use time_provide::DateState;
 use time_provide::ranges::Nanoseconds;
 
@@ -159,7 +160,7 @@ fn write_decimals(room: &mut [u8], at: usize, nanosecond: Nanoseconds, decimals:
 }
 
 /// Puts the first three, six or nine decimals of a second at the start of a buffer.
-#[tactic(auto, using(time_fmt::proofs::DecimalLemmas::three_of_second, time_fmt::proofs::DecimalLemmas::six_of_second, time_fmt::proofs::RoomLemmas::room_written))]
+#[tactic(auto, using(time_fmt::proofs::RoomLemmas::room_written))]
 fn put_decimals<B: Before>(room: &mut [u8], nanosecond: Nanoseconds, decimals: u8)
     requires before { room.old ≡ B.before }
     requires few { decimals ≡ 3 ⊎ decimals ≡ 6 ⊎ decimals ≡ 9 }
@@ -168,11 +169,7 @@ fn put_decimals<B: Before>(room: &mut [u8], nanosecond: Nanoseconds, decimals: u
     ensures len { length room.new ≡ length room.old }
 {
     let mut sink = RoomSink::<B>::new(room);
-    let _count = match decimals {
-        3 => write_three_decimals(&mut sink, nanosecond),
-        6 => write_six_decimals(&mut sink, nanosecond),
-        _ => write_nine_digits(&mut sink, nanosecond),
-    };
+    iso8601::put_decimals(&mut sink, nanosecond, ru8::within(decimals));
 }
 
 /// Overwrites the bytes of the buffer from a position on by an offset. The compiler knows
@@ -209,33 +206,16 @@ fn keep_second(kept: &mut LogCache, seconds: i64, offset: i64)
 
 /// Keeps what the texts of these fields have in common.
 fn keep(kept: &mut LogCache, second: i64, offset: i64, fields: &Fields)
-    requires { Remembers second offset (head_of (shown fields.now).date fields.now.time) (offset_text (codes ":") fields.now.offset) }
+    requires { Remembers second offset (second_text (shown fields.now).date fields.now.time) (offset_text (codes ":") fields.now.offset) }
     ensures { IsKept kept.new }
 {
     kept.zone_len = 0;
-    if put_at_start(&Head(fields), &mut kept.head) != kept.head.len() {
+    if put_at_start(&SecondText { fields: *fields }, &mut kept.head) != kept.head.len() {
         return;
     }
     kept.second = second;
     kept.offset = offset;
     kept.zone_len = put_at_start(&Zone(fields.offset), &mut kept.zone) as u8;
-}
-
-/// The date and the clock, up to the decimals.
-#[derive(Drop)]
-struct Head<'a>(&'a Fields);
-
-impl Text for Head<'_> {
-    ghost width = { λ _. 20 };
-
-    ghost text = { λ head. head_of (shown head.0.now).date head.0.now.time };
-
-    fn put_into<S: Sink>(&self, output: &mut S) {
-        put_date(output, self.0, "-");
-        write(output, "T");
-        put_clock(output, self.0.time, ":");
-        write(output, ".");
-    }
 }
 
 /// The offset.

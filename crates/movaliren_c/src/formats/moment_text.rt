@@ -2,7 +2,7 @@
 //!
 //! Without `inline(always)` the compiler leaves calls of the functions that have it. `cold` and
 //! `inline(never)` keep long or rare bodies out of their callers.
-ghost use Rattle.std.specs.Prelude.{◌≡◌, ◌≤◌, ◌++◌, ℕ, IfOk, IfErr, drop, length};
+ghost use Rattle.std.specs.Prelude.{◌≡◌, ◌≤◌, ℕ, IfOk, IfErr, length};
 ghost use Rattle.movaliren_c.specs.Answer.{IsAnswer, IsRefusedFor, IsText, IsWritten, gives};
 ghost use Rattle.time_below.specs.Moment.{OffsetDateAndTime};
 ghost use Rattle.time_fmt.specs.Outcome.{Outcome, done};
@@ -12,10 +12,8 @@ use crate::answers::room::copy_text;
 use crate::answers::writer::Writer;
 use crate::values::moment::UtcMoment;
 use crate::values::source::Source;
-use std::marker::Brand;
 use time_below::OffsetDateTime;
-use time_fmt::{Before, RoomSink};
-use time_known::sink::Text;
+use time_known::sink::{Text, put_at_start};
 
 /// A format of moments, whose texts have at most 35 bytes.
 pub trait Format: Copy {
@@ -94,33 +92,6 @@ impl<F: Format, S: Source> Texts<F, S> {
         let count = put_at_start(&text, &mut line);
         copy_text(&line[..count], room)
     }
-}
-
-/// Puts the text at the start of the buffer, and returns the number of its bytes.
-#[inline(always)]
-pub fn put_at_start<T: Text>(text: &T, room: &mut [u8]) -> usize
-    requires room { T.width text.now ≤ length room.old }
-    ensures fits { result ≤ length room.old }
-    ensures count { result ≡ length (T.text text.now) }
-    ensures text { room.new
-        ≡ T.text text.now ++ drop (length (T.text text.now)) room.old }
-{
-    put_before::<Brand, T>(text, room)
-}
-
-/// Puts it at the start of a buffer that held these bytes before.
-#[inline(always)]
-fn put_before<B: Before, T: Text>(text: &T, room: &mut [u8]) -> usize
-    requires before { room.old ≡ B.before }
-    requires room { T.width text.now ≤ length room.old }
-    ensures fits { result ≤ length room.old }
-    ensures count { result ≡ length (T.text text.now) }
-    ensures text { room.new
-        ≡ T.text text.now ++ drop (length (T.text text.now)) room.old }
-{
-    let mut sink = RoomSink::<B>::new(room);
-    text.put_into(&mut sink);
-    sink.len()
 }
 
 /// Answers for a moment by its seconds since 1970 and its nanosecond.

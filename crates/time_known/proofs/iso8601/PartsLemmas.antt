@@ -1,12 +1,11 @@
 -- The parts that are written, one after another, give the outcome and the width of the choices.
-use Rattle.std.proofs.Common.{◌≡◌, ◌≢◌, ℕ, ◌+◌, Bool, append_assoc, length-append, arith, Result, Ok, MatchOption, Option, Vec}
+use Rattle.std.proofs.Common.{◌≡◌, ◌≢◌, ℕ, ◌+◌, Bool, append_assoc, length-append, arith, Result, Ok, Vec}
 use Rattle.std.specs.Global.{Global}
 use Rattle.std.proofs.lemmas.Grind.{common_steps}
-use Rattle.std.proofs.lemmas.List.{append-nil}
-use Rattle.time_fmt.specs.Outcome.{AppendsUpTo, Outcome, join}
+use Rattle.time_fmt.specs.Outcome.{Outcome, join}
 use Rattle.time_fmt.specs.Sink.{Buffer}
-use Rattle.time_known.specs.Accepted.{PutsOutcome}
-use Rattle.time_known.specs.Config.{Choices, DateKind, has_date, has_time, has_offset}
+use Rattle.time_known.specs.Accepted.{AppendsAllOrNone, PutsOutcome}
+use Rattle.time_known.specs.Config.{Choices, has_date, has_time, has_offset}
 use Rattle.time_known.specs.Groups.{AreAllSupplied, at_groups}
 use Rattle.time_known.specs.Iso8601.{iso8601_outcome, iso_of_groups, iso_date, iso_time, iso_offset, part_if}
 use Rattle.time_known.specs.Iso8601Parts.{SuppliesParts}
@@ -47,35 +46,19 @@ pub put_by_choice : {old mid last new : Buffer} {answer : Result Unit OutOfRange
     → PutsOutcome (iso8601_width c) old new answer (iso8601_outcome c f)
 put_by_choice c f some supplied groups p q r = rw (parts_are c f some supplied groups) (puts_three p q r)
 
--- ---- some parts
+-- ---- a date alone
 
--- what is appended of a date alone, if anything, is the whole text
-pub date_alone : {date time offset moment : Bool} (found : Option ℕ) (old new : Vec ℕ Global) (c : Choices) (f : Facts)
+-- what is appended or refused of a date alone is so of the whole text
+pub date_alone : {date time offset moment : Bool} (answer : Result ℕ OutOfRange) (old new : Vec ℕ Global) (c : Choices) (f : Facts)
     → c.formatted_components ≡ components.Date → SuppliesParts c date time offset → Supplies date time offset moment f
-    → MatchOption found (new ≡ old) (λ n. AppendsUpTo (iso_date_width c) old new (Ok n) (iso_date c (the_date f)))
-    → MatchOption found (new ≡ old) (λ n. AppendsUpTo (iso8601_width c) old new (Ok n) (iso8601_outcome c f))
-date_alone found old new c f e supplied groups h = grind (arith, common_steps)
+    → AppendsAllOrNone (iso_date_width c) old new answer (iso_date c (the_date f))
+    → AppendsAllOrNone (iso8601_width c) old new answer (iso8601_outcome c f)
+date_alone answer old new c f e supplied groups h = grind (arith, common_steps)
 
--- so is a time alone
-pub time_alone : {date time offset moment : Bool} (n : ℕ) (old new : Vec ℕ Global) (c : Choices) (f : Facts)
-    → c.formatted_components ≡ components.Time → SuppliesParts c date time offset → Supplies date time offset moment f
-    → AppendsUpTo (iso_time_width c) old new (Ok n) (iso_time c (the_time f))
-    → AppendsUpTo (iso8601_width c) old new (Ok n) (iso8601_outcome c f)
-time_alone n old new c f e supplied groups h = grind (arith, common_steps)
-
--- so are a date and a time
-pub date_and_time : {date time offset moment : Bool} (found : Option ℕ) (old new : Vec ℕ Global) (c : Choices) (f : Facts)
-    → c.formatted_components ≡ components.DateTime → SuppliesParts c date time offset → Supplies date time offset moment f
-    → MatchOption found (new ≡ old) (λ n. AppendsUpTo (iso_date_width c + iso_time_width c) old new (Ok n)
-    (join (iso_date c (the_date f)) (iso_time c (the_time f))))
-    → MatchOption found (new ≡ old) (λ n. AppendsUpTo (iso8601_width c) old new (Ok n) (iso8601_outcome c f))
-date_and_time found old new c f e supplied groups h = grind (arith, common_steps, append-nil)
-
--- what some of the parts are as a whole
-pub ruleset some_parts = (date_alone, time_alone, date_and_time)
+-- ---- usual texts
 
 -- all three, by the choices of a usual text
-pub all_parts : {date time offset moment : Bool} (c : Choices) (f : Facts) (k : DateKind) (u : Usual) → c ≡ choices_of k u
+pub all_parts : {date time offset moment : Bool} (c : Choices) (f : Facts) (u : Usual) → c ≡ choices_of u
     → AreAllSupplied date time offset → Supplies date time offset moment f
     → iso8601_outcome c f ≡ at_groups (iso_of_groups components.DateTimeOffset c) f
-all_parts c f k u e supplied groups = grind (arith, common_steps)
+all_parts c f u e supplied groups = grind (arith, common_steps)

@@ -85,33 +85,26 @@ pub struct Usual {
 /// The function by which a text is written, so far as a configuration decides it.
 #[derive(Clone, Copy)]
 pub(super) enum Way {
-    /// All parts, with what is left to choose.
+    /// All parts, with what is left to choose. One part after another, they cost more.
     Usual(Usual),
     /// Any other text. Which one is asked only then, so that a usual text needs no jump through a
     /// table.
     Unusual(Unusual),
 }
 
-/// The function by which an unusual text is written. Each of them but the last writes where nothing
-/// of the value is refused.
+/// The function by which an unusual text is written.
 #[derive(Clone, Copy)]
 pub(super) enum Unusual {
-    /// All parts with the date by week and weekday, and with what else is left to choose.
-    Week(Usual),
     /// The date alone by month and day, after four digits of the year.
     CalendarDate,
-    /// The date alone by week and weekday.
+    /// The date alone by week and weekday, after four digits of the year.
     WeekDate,
-    /// The date alone by the day of the year, with a dash before it.
+    /// The date alone by the day of the year, after four digits of the year and a dash.
     OrdinalDate,
-    /// The date alone by the day of the year, without a dash.
+    /// The same without the dash. By one function that tests for the dash, both cost more.
     CompactOrdinalDate,
-    /// The time alone.
-    Time,
-    /// The date by month and day, after four digits of the year, and the time.
-    DateTime,
-    /// Any other text.
-    Other,
+    /// Any other text, one part after another.
+    Parts,
 }
 
 impl Model for Config {
@@ -299,26 +292,19 @@ impl Config {
     {
         let parts = (self.formatted_components, self.date_kind);
         let unusual = match (parts, self.time_precision, self.offset_precision) {
-            ((FormattedComponents::Time, _), _, _) => Unusual::Time,
-            _ if self.year_is_six_digits => Unusual::Other,
+            _ if self.year_is_six_digits => Unusual::Parts,
             (
                 (FormattedComponents::DateTimeOffset, DateKind::Calendar),
                 TimePrecision::Second { decimal_digits },
                 OffsetPrecision::Minute,
             ) => return Way::Usual(self.usual(decimal_digits)),
-            (
-                (FormattedComponents::DateTimeOffset, DateKind::Week),
-                TimePrecision::Second { decimal_digits },
-                OffsetPrecision::Minute,
-            ) => Unusual::Week(self.usual(decimal_digits)),
             ((FormattedComponents::Date, DateKind::Calendar), _, _) => Unusual::CalendarDate,
             ((FormattedComponents::Date, DateKind::Week), _, _) => Unusual::WeekDate,
             ((FormattedComponents::Date, DateKind::Ordinal), _, _) if self.use_separators => {
                 Unusual::OrdinalDate
             }
             ((FormattedComponents::Date, DateKind::Ordinal), _, _) => Unusual::CompactOrdinalDate,
-            ((FormattedComponents::DateTime, DateKind::Calendar), _, _) => Unusual::DateTime,
-            _ => Unusual::Other,
+            _ => Unusual::Parts,
         };
         Way::Unusual(unusual)
     }

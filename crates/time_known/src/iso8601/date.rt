@@ -1,15 +1,15 @@
 //! The date of a text of ISO 8601-1:2019, section 5.2.
 //!
 //! Without `inline(always)` the compiler leaves calls of the functions that have it.
-ghost use Rattle.std.specs.Prelude.{◌≡◌, MatchOption, Ok, false, ◌+◌, ◌*◌, ◌++◌, length};
-ghost use Rattle.std.specs.Prelude.{unsigned_abs, true, IsTrue};
+ghost use Rattle.std.specs.Prelude.{◌≡◌, false, ◌+◌, ◌*◌, ◌++◌, length};
+ghost use Rattle.std.specs.Prelude.{true, IsTrue};
 ghost use Rattle.time_below.specs.Facts.{the_date};
 ghost use Rattle.time_digits.specs.Digits.{zero_padded};
 ghost use Rattle.time_fmt.specs.Outcome.{AppendsUpTo};
 ghost use Rattle.time_fmt.specs.Room.{HasRoom};
 ghost use Rattle.time_fmt.specs.Sink.{Fits};
 ghost use Rattle.time_provide.specs.Real.{AgreesOnDate};
-ghost use Rattle.time_known.specs.Accepted.{PutsOutcome};
+ghost use Rattle.time_known.specs.Accepted.{AppendsAllOrNone, PutsOutcome};
 ghost use Rattle.time_known.specs.Days.{dash};
 ghost use Rattle.time_known.specs.Iso8601.{iso_date, iso_year, week_text};
 ghost use Rattle.time_known.specs.Iso8601Parts.{rest_width, rest_text};
@@ -53,14 +53,12 @@ pub fn format_date<V: ComponentProvider>(
     let answer = put_date(&mut taken, config, value, state);
     let count = taken.len() - begin;
     put_back(output, taken);
-    match answer {
-        Ok(()) => Ok(count),
-        Err(component) => Err(Format::InvalidComponent(component.name())),
-    }
+    answer?;
+    Ok(count)
 }
 
-// Appends the date, where four digits hold its year; else it appends nothing. The compiler sees the
-// kind, and perhaps whether there are dashes, so that no other is tested.
+// Appends the date, or refuses a year that four digits do not hold. The compiler sees the kind,
+// and perhaps whether there are dashes, so that no other is tested.
 #[inline(always)]
 #[tactic(auto, using(crate::proofs::LengthLemmas::joined_lengths))]
 pub(super) fn write_date_by<V: ComponentProvider>(
@@ -70,22 +68,21 @@ pub(super) fn write_date_by<V: ComponentProvider>(
     output: &mut Vec<u8>,
     value: &V,
     state: &mut V::State,
-) -> Option<usize>
+) -> Result<usize, OutOfRange>
     requires kind { config.now.date_kind ≡ kind }
     requires dash { config.now.use_separators ≡ has_dash }
     requires short { config.now.year_is_six_digits ≡ false }
     requires supplied { IsTrue V.SUPPLIES_DATE }
     requires room { HasRoom output.old (iso_date_width config.now) }
     requires agrees { V.agrees state.old value.now }
-    ensures appends { MatchOption result (output.new ≡ output.old)
-        (λ n. AppendsUpTo (iso_date_width config.now) output.old output.new (Ok n)
-        (iso_date config.now (the_date (V.facts value.now)))) }
+    ensures appends { AppendsAllOrNone (iso_date_width config.now) output.old output.new result
+        (iso_date config.now (the_date (V.facts value.now))) }
     ensures agrees { AgreesOnDate (V.agrees state.new value.now) (V.facts value.now) }
 {
     let date = date_of(kind, value, state);
     let number = date.year.get();
     if number < 0 || number > 9_999 {
-        return None;
+        return Err(OutOfRange::Year);
     }
     let year = ru16::within(number.unsigned_abs() as u16);
     let mut taken = take_out(output);
@@ -97,7 +94,7 @@ pub(super) fn write_date_by<V: ComponentProvider>(
     }
     let count = taken.len() - begin;
     put_back(output, taken);
-    Some(count)
+    Ok(count)
 }
 
 // Puts four digits of the year, and what follows it.
@@ -194,12 +191,7 @@ fn dash(is_wanted: bool) -> &'static str
 // of them.
 #[inline(always)]
 #[tactic(auto, using(crate::proofs::LengthLemmas::joined_lengths))]
-pub(super) fn put_week<S: Sink>(
-    output: &mut S,
-    separator: &str,
-    week: ru8<0, 99>,
-    weekday: ru8<0, 9>,
-)
+fn put_week<S: Sink>(output: &mut S, separator: &str, week: ru8<0, 99>, weekday: ru8<0, 9>)
     requires room { Fits (S.buffer output.old) (4 + 2 * length separator.now) }
     ensures puts { PutsUpTo (4 + 2 * length separator.now)
         (S.buffer output.old) (S.buffer output.new)

@@ -43,10 +43,8 @@ pub fn format_offset<V: ComponentProvider>(
     let answer = put_offset(&mut taken, config, offset);
     let count = taken.len() - begin;
     put_back(output, taken);
-    match answer {
-        Ok(()) => Ok(count),
-        Err(component) => Err(Format::InvalidComponent(component.name())),
-    }
+    answer?;
+    Ok(count)
 }
 
 // Puts `Z` for UTC where there is a time, else the sign, the hours and the minutes. Where the

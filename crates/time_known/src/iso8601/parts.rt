@@ -1,17 +1,16 @@
 //! The parts of a value that a text is made of, one after another.
 //!
 //! Without `inline(always)` the compiler leaves calls of the functions that have it.
-//! `inline(never)` keeps long or rare bodies out of their callers.
-ghost use Rattle.std.specs.Prelude.{◌≡◌, ◌≢◌, ◌+◌, IfSome, IsTrue, MatchOption, Ok, OnOk, OnSome};
+ghost use Rattle.std.specs.Prelude.{◌≡◌, ◌≢◌, IfSome, IsTrue, MatchOption, Ok, OnOk};
 ghost use Rattle.std.specs.Prelude.{false};
-ghost use Rattle.time_below.specs.Facts.{the_date, the_time};
-ghost use Rattle.time_fmt.specs.Outcome.{AppendsUpTo, join};
+ghost use Rattle.time_below.specs.Facts.{the_date};
+ghost use Rattle.time_fmt.specs.Outcome.{AppendsUpTo};
 ghost use Rattle.time_fmt.specs.Room.{HasRoom};
-ghost use Rattle.time_fmt.specs.Sink.{Fits, vec_buffer};
+ghost use Rattle.time_fmt.specs.Sink.{Fits};
 ghost use Rattle.time_provide.specs.Real.{AgreesOnDate};
-ghost use Rattle.time_known.specs.Iso8601.{iso8601_outcome, iso_date, iso_time};
+ghost use Rattle.time_known.specs.Iso8601.{iso8601_outcome};
 ghost use Rattle.time_known.specs.Iso8601Parts.{AreOfDate, IsRealWhole, SuppliesParts};
-ghost use Rattle.time_known.specs.Iso8601Width.{iso8601_width, iso_date_width, iso_time_width};
+ghost use Rattle.time_known.specs.Iso8601Width.{iso8601_width};
 ghost use Rattle.time_known.specs.Accepted.{AppendsAllOrNone, PutsOutcome};
 ghost use Rattle.time_known.specs.Ways.{FitsUnusual, FitsWay};
 
@@ -21,8 +20,8 @@ use crate::fields::{offset_of, time_of};
 use crate::iso8601::config::{Config, DateKind, FormattedComponents, Unusual, Way};
 use crate::iso8601::date::{put_date, write_date_by};
 use crate::iso8601::offset::put_offset;
-use crate::iso8601::time::{put_time, write_time};
-use crate::iso8601::usual_text::{write_usual, write_usual_week};
+use crate::iso8601::time::put_time;
+use crate::iso8601::usual_text::write_usual;
 use time_digits::ru8;
 use time_fmt::writers::{put_back, take_out};
 use time_fmt::{Format, Sink};
@@ -121,7 +120,7 @@ pub fn put_parts<S: Sink, V: ComponentProvider>(
     date?;
     if config.has_time() {
         let time = time_of(value, state);
-        put_time::<S, false>(output, config, config.has_time_letter(), time);
+        put_time(output, config, time);
     }
     if config.has_offset() {
         put_offset(output, config, offset_of(value))
@@ -130,9 +129,8 @@ pub fn put_parts<S: Sink, V: ComponentProvider>(
     }
 }
 
-// Appends the parts that are formatted, of a value that supplies their groups. A configuration that
-// formats nothing is refused. The compiler keeps each return apart where this function is not
-// inlined.
+// Appends the parts that are formatted, of a value that supplies their groups, by the function that
+// the configuration decided. A configuration that formats nothing is refused.
 pub(super) fn write_parts<V: ComponentProvider>(
     config: &Config,
     way: &Way,
@@ -150,47 +148,42 @@ pub(super) fn write_parts<V: ComponentProvider>(
     ensures agrees { V.agrees state.new value.now }
 {
     match write_by_way(config, way, output, value, state) {
-        Some(Ok(count)) => return Ok(count),
-        Some(Err(component)) => return Err(Format::InvalidComponent(component.name())),
-        None => {}
-    }
-    if config.formats_nothing() {
-        return Err(Format::InsufficientTypeInformation);
-    }
-    let begin = output.len();
-    match write_each(config, output, value, state) {
-        Ok(()) => Ok(output.len() - begin),
-        Err(component) => Err(Format::InvalidComponent(component.name())),
+        Some(answer) => Ok(answer?),
+        None => write_each(config, output, value, state),
     }
 }
 
-// Appends the parts that are formatted, by any configuration that formats something. It is copied
+// Appends the parts that are formatted, one after another, by any configuration. It is copied
 // first, so that no byte that is written may change it.
-#[inline(never)]
 fn write_each<V: ComponentProvider>(
     config: &Config,
     output: &mut Vec<u8>,
     value: &V,
     state: &mut V::State,
-) -> Result<(), OutOfRange>
-    requires some { config.now.formatted_components ≢ FormattedComponents.None }
+) -> Result<usize, Format>
     requires supplied { SuppliesParts config.now V.SUPPLIES_DATE V.SUPPLIES_TIME V.SUPPLIES_OFFSET }
     requires room { HasRoom output.old (iso8601_width config.now) }
     requires agrees { V.agrees state.old value.now }
-    ensures puts { PutsOutcome (iso8601_width config.now) (vec_buffer output.old)
-        (vec_buffer output.new) result (iso8601_outcome config.now (V.facts value.now)) }
+    ensures appends { AppendsUpTo (iso8601_width config.now) output.old output.new result
+        (iso8601_outcome config.now (V.facts value.now)) }
     ensures real { OnOk result (IsRealWhole config.now (V.facts value.now)) }
     ensures agrees { V.agrees state.new value.now }
 {
+    if config.formats_nothing() {
+        return Err(Format::InsufficientTypeInformation);
+    }
     let config = *config;
     let mut taken = take_out(output);
+    let begin = taken.len();
     let answer = put_parts(&mut taken, &config, value, state);
+    let count = taken.len() - begin;
     put_back(output, taken);
-    answer
+    answer?;
+    Ok(count)
 }
 
-// Appends by the function that the configuration decided, where nothing of the value is refused. It
-// may refuse what the text refuses before any byte; else it appends nothing.
+// Appends by that function, where it is another than for any text and nothing of the value is
+// refused. It may refuse what the text refuses before any byte; else it appends nothing.
 fn write_by_way<V: ComponentProvider>(
     config: &Config,
     way: &Way,
@@ -210,80 +203,45 @@ fn write_by_way<V: ComponentProvider>(
 {
     match way {
         Way::Usual(usual) => write_usual(config, usual, output, value, state),
-        Way::Unusual(unusual) => match write_unusual(config, unusual, output, value, state) {
-            Some(count) => Some(Ok(count)),
-            None => None,
-        },
+        Way::Unusual(unusual) => write_unusual(config, unusual, output, value, state),
     }
 }
 
-// Appends an unusual text by the function that the configuration decided, where nothing of the
-// value is refused; else it appends nothing.
-#[tactic(auto, using(crate::proofs::iso8601::PartsLemmas::some_parts))]
+// Appends a date alone, or refuses a year that four digits do not hold, by the function that the
+// configuration decided. The compiler makes the text of each kind apart: by the parts, a date by
+// month and day costs more. Of any other text it appends nothing.
+#[tactic(auto, using(crate::proofs::iso8601::PartsLemmas::date_alone))]
 fn write_unusual<V: ComponentProvider>(
     config: &Config,
     unusual: &Unusual,
     output: &mut Vec<u8>,
     value: &V,
     state: &mut V::State,
-) -> Option<usize>
+) -> Option<Result<usize, OutOfRange>>
     requires fits { FitsUnusual config.now unusual.now }
     requires supplied { SuppliesParts config.now V.SUPPLIES_DATE V.SUPPLIES_TIME V.SUPPLIES_OFFSET }
     requires room { HasRoom output.old (iso8601_width config.now) }
     requires agrees { V.agrees state.old value.now }
     ensures appends { MatchOption result (output.new ≡ output.old)
-        (λ n. AppendsUpTo (iso8601_width config.now) output.old output.new (Ok n)
+        (λ answer. AppendsAllOrNone (iso8601_width config.now) output.old output.new answer
         (iso8601_outcome config.now (V.facts value.now))) }
-    ensures real { OnSome result (IsRealWhole config.now (V.facts value.now)) }
-    ensures agrees { V.agrees state.new value.now }
-{
-    match unusual {
-        Unusual::Week(usual) => write_usual_week(config, usual, output, value, state),
-        Unusual::CalendarDate => {
-            let has_dash = config.use_separators();
-            write_date_by(config, DateKind::Calendar, has_dash, output, value, state)
-        }
-        Unusual::WeekDate => {
-            let has_dash = config.use_separators();
-            write_date_by(config, DateKind::Week, has_dash, output, value, state)
-        }
-        Unusual::OrdinalDate => {
-            write_date_by(config, DateKind::Ordinal, true, output, value, state)
-        }
-        Unusual::CompactOrdinalDate => {
-            write_date_by(config, DateKind::Ordinal, false, output, value, state)
-        }
-        Unusual::Time => {
-            let has_letter = !config.use_separators();
-            Some(write_time(config, has_letter, output, value, state))
-        }
-        Unusual::DateTime => write_date_time(config, output, value, state),
-        Unusual::Other => None,
-    }
-}
-
-// Appends the date by month and day after four digits of the year, and the time.
-#[inline(never)]
-fn write_date_time<V: ComponentProvider>(
-    config: &Config,
-    output: &mut Vec<u8>,
-    value: &V,
-    state: &mut V::State,
-) -> Option<usize>
-    requires parts { config.now.formatted_components ≡ FormattedComponents.DateTime }
-    requires short { config.now.year_is_six_digits ≡ false }
-    requires kind { config.now.date_kind ≡ DateKind.Calendar }
-    requires date { IsTrue V.SUPPLIES_DATE }
-    requires time { IsTrue V.SUPPLIES_TIME }
-    requires room { HasRoom output.old (iso_date_width config.now + iso_time_width config.now) }
-    requires agrees { V.agrees state.old value.now }
-    ensures appends { MatchOption result (output.new ≡ output.old)
-        (λ n. AppendsUpTo (iso_date_width config.now + iso_time_width config.now)
-        output.old output.new (Ok n) (join (iso_date config.now (the_date (V.facts value.now)))
-        (iso_time config.now (the_time (V.facts value.now))))) }
+    ensures real { IfSome result (λ answer. OnOk answer (IsRealWhole config.now (V.facts value.now))) }
     ensures agrees { V.agrees state.new value.now }
 {
     let has_dash = config.use_separators();
-    let date = write_date_by(config, DateKind::Calendar, has_dash, output, value, state)?;
-    Some(date + write_time(config, true, output, value, state))
+    match unusual {
+        Unusual::CalendarDate => {
+            Some(write_date_by(config, DateKind::Calendar, has_dash, output, value, state))
+        }
+        Unusual::WeekDate => {
+            Some(write_date_by(config, DateKind::Week, has_dash, output, value, state))
+        }
+        Unusual::OrdinalDate => {
+            Some(write_date_by(config, DateKind::Ordinal, true, output, value, state))
+        }
+        Unusual::CompactOrdinalDate => {
+            Some(write_date_by(config, DateKind::Ordinal, false, output, value, state))
+        }
+        Unusual::Parts => None,
+    }
 }

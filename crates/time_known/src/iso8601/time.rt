@@ -1,7 +1,6 @@
 //! The time of day of a text of ISO 8601-1:2019, section 5.3.
 //!
 //! Without `inline(always)` the compiler leaves calls of the functions that have it.
-//! `inline(never)` keeps long or rare bodies out of their callers.
 #![tactic(auto, using(crate::proofs::LengthLemmas::joined_lengths))]
 
 ghost use Rattle.std.specs.Prelude.{◌≡◌, Ok, ◌+◌, ◌*◌, ◌<◌, ◌≤◌, ◌++◌, length, IsTrue};
@@ -11,7 +10,6 @@ ghost use Rattle.time_fmt.specs.Outcome.{AppendsUpTo};
 ghost use Rattle.time_fmt.specs.Room.{HasRoom};
 ghost use Rattle.time_fmt.specs.Sink.{Fits, Puts};
 ghost use Rattle.time_provide.specs.Real.{AgreesOnTime};
-ghost use Rattle.time_known.specs.Config.{has_time_letter, separator};
 ghost use Rattle.time_known.specs.Iso8601.{iso_time, iso_time_text, decimal_part, units_text};
 ghost use Rattle.time_known.specs.Iso8601.{nanoseconds_of_hour, nanoseconds_of_minute};
 ghost use Rattle.time_known.specs.Iso8601Width.{iso_time_width, decimal_part_width, units_width};
@@ -51,59 +49,29 @@ pub fn format_time<V: ComponentProvider>(
         (iso_time config.now (the_time (V.facts value.now))) }
     ensures agrees { AgreesOnTime (V.agrees state.new value.now) (V.facts value.now) }
 {
-    let has_letter = config.has_time_letter();
-    Ok(write_time(config, has_letter, output, value, state))
-}
-
-// Appends the time, by a call, in which its pieces are inlined. The caller may know whether it has
-// a letter.
-#[inline(never)]
-pub(super) fn write_time<V: ComponentProvider>(
-    config: &Config,
-    has_letter: bool,
-    output: &mut Vec<u8>,
-    value: &V,
-    state: &mut V::State,
-) -> usize
-    requires letter { has_time_letter config.now ≡ has_letter }
-    requires supplied { IsTrue V.SUPPLIES_TIME }
-    requires room { HasRoom output.old (iso_time_width config.now) }
-    requires agrees { V.agrees state.old value.now }
-    ensures appends { AppendsUpTo (iso_time_width config.now) output.old output.new (Ok result)
-        (iso_time config.now (the_time (V.facts value.now))) }
-    ensures agrees { AgreesOnTime (V.agrees state.new value.now) (V.facts value.now) }
-{
     let time = time_of(value, state);
     let mut taken = take_out(output);
     let begin = taken.len();
-    put_time::<Vec<u8>, true>(&mut taken, config, has_letter, time);
+    put_time(&mut taken, config, time);
     let count = taken.len() - begin;
     put_back(output, taken);
-    count
+    Ok(count)
 }
 
-// Puts the letter, where there is one, and the units. A time alone has a function of its own, since
-// the compiler inlines so large a one only where it is called once.
-pub(super) fn put_time<S: Sink, const IS_ALONE: bool>(
-    output: &mut S,
-    config: &Config,
-    has_letter: bool,
-    time: Time,
-)
-    requires letter { has_time_letter config.now ≡ has_letter }
+// Puts the letter, where there is one, and the units.
+pub(super) fn put_time<S: Sink>(output: &mut S, config: &Config, time: Time)
     requires room { Fits (S.buffer output.old) (iso_time_width config.now) }
     ensures puts { PutsUpTo (iso_time_width config.now) (S.buffer output.old)
         (S.buffer output.new) (iso_time_text config.now time) }
 {
-    if has_letter {
+    if config.has_time_letter() {
         write(output, "T");
     }
-    put_units::<S, IS_ALONE>(output, config, time);
+    put_units(output, config, time);
 }
 
-// Puts the whole units down to the precision, and decimals of the last one. Those of a time alone
-// are a function of their own too.
-fn put_units<S: Sink, const IS_ALONE: bool>(output: &mut S, config: &Config, time: Time)
+// Puts the whole units down to the precision, and decimals of the last one.
+fn put_units<S: Sink>(output: &mut S, config: &Config, time: Time)
     requires room { Fits (S.buffer output.old)
         (units_width config.now.time_precision config.now) }
     ensures puts { PutsUpTo (units_width config.now.time_precision config.now)

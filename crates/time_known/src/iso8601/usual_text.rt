@@ -1,21 +1,18 @@
 //! The texts of the usual configurations, in pieces that are inlined.
 //!
 //! Without `inline(always)` the compiler leaves calls of the functions that have it.
-//! `inline(never)` keeps long or rare bodies out of their callers.
 #![tactic(auto, using(crate::proofs::LengthLemmas::joined_lengths))]
 
-ghost use Rattle.std.specs.Prelude.{◌≡◌, ◌≤◌, ◌+◌, ◌*◌, ◌++◌, length, IfSome, OnOk, OnSome};
-ghost use Rattle.std.specs.Prelude.{MatchOption, Ok, Some, true};
-ghost use Rattle.time_digits.specs.Digits.{zero_padded};
+ghost use Rattle.std.specs.Prelude.{◌≡◌, ◌≤◌, ◌+◌, ◌*◌, ◌++◌, length, IfSome, MatchOption, OnOk};
+ghost use Rattle.std.specs.Prelude.{Ok, Some, true};
 ghost use Rattle.time_fmt.specs.Decimals.{decimals};
-ghost use Rattle.time_fmt.specs.Outcome.{AppendsUpTo};
 ghost use Rattle.time_fmt.specs.Room.{HasRoom};
 ghost use Rattle.time_fmt.specs.Sink.{Fits, Puts};
 ghost use Rattle.time_provide.specs.Real.{AreReal};
 ghost use Rattle.time_known.specs.Accepted.{AppendsAllOrNone};
-ghost use Rattle.time_known.specs.Fields.{shown, by_week};
+ghost use Rattle.time_known.specs.Fields.{shown};
 ghost use Rattle.time_known.specs.Groups.{AreAllSupplied};
-ghost use Rattle.time_known.specs.Iso8601.{decimal_part, iso8601_outcome, week_text};
+ghost use Rattle.time_known.specs.Iso8601.{decimal_part, iso8601_outcome};
 ghost use Rattle.time_known.specs.Iso8601Width.{decimal_part_width, iso8601_width};
 ghost use Rattle.time_known.specs.Sink.{PutsUpTo};
 ghost use Rattle.time_known.specs.Stamps.{stamp_length};
@@ -23,27 +20,24 @@ ghost use Rattle.time_known.specs.UsualText.{choices_of, usual_choices, usual_te
 ghost use Rattle.time_known.specs.UsualText.{usual_time_text};
 ghost use Rattle.time_known.specs.WellKnown.{offset_text, date_text};
 ghost use Rattle.time_known.specs.Config.{default_choices};
-ghost use Rattle.time_known.specs.declared.iso8601.config.DateKind.TheVariants.{Calendar, Week};
 ghost use Rattle.time_known.specs.Values.{utc};
-ghost use Rattle.time_below.specs.Weekday.{days_from_monday};
 
-use crate::accepted::{OutOfRange, accepted_year};
-use crate::fields::{Fields, accepted_fields, offset_of, time_of};
+use crate::accepted::OutOfRange;
+use crate::fields::{Fields, accepted_fields};
 use crate::iso8601::config::{Config, DecimalSign, Usual};
-use crate::iso8601::date::put_week;
 use crate::iso8601::time::{NANOSECONDS_PER_SECOND, put_long_division, put_to_second};
 use crate::put::{put_date, put_offset};
 use crate::sink::{Text, append};
-use time_below::{Time, UtcOffset, Weekday};
+use time_below::Time;
+use time_digits::ru8;
 use time_digits::tables::piece_of;
-use time_digits::{ru8, ru16};
 use time_fmt::Sink;
 use time_fmt::writers::{
-    format_four_digits_pad_zero, format_single_digit, write, write_literal, write_nine_digits,
-    write_six_decimals, write_three_decimals,
+    format_single_digit, write, write_literal, write_nine_digits, write_six_decimals,
+    write_three_decimals,
 };
 use time_provide::ComponentProvider;
-use time_provide::ranges::{IsoWeekNumber, Nanoseconds};
+use time_provide::ranges::Nanoseconds;
 
 // Appends the text by these choices, or refuses the year before any byte. Of an offset with
 // seconds, which the text refuses after its first bytes, it appends nothing.
@@ -54,7 +48,7 @@ pub(super) fn write_usual<V: ComponentProvider>(
     value: &V,
     state: &mut V::State,
 ) -> Option<Result<usize, OutOfRange>>
-    requires usual { config.now ≡ choices_of Calendar usual.now }
+    requires usual { config.now ≡ choices_of usual.now }
     requires supplied { AreAllSupplied V.SUPPLIES_DATE V.SUPPLIES_TIME V.SUPPLIES_OFFSET }
     requires room { HasRoom output.old (iso8601_width config.now) }
     requires agrees { V.agrees state.old value.now }
@@ -74,44 +68,6 @@ pub(super) fn write_usual<V: ComponentProvider>(
     }
 }
 
-// Appends the text by these choices, but with the date by week and weekday, where nothing of the
-// value is refused; else it appends nothing.
-#[inline(never)]
-pub(super) fn write_usual_week<V: ComponentProvider>(
-    config: &Config,
-    usual: &Usual,
-    output: &mut Vec<u8>,
-    value: &V,
-    state: &mut V::State,
-) -> Option<usize>
-    requires usual { config.now ≡ choices_of Week usual.now }
-    requires supplied { AreAllSupplied V.SUPPLIES_DATE V.SUPPLIES_TIME V.SUPPLIES_OFFSET }
-    requires room { HasRoom output.old (iso8601_width config.now) }
-    requires agrees { V.agrees state.old value.now }
-    ensures appends { MatchOption result (output.new ≡ output.old)
-        (λ n. AppendsUpTo (iso8601_width config.now) output.old output.new (Ok n)
-        (iso8601_outcome config.now (V.facts value.now))) }
-    ensures real { OnSome result (AreReal (V.facts value.now)) }
-    ensures agrees { V.agrees state.new value.now }
-{
-    let offset = offset_of(value);
-    let number = value.iso_year(state).get();
-    match accepted_year(0, 25, number, offset) {
-        Ok(year) => {
-            let text = WeekText {
-                usual: *usual,
-                year,
-                week: value.iso_week_number(state),
-                weekday: value.weekday(state),
-                time: time_of(value, state),
-                offset,
-            };
-            Some(append(output, &text))
-        }
-        Err(_) => None,
-    }
-}
-
 // The text by such choices, of fields of which nothing is refused.
 #[derive(Clone, Copy)]
 struct UsualText {
@@ -120,9 +76,9 @@ struct UsualText {
 }
 
 impl Text for UsualText {
-    ghost width = { λ t. iso8601_width (choices_of Calendar t.usual) };
+    ghost width = { λ t. iso8601_width (choices_of t.usual) };
 
-    ghost text = { λ t. usual_text (choices_of Calendar t.usual) t.usual.decimal_digits
+    ghost text = { λ t. usual_text (choices_of t.usual) t.usual.decimal_digits
         (shown t.fields).date t.fields.time t.fields.offset };
 
     #[inline(always)]
@@ -131,34 +87,6 @@ impl Text for UsualText {
             put_usual(output, &self.usual, &self.fields, "-", ":");
         } else {
             put_usual(output, &self.usual, &self.fields, "", "");
-        }
-    }
-}
-
-// The text by such choices with the date by week and weekday, of fields of which nothing is
-// refused.
-#[derive(Clone, Copy)]
-struct WeekText {
-    usual: Usual,
-    year: ru16<0, 9_999>,
-    week: IsoWeekNumber,
-    weekday: Weekday,
-    time: Time,
-    offset: UtcOffset,
-}
-
-impl Text for WeekText {
-    ghost width = { λ t. iso8601_width (choices_of Week t.usual) };
-
-    ghost text = { λ t. usual_text (choices_of Week t.usual) t.usual.decimal_digits
-        (by_week t.year t.week (days_from_monday t.weekday)) t.time t.offset };
-
-    #[inline(always)]
-    fn put_into<S: Sink>(&self, output: &mut S) {
-        if self.usual.has_separators {
-            put_usual_week(output, self, "-", ":");
-        } else {
-            put_usual_week(output, self, "", "");
         }
     }
 }
@@ -236,25 +164,6 @@ fn put_usual<S: Sink>(output: &mut S, usual: &Usual, fields: &Fields, dash: &str
     put_offset(output, fields.offset, colon);
 }
 
-// Puts the date by week and weekday, the time and the offset with these separators.
-#[inline(always)]
-fn put_usual_week<S: Sink>(output: &mut S, text: &WeekText, dash: &str, colon: &str)
-    requires room { Fits (S.buffer output.old) (20 + 2 * length dash.now + 3 * length colon.now
-        + decimal_part_width text.now.usual.decimal_digits) }
-    ensures puts { PutsUpTo (20 + 2 * length dash.now + 3 * length colon.now
-        + decimal_part_width text.now.usual.decimal_digits) (S.buffer output.old) (S.buffer output.new)
-        ((zero_padded 4 text.now.year ++ week_text dash.now text.now.week (days_from_monday text.now.weekday + 1))
-        ++ usual_time_text colon.now text.now.usual.decimal_sign text.now.usual.decimal_digits
-        text.now.time
-        ++ offset_text colon.now text.now.offset) }
-{
-    format_four_digits_pad_zero(output, text.year);
-    let weekday = ru8::within(text.weekday.number_from_monday());
-    put_week(output, dash, text.week.expand(), weekday);
-    put_usual_time(output, &text.usual, text.time, colon);
-    put_offset(output, text.offset, colon);
-}
-
 // Puts the time, and decimals of its second.
 #[inline(always)]
 fn put_usual_time<S: Sink>(output: &mut S, usual: &Usual, time: Time, separator: &str)
@@ -296,10 +205,10 @@ pub(super) fn put_fraction_by<S: Sink>(
     }
 }
 
-// Puts this many decimals of the second.
+/// Puts this many decimals of the second.
 #[inline(always)]
 #[tactic(auto, using(crate::proofs::iso8601::LengthLemmas::decimals_of_second))]
-fn put_decimals<S: Sink>(output: &mut S, nanosecond: Nanoseconds, digits: ru8<1, 255>)
+pub fn put_decimals<S: Sink>(output: &mut S, nanosecond: Nanoseconds, digits: ru8<1, 255>)
     requires room { Fits (S.buffer output.old) digits }
     ensures puts { Puts (S.buffer output.old) (S.buffer output.new) digits
         (decimals nanosecond NANOSECONDS_PER_SECOND digits) }

@@ -93,7 +93,7 @@ impl Config {
 impl Usual {
     /// The most bytes of a text by these choices: 20 to 281.
     pub fn width(&self) -> usize
-        ensures width { result ≡ iso8601_width (choices_of DateKind.Calendar self.now) }
+        ensures width { result ≡ iso8601_width (choices_of self.now) }
         ensures most { result ≤ 281 }
     {
         let signs = if self.has_separators { 25 } else { 20 };

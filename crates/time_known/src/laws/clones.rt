@@ -27,6 +27,7 @@ pub fn clones_of_fields()
 pub fn clones_of_texts()
     ensures rfc3339_text { AreSame ⟦<rfc3339::Rfc3339Text as Clone>⟧.is_clone }
     ensures rfc2822_text { AreSame ⟦<rfc2822::Rfc2822Text as Clone>⟧.is_clone }
+    ensures second_text { AreSame ⟦<rfc3339::SecondText as Clone>⟧.is_clone }
     ensures separated_text { AreSame ⟦<iso8601::SeparatedText as Clone>⟧.is_clone }
     ensures stamp_text { AreSame ⟦<iso8601::StampText as Clone>⟧.is_clone }
 {}

@@ -3,7 +3,6 @@ use Rattle.time_below.specs.Facts.{date_facts}
 use Rattle.time_fmt.specs.Outcome.{done}
 use Rattle.time_known.specs.UsualText.{usual_choices, usual_text}
 use Rattle.time_known.specs.Fields.{Shown}
-use Rattle.time_known.specs.declared.iso8601.config.DateKind.TheVariants as kind
 use Rattle.time_known.proofs.AcceptedLemmas.{usual_accepted, usual_refused}
 use Rattle.movaliren_c.proofs.formats.iso8601.separated_text.Goals as goal
 
@@ -12,7 +11,7 @@ returns-clause-text c =
     let v = c.args.value.now in
     let u = c.args.usual.now in
     let choices = usual_choices true u.decimal_digits u.decimal_sign in
-    usual_accepted choices kind.Calendar true u.decimal_digits u.decimal_sign (date_facts v.date) v.time v.offset [] refl
+    usual_accepted choices true u.decimal_digits u.decimal_sign (date_facts v.date) v.time v.offset [] refl
     (c.in_ok-fields.ensures.accepted [])
     ∙ ap (λ (s : Shown). done (usual_text choices u.decimal_digits s.date s.time s.offset)) (sym c.in_ok-fields.ensures.fields)
 

@@ -15,8 +15,8 @@ pub weekday-weekday-requires-clause-supplied : goal.weekday-weekday-requires-cla
 weekday-weekday-requires-clause-supplied g c =
     (are_all _ _ _ (sym c.are_supplied_by.ensures.supplied ∙ c.if-not-are_supplied_by.false)).0
 
-pub returns-in-Ok : goal.returns-in-Ok
-returns-in-Ok g c =
+pub returns : goal.returns
+returns g c =
     let value = c.args.value.now in
     let f = g.V.ComponentProvider.facts value in
     let all = c.are_supplied_by.ensures.there value ∙ c.if-not-are_supplied_by.false in
@@ -24,15 +24,15 @@ returns-in-Ok g c =
     let hours = any_hour 1900 (the_date f).year (unsigned_abs (the_offset f).hours)
     (unsigned_abs (the_offset f).seconds) text c.accepted_fields.ensures.offset.0.0 in
     let put = appended_as (λ (s : Shown). rfc2822_text (record s.date { weekday = (the_date f).weekday }) s.time s.offset)
-    c.in-Ok.ensures.fields (rw c.weekday-weekday.ensures.value at c.append.ensures.appends) in
+    c.in_ok-fields.ensures.fields (rw c.weekday-weekday.ensures.value at c.append.ensures.appends) in
     record {
-      appends = rw (all, sym hours ∙ c.in-Ok.ensures.accepted text) put.appends;
-      spelled = rw all (reads_as rfc2822_of_groups (completed_are_canonical rfc2822_is_written) f all c.in-Ok.ensures.real
-          (ap (λ (o : Outcome). o.refusal) (sym hours ∙ c.in-Ok.ensures.accepted text)));
+      appends = rw (all, sym hours ∙ c.in_ok-fields.ensures.accepted text) put.appends;
+      spelled = rw all (reads_as rfc2822_of_groups (completed_are_canonical rfc2822_is_written) f all c.in_ok-fields.ensures.real
+          (ap (λ (o : Outcome). o.refusal) (sym hours ∙ c.in_ok-fields.ensures.accepted text)));
       within = put.within;
       text = λ _. rfc2822_utf8 f;
       agrees = c.weekday-weekday.ensures.agrees.agrees;
     }
 
-pub returns-in-Err-clause-text : goal.returns-in-Err-clause-text
-returns-in-Err-clause-text g c = λ _. rfc2822_utf8 (g.V.ComponentProvider.facts c.args.value.now)
+pub returns-in_err-fields-clause-text : goal.returns-in_err-fields-clause-text
+returns-in_err-fields-clause-text g c = λ _. rfc2822_utf8 (g.V.ComponentProvider.facts c.args.value.now)

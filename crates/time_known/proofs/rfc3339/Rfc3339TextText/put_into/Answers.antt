@@ -3,6 +3,5 @@ use Rattle.time_known.proofs.rfc3339.Rfc3339TextText.put_into.Goals as goal
 
 pub returns : goal.returns
 returns g c = record {
-  puts = puts_then (puts_then (puts_then (puts_then c.put_date.ensures.puts (piece c.write.ensures.writes))
-      c.put_clock.ensures.puts) c.put_time_secfrac.ensures.puts) c.put_offset.ensures.puts;
+  puts = puts_then (puts_then c.put_date.ensures.puts (piece c.write.ensures.writes)) c.put_full_time.ensures.puts;
 }

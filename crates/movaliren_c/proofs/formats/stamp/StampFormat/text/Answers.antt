@@ -5,7 +5,6 @@ use Rattle.time_fmt.specs.Outcome.{done}
 use Rattle.time_known.specs.Config.{default_choices}
 use Rattle.time_known.specs.Fields.{Shown}
 use Rattle.time_known.specs.UsualText.{usual_text}
-use Rattle.time_known.specs.declared.iso8601.config.DateKind.TheVariants as kind
 use Rattle.time_known.specs.declared.iso8601.config.DecimalSign.TheVariants as sign
 use Rattle.time_known.proofs.AcceptedLemmas.{usual_accepted, usual_refused}
 use Rattle.movaliren_c.proofs.formats.stamp.StampFormat.text.Goals as goal
@@ -15,7 +14,7 @@ returns-clause-text c =
     let v = c.args.value.now in
     let is : c.new-value.result ≡ record { date = v.date; time = v.time } =
     c.new-value.ensures ∙ rw (c.date.ensures, c.time.ensures) refl in
-    usual_accepted default_choices kind.Calendar true (Some 9) sign.Point (date_facts v.date) v.time utc [] refl
+    usual_accepted default_choices true (Some 9) sign.Point (date_facts v.date) v.time utc [] refl
     (rw is at c.in_ok-fields.ensures.accepted [])
     ∙ ap (λ (s : Shown). done (usual_text default_choices (Some 9) s.date s.time utc)) (sym (rw is at c.in_ok-fields.ensures.fields))
 

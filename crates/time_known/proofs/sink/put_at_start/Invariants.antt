@@ -1,4 +1,4 @@
-use Rattle.time_serde.proofs.text.put_at_start.Given as goal
+use Rattle.time_known.proofs.sink.put_at_start.Given as goal
 
 -- what the buffer holds
 abbrev pub ghosts-put_before : goal.ghosts-put_before

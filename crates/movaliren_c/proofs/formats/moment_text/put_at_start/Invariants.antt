@@ -1,5 +1,0 @@
-use Rattle.movaliren_c.proofs.formats.moment_text.put_at_start.Given as goal
-
--- what the buffer holds
-abbrev pub ghosts-put_before : goal.ghosts-put_before
-ghosts-put_before g a = record { before = a.room.now }
