@@ -1,2 +1,4 @@
 mod Fronts
+mod LenientLemmas
 pub mod StepLemmas
+mod UsualLemmas

@@ -4,6 +4,7 @@ use Rattle.time_below.specs.Facts.{Facts}
 use Rattle.time_below.specs.Tree.{Tree, all_of, end, more, text_literal}
 use Rattle.time_fmt.specs.Description.{tree_outcome}
 use Rattle.time_plan.specs.Shown.{shown_tree}
+use Rattle.time_plan_read.specs.Lenient.{Spells}
 use Rattle.time_plan_read.specs.declared.any_step.LiteralRef.{LiteralRef}
 use Rattle.time_plan_read.specs.declared.any_step.LiteralRef.TheVariants as literal
 use Rattle.time_plan_read.specs.declared.any_step.StepParts.{StepParts}
@@ -17,6 +18,7 @@ ref_bytes (literal.Bytes bytes) = bytes.now
 abbrev pub parts_tree : StepParts → Tree
 parts_tree parts = all_of (more (shown_tree parts.shown) (more (text_literal (ref_bytes parts.literal)) end))
 
--- two trees by which each value is written alike
+-- two trees by which each value is written alike, and read leniently alike
 pub record AreSame (t u : Tree) : Type 0 where
   pub outcome : (f : Facts) → tree_outcome t f ≡ tree_outcome u f
+  pub spelled : (f : Facts) (text : List ℕ) → Spells u f text → Spells t f text

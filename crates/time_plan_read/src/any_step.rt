@@ -51,6 +51,15 @@ impl ReadStep for Step {
     }
 }
 
+impl ReadStep for StepParts<'_> {
+    ghost tree_of = { λ _ parts. parts_tree parts };
+
+    #[tactic(auto, using(crate::proofs::StepLemmas::parts_are_same))]
+    fn parts<'a>(&'a self, _texts: &'a [u8]) -> StepParts<'a> {
+        *self
+    }
+}
+
 /// A literal of a plan.
 #[inline(always)]
 fn literal_of(literal: &Literal) -> LiteralRef<'_>

@@ -169,7 +169,7 @@ fn first_byte(literal: LiteralRef<'_>) -> Option<u8> {
 
 /// How many digits follow what a step shows at once, unless that depends on the value.
 #[inline]
-fn digits_behind<T: ReadStep>(step: &T, others: &[T], texts: &[u8]) -> Option<usize> {
+pub(crate) fn digits_behind<T: ReadStep>(step: &T, others: &[T], texts: &[u8]) -> Option<usize> {
     match first_byte(step.parts(texts).literal) {
         Some(byte) if byte.is_ascii_digit() => None,
         Some(_) => Some(0),

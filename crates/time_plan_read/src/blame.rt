@@ -58,7 +58,7 @@ fn place_in(shown: &Shown, text: &[u8], kind: Kinds) -> Option<Stop> {
 }
 
 /// The kind of the number that is that of no value.
-fn blamed(fields: &Fields, shown: Kinds) -> Kinds {
+pub(crate) fn blamed(fields: &Fields, shown: Kinds) -> Kinds {
     if shown.have(Kinds::HOUR24) && 23 < fields.hour_24 {
         Kinds::HOUR24
     } else if shown.have(Kinds::MINUTE) && 59 < fields.minute {

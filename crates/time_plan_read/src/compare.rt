@@ -128,7 +128,7 @@ fn behind_step<'a, T: ReadStep, V: ComponentProvider>(
 
 /// Writes what a step shows to the start of a buffer, and returns the number of its bytes, or nothing if the value is
 /// refused.
-fn shown_in_room<B: Before, V: ComponentProvider>(
+pub(crate) fn shown_in_room<B: Before, V: ComponentProvider>(
     shown: &Shown,
     room: &mut [u8],
     value: &V,

@@ -4,6 +4,7 @@
 //! No call allocates.
 #![tactic(auto)]
 
+mod alike;
 mod any_step;
 mod behind;
 mod blame;
@@ -17,8 +18,12 @@ mod fault;
 mod fields;
 mod kinds;
 pub mod laws;
+mod left;
+mod lenient;
+mod loose;
 mod moments;
 mod names;
+mod pieces;
 mod reader;
 mod reading;
 mod runs;
@@ -30,5 +35,6 @@ pub use any_step::{LiteralRef, ReadStep, StepParts};
 pub use fault::{NoReader, NotRead, Reason};
 pub use fields::Fields;
 pub use kinds::Kinds;
+pub use lenient::LenientReader;
 pub use reader::{ReadPlan, Reader, StepsReader, reader_of_steps};
 pub use values::Readable;

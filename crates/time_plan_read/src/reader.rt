@@ -3,15 +3,16 @@ ghost use Rattle.std.specs.Prelude.{◌≡◌, ◌≤◌, ◌++◌, IfErr, IfOk,
 ghost use Rattle.time_below.specs.Tree.{trees};
 ghost use Rattle.time_fmt.specs.Description.{trees_outcome};
 ghost use Rattle.time_fmt.specs.Outcome.{done};
+ghost use Rattle.time_plan.specs.Steps.{step_trees};
 ghost use Rattle.time_plan_read.specs.Front.{BeginsWith};
 
 use crate::any_step::ReadStep;
 use crate::behind::is_ambiguous;
 use crate::clock::clear_finer_time;
-use crate::described::Described;
 use crate::fault::{NoReader, NotRead};
 use crate::fields::Fields;
 use crate::kinds::{Kinds, shown_by};
+use crate::lenient::LenientReader;
 use crate::moments::clear_finer_offset;
 use crate::reading::Reading;
 use crate::values::Readable;
@@ -185,6 +186,20 @@ impl<V: Readable> Reader<'_, V> {
     }
 }
 
+impl<'a, V: Readable> Reader<'a, V> {
+    /// The same reader, leniently: it reads texts that are like those of the plan, too.
+    pub fn lenient(&self) -> LenientReader<'a, Step, V>
+        ensures outcome { ⟦<Plan as Formattable>⟧.outcome_of self.now.plan.now
+            ≡ trees_outcome (step_trees result.steps.now) }
+    {
+        LenientReader {
+            steps: self.plan.steps(),
+            texts: &[],
+            reading: self.reading.again(),
+        }
+    }
+}
+
 impl<T: ReadStep, V: Readable> StepsReader<'_, T, V> {
     /// The value that the steps write as this text, or the first fault of the text.
     pub fn read(&self, text: &[u8]) -> Result<V, NotRead>
@@ -197,5 +212,19 @@ impl<T: ReadStep, V: Readable> StepsReader<'_, T, V> {
         ensures inside { IfErr result (λ fault. fault.at ≤ length text.now) }
     {
         self.reading.read(self, text)
+    }
+}
+
+impl<'a, T: ReadStep, V: Readable> StepsReader<'a, T, V> {
+    /// The same reader, leniently: it reads texts that are like those of the steps, too.
+    pub fn lenient(&self) -> LenientReader<'a, T, V>
+        ensures steps { result.steps.now ≡ self.now.steps.now }
+        ensures texts { result.texts.now ≡ self.now.texts.now }
+    {
+        LenientReader {
+            steps: self.steps,
+            texts: self.texts,
+            reading: self.reading.again(),
+        }
     }
 }

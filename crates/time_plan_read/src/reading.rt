@@ -16,8 +16,8 @@ use time_fmt::ComponentProvider;
 /// Which components of a type's values are read, and the numbers that complete them.
 #[derive(Drop)]
 pub(crate) struct Reading<V> {
-    kinds: Kinds,
-    base: Fields,
+    pub(crate) kinds: Kinds,
+    pub(crate) base: Fields,
     value: PhantomData<V>,
 }
 
@@ -29,6 +29,11 @@ impl<V: Readable> Reading<V> {
             base,
             value: PhantomData,
         }
+    }
+
+    /// The same once more.
+    pub(crate) fn again(&self) -> Reading<V> {
+        Reading::new(self.kinds, self.base)
     }
 
     /// The value that is written as this text, or the first fault of the text.
