@@ -6,7 +6,7 @@ use Rattle.time_below.specs.Facts.{Facts}
 use Rattle.time_below.specs.Tree.{Tree, Trees, all_of, end, more, of_component, text_literal}
 use Rattle.time_plan.specs.Shown.{shown_tree}
 use Rattle.time_plan_read.specs.Left.{Takes, three_tree}
-use Rattle.time_plan_read.specs.Lenient.{BeginsByZ, HasZero, InTwo, IsRead, Spells, SpellsAll, SpellsZ}
+use Rattle.time_plan_read.specs.Lenient.{BeginsByZ, HasZero, IsRead, SpellsAll}
 use Rattle.time_plan_read.specs.Parts.{AreSame, parts_tree, ref_bytes}
 use Rattle.time_plan_read.specs.declared.runs.Parts.{Parts}
 use Rattle.time_plan_read.specs.declared.any_step.StepParts.{StepParts}

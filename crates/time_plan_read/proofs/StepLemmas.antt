@@ -3,8 +3,8 @@ use Rattle.std.proofs.Common.{◌≡◌, ℕ, Bool, true, false, List, [], ◌�
 use Rattle.std.proofs.lemmas.List.{append-nil}
 use Rattle.time_below.specs.declared.format_description.component.Component.{Component}
 use Rattle.time_below.specs.Facts.{Facts}
-use Rattle.time_below.specs.Tree.{Tree, byte_literal, nothing, of_component}
-use Rattle.time_fmt.specs.Description.{component_outcome, tree_outcome}
+use Rattle.time_below.specs.Tree.{byte_literal, nothing, of_component}
+use Rattle.time_fmt.specs.Description.{tree_outcome}
 use Rattle.time_fmt.specs.Outcome.{Outcome, Refusal, done, join}
 use Rattle.time_plan.specs.Literal.{literal_bytes, literal_tree}
 use Rattle.time_plan.specs.Shown.{shown_tree}
@@ -15,7 +15,6 @@ use Rattle.time_plan.specs.declared.shown.Shown.TheVariants as shown
 use Rattle.time_plan.specs.declared.step.Step.{Step}
 use Rattle.time_plan_read.specs.Lenient.{Spells, lower}
 use Rattle.time_plan_read.specs.Parts.{AreSame, parts_tree, ref_bytes}
-use Rattle.time_plan_read.specs.declared.any_step.LiteralRef.{LiteralRef}
 use Rattle.time_plan_read.specs.declared.any_step.StepParts.{StepParts}
 
 nothing_behind : (x : List ℕ) (r : Option Refusal)

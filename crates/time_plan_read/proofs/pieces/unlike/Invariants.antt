@@ -1,4 +1,4 @@
-use Rattle.std.proofs.Common.{◌≡◌, drop, map}
+use Rattle.std.proofs.Common.{drop, map}
 use Rattle.time_below.specs.Tree.{trees}
 use Rattle.time_plan_read.specs.Left.{left_bytes}
 use Rattle.time_plan_read.specs.Lenient.{SpellsAll}
