@@ -8,7 +8,8 @@ There are 420 descriptions and 380 configurations, and of each 500 values, or EA
 of tools/read_trips/ is run by `rt try` in a copy of the crates. For each type it prints how many plans or configurations
 and values there were, how many texts were not read, and how many values are written otherwise than the text that was read.
 The last line is `N texts, M wrong`: a text that is written is wrong if it is not read, and any text is wrong if the value
-that was read of it is written otherwise. Takes some minutes, and with few values the time of a build.
+that was read of it is written otherwise, or if the lenient reader of a plan does not read the same value. Takes some
+minutes, and with few values the time of a build.
 """
 import pathlib
 import re
@@ -21,7 +22,7 @@ TOP = pathlib.Path(__file__).resolve().parent.parent
 CRATES = """time_below time_digits time_provide time_fmt time_known time_describe time_plan time_plan_read
     time_read""".split()
 PROGRAM = "read_trips: time_below time_digits time_provide time_fmt time_known time_plan time_plan_read time_read\n"
-LINE = re.compile(r"(\w+): (?:plans|configurations) .* unread (\d+), .* written otherwise (\d+); damaged (\d+), .* written otherwise (\d+)$")
+LINE = re.compile(r"(\w+): (?:plans|configurations) .* unread (\d+), .* written otherwise (\d+); damaged (\d+), .* written otherwise (\d+); leniently otherwise (\d+)$")
 WRITTEN = re.compile(r"values (\d+), refused by the writer (\d+)")
 
 
@@ -49,9 +50,9 @@ def main():
             continue
         print(line)
         values, refused = map(int, WRITTEN.search(line).groups())
-        unread, otherwise, damaged, damaged_otherwise = map(int, it.groups()[1:])
+        unread, otherwise, damaged, damaged_otherwise, leniently = map(int, it.groups()[1:])
         texts += values - refused + damaged
-        wrong += unread + otherwise + damaged_otherwise
+        wrong += unread + otherwise + damaged_otherwise + leniently
     if not texts:
         print("\n".join(lines))
     print(f"{texts:,} texts, {wrong} wrong")

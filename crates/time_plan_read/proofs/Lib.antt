@@ -1,1 +1,4 @@
 mod Fronts
+mod LenientLemmas
+pub mod StepLemmas
+mod UsualLemmas

@@ -1,1 +1,4 @@
 pub mod Front
+pub mod Left
+pub mod Lenient
+pub mod Parts

@@ -1,4 +1,10 @@
 //! Dates and times of day that are one step.
+ghost use Rattle.std.specs.Prelude.{◌≡◌, IfNone, IfSome};
+ghost use Rattle.time_plan.specs.Shown.{run_tree, three_parts};
+ghost use Rattle.time_plan.specs.declared.shown.Part.TheVariants as part;
+ghost use Rattle.time_plan.specs.declared.shown.Run.TheVariants.{Empty};
+ghost use Rattle.time_plan_read.specs.Left.{three_tree};
+
 use crate::digits::{digits, four, two};
 use crate::fault::{Reason, Stop};
 use crate::fields::Fields;
@@ -66,16 +72,19 @@ fn after_year(text: &[u8]) -> Option<&[u8]> {
 
 /// The parts of a run, the bytes between them, and what follows its first part in a text.
 #[derive(Clone, Copy)]
-struct Parts<'a> {
-    first: Component,
-    second: Component,
-    third: Component,
-    between: Separators,
+pub(crate) struct Parts<'a> {
+    pub(crate) first: Component,
+    pub(crate) second: Component,
+    pub(crate) third: Component,
+    pub(crate) between: Separators,
     rest: Option<&'a [u8]>,
 }
 
 /// The parts of a run, if it has any.
-fn parts_of(run: Run, text: &[u8]) -> Option<Parts<'_>> {
+pub(crate) fn parts_of(run: Run, text: &[u8]) -> Option<Parts<'_>>
+    ensures parts { IfSome result (λ parts. run_tree run ≡ three_tree parts) }
+    ensures empty { IfNone result (run ≡ Empty) }
+{
     match run {
         Run::Empty => None,
         Run::Date(between) => Some(parts_of_date(between, text)),
@@ -84,7 +93,9 @@ fn parts_of(run: Run, text: &[u8]) -> Option<Parts<'_>> {
 }
 
 /// The parts of a date.
-fn parts_of_date(between: Separators, text: &[u8]) -> Parts<'_> {
+fn parts_of_date(between: Separators, text: &[u8]) -> Parts<'_>
+    ensures { three_tree result ≡ three_parts part.Year between.first part.Month between.second part.Day }
+{
     let padding = Padding::Zero;
     Parts {
         first: Component::CalendarYearFullExtendedRange(modifier::CalendarYearFullExtendedRange {
@@ -99,7 +110,9 @@ fn parts_of_date(between: Separators, text: &[u8]) -> Parts<'_> {
 }
 
 /// The parts of a time of day.
-fn parts_of_time(between: Separators, text: &[u8]) -> Parts<'_> {
+fn parts_of_time(between: Separators, text: &[u8]) -> Parts<'_>
+    ensures { three_tree result ≡ three_parts part.Hour between.first part.Minute between.second part.Second }
+{
     let padding = Padding::Zero;
     Parts {
         first: Component::Hour24(modifier::Hour24 { padding }),

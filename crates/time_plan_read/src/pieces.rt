@@ -1,0 +1,292 @@
+//! The pieces of a text that is read leniently, one for each component and each literal.
+ghost use Rattle.std.specs.Prelude.{◌≡◌, IfNone, IfSome, map};
+ghost use Rattle.time_below.specs.Facts.{Facts};
+ghost use Rattle.time_below.specs.Tree.{Trees, more, of_component, text_literal, trees};
+ghost use Rattle.time_plan.specs.Shown.{shown_tree};
+ghost use Rattle.time_plan_read.specs.Left.{Takes, left_bytes, three_tree};
+ghost use Rattle.time_plan_read.specs.Lenient.{SpellsAll};
+ghost use Rattle.time_plan_read.specs.Parts.{ref_bytes};
+
+use crate::alike::are_alike;
+use crate::any_step::{LiteralRef, ReadStep, StepParts};
+use crate::compare::shown_in_room;
+use crate::fault::{Reason, Stop};
+use crate::fields::Fields;
+use crate::kinds::{Kinds, kind_of};
+use crate::left::Left;
+use crate::loose::read_loosely;
+use crate::runs::{Parts, parts_of};
+use std::default::Default;
+use std::marker::Brand;
+use std::slice;
+use time_below::format_description::Component;
+use time_fmt::ComponentProvider;
+use time_plan::Shown;
+
+/// Reads a component leniently into the fields, and returns what is left behind its piece. One of a
+/// kind that is blamed is where it stops.
+fn read_piece<'a, T: ReadStep>(
+    component: Component,
+    step: &T,
+    others: &[T],
+    texts: &[u8],
+    left: Left<'a>,
+    fields: &mut Fields,
+    blamed: Option<Kinds>,
+) -> Result<Left<'a>, Stop> {
+    if blamed == Some(kind_of(component.current())) {
+        return Err(Stop {
+            left: left.len(),
+            reason: Reason::NoValue(component),
+        });
+    }
+    let read = read_loosely(component, step, others, texts, left.front, fields);
+    match read.and_then(|count| left.split(count)) {
+        Some((_, rest)) => Ok(rest),
+        None => Err(Stop {
+            left: left.len(),
+            reason: Reason::Component(component),
+        }),
+    }
+}
+
+/// What is left behind a literal, by its letters in either case.
+fn behind_letters<'a>(literal: LiteralRef<'_>, left: Left<'a>) -> Option<Left<'a>>
+    ensures { IfSome result (λ rest. (f : Facts) → Takes (text_literal (ref_bytes literal.entry)) f
+        (left_bytes left.entry) (left_bytes rest)) }
+{
+    let bytes = match &literal {
+        LiteralRef::Byte(byte) => slice::from_ref(byte),
+        LiteralRef::Bytes(bytes) => bytes,
+    };
+    let (piece, rest) = left.split(bytes.len())?;
+    if bytes.eq_ignore_ascii_case(piece) {
+        Some(rest)
+    } else {
+        None
+    }
+}
+
+/// What is left behind a literal, or where the text does not go on by it.
+fn read_letters<'a>(literal: LiteralRef<'_>, left: Left<'a>) -> Result<Left<'a>, Stop> {
+    match behind_letters(literal, left) {
+        Some(rest) => Ok(rest),
+        None => Err(Stop {
+            left: left.len(),
+            reason: match literal {
+                LiteralRef::Byte(byte) => Reason::Literal(byte),
+                LiteralRef::Bytes([byte, ..]) => Reason::Literal(*byte),
+                LiteralRef::Bytes([]) => Reason::Otherwise,
+            },
+        }),
+    }
+}
+
+/// A component of a run and the byte behind it, as a step.
+fn part_of(component: Component, byte: u8) -> StepParts<'static> {
+    StepParts {
+        shown: Shown::Component(component),
+        literal: LiteralRef::Byte(byte),
+    }
+}
+
+/// Reads a component and the byte behind it.
+fn read_part<'a>(
+    component: Component,
+    byte: u8,
+    left: Left<'a>,
+    fields: &mut Fields,
+    blamed: Option<Kinds>,
+) -> Result<Left<'a>, Stop> {
+    let step = part_of(component, byte);
+    match read_piece(component, &step, &[], &[], left, fields, blamed) {
+        Ok(rest) => read_letters(step.literal, rest),
+        Err(stop) => Err(stop),
+    }
+}
+
+/// Reads a run of components, of which the last one is the step's.
+fn read_run<'a, T: ReadStep>(
+    run: Parts<'_>,
+    step: &T,
+    others: &[T],
+    texts: &[u8],
+    left: Left<'a>,
+    fields: &mut Fields,
+    blamed: Option<Kinds>,
+) -> Result<Left<'a>, Stop> {
+    let second = match read_part(run.first, run.between.first, left, fields, blamed) {
+        Ok(rest) => rest,
+        Err(stop) => return Err(stop),
+    };
+    match read_part(run.second, run.between.second, second, fields, blamed) {
+        Ok(third) => read_piece(run.third, step, others, texts, third, fields, blamed),
+        Err(stop) => Err(stop),
+    }
+}
+
+/// Reads a step leniently into the fields, and returns what is left behind it, or where the text is
+/// none of it.
+pub(crate) fn read_step_loosely<'a, T: ReadStep>(
+    step: &T,
+    others: &[T],
+    texts: &[u8],
+    left: Left<'a>,
+    fields: &mut Fields,
+    blamed: Option<Kinds>,
+) -> Result<Left<'a>, Stop> {
+    let parts = step.parts(texts);
+    let read = match parts.shown {
+        Shown::Component(component) => read_piece(
+            component, step, others, texts, left, fields, blamed,
+        ),
+        Shown::Run(run) => match parts_of(run, &[]) {
+            Some(run) => read_run(run, step, others, texts, left, fields, blamed),
+            None => Ok(left),
+        },
+    };
+    match read {
+        Ok(rest) => read_letters(parts.literal, rest),
+        Err(stop) => Err(stop),
+    }
+}
+
+/// The most bytes that a component shows.
+const ROOM: usize = 32;
+
+/// What is left behind the piece of a component, if it is like what is written of a value.
+fn behind_piece<'a, T: ReadStep, V: ComponentProvider>(
+    component: Component,
+    step: &T,
+    others: &[T],
+    texts: &[u8],
+    left: Left<'a>,
+    value: &V,
+    state: &mut V::State,
+) -> Option<Left<'a>>
+    requires agrees { V.agrees state.old value.now }
+    ensures agrees { V.agrees state.new value.now }
+    ensures takes { IfSome result (λ rest. Takes (of_component component) (V.facts value.now)
+        (left_bytes left.entry) (left_bytes rest)) }
+{
+    let mut room = [0u8; ROOM];
+    let own = shown_in_room::<Brand, V>(&Shown::Component(component), &mut room, value, state)?;
+    let mut unused = Fields::default();
+    let count = read_loosely(component, step, others, texts, left.front, &mut unused)?;
+    let (piece, rest) = left.split(count)?;
+    if are_alike(component.current(), &room[..own], piece) {
+        Some(rest)
+    } else {
+        None
+    }
+}
+
+/// What is left behind a run of components, of which the last one is the step's.
+fn behind_run<'a, T: ReadStep, V: ComponentProvider>(
+    run: Parts<'_>,
+    step: &T,
+    others: &[T],
+    texts: &[u8],
+    left: Left<'a>,
+    value: &V,
+    state: &mut V::State,
+) -> Option<Left<'a>>
+    requires agrees { V.agrees state.old value.now }
+    ensures agrees { V.agrees state.new value.now }
+    ensures takes { IfSome result (λ rest. Takes (three_tree run.entry) (V.facts value.now)
+        (left_bytes left.entry) (left_bytes rest)) }
+{
+    let (first, second) = (run.between.first, run.between.second);
+    let part = part_of(run.first, first);
+    let left = behind_piece(run.first, &part, &[], &[], left, value, state)?;
+    let left = behind_letters(LiteralRef::Byte(first), left)?;
+    let part = part_of(run.second, second);
+    let left = behind_piece(run.second, &part, &[], &[], left, value, state)?;
+    let left = behind_letters(LiteralRef::Byte(second), left)?;
+    let left = behind_piece(run.third, step, others, texts, left, value, state)?;
+    Some(left)
+}
+
+/// What is left behind what a step shows, if it is like what is written of a value.
+fn behind_shown<'a, T: ReadStep, V: ComponentProvider>(
+    shown: Shown,
+    step: &T,
+    others: &[T],
+    texts: &[u8],
+    left: Left<'a>,
+    value: &V,
+    state: &mut V::State,
+) -> Option<Left<'a>>
+    requires agrees { V.agrees state.old value.now }
+    ensures agrees { V.agrees state.new value.now }
+    ensures takes { IfSome result (λ rest. Takes (shown_tree shown) (V.facts value.now)
+        (left_bytes left.entry) (left_bytes rest)) }
+{
+    match shown {
+        Shown::Component(component) => {
+            behind_piece(component, step, others, texts, left, value, state)
+        }
+        Shown::Run(run) => match parts_of(run, &[]) {
+            Some(parts) => behind_run(parts, step, others, texts, left, value, state),
+            None => Some(left),
+        },
+    }
+}
+
+/// What is left behind a step, if its pieces are like what is written of a value.
+fn behind_step<'a, T: ReadStep, V: ComponentProvider>(
+    step: &T,
+    others: &[T],
+    texts: &[u8],
+    left: Left<'a>,
+    value: &V,
+    state: &mut V::State,
+) -> Option<Left<'a>>
+    requires agrees { V.agrees state.old value.now }
+    ensures agrees { V.agrees state.new value.now }
+    ensures behind { IfSome result (λ rest. (others : Trees) → SpellsAll others (V.facts value.now) (left_bytes rest)
+        → SpellsAll (more (T.tree_of texts.now step.now) others) (V.facts value.now) (left_bytes left.entry)) }
+{
+    let parts = step.parts(texts);
+    let behind = behind_shown(parts.shown, step, others, texts, left, value, state)?;
+    let rest = behind_letters(parts.literal, behind)?;
+    Some(rest)
+}
+
+/// What stands behind the first of some steps.
+pub(crate) fn behind_first<T>(steps: &[T]) -> &[T] {
+    match steps {
+        [_, others @ ..] => others,
+        [] => steps,
+    }
+}
+
+/// How many bytes of a text are left where it is not like that of a value by the steps, if it is
+/// not.
+pub(crate) fn unlike<T: ReadStep, V: ComponentProvider>(
+    steps: &[T],
+    texts: &[u8],
+    text: Left<'_>,
+    value: &V,
+) -> Option<usize>
+where
+    V::State: Drop,
+    ensures spelled { IfNone result (SpellsAll (trees (map (T.tree_of texts.now) steps.now)) (V.facts value.now)
+        (left_bytes text.entry)) }
+{
+    let mut state = V::State::default();
+    let mut left = text;
+    let mut others = steps;
+    for step in steps {
+        others = behind_first(others);
+        match behind_step(step, others, texts, left, value, &mut state) {
+            Some(rest) => left = rest,
+            None => return Some(left.len()),
+        }
+    }
+    if left.is_empty() {
+        None
+    } else {
+        Some(left.len())
+    }
+}
