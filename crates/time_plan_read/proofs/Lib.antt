@@ -1,1 +1,6 @@
+mod Bytes
 mod Fronts
+mod KindLemmas
+mod StepLists
+mod Texts
+mod Writes

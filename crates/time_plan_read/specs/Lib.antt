@@ -1,1 +1,4 @@
+pub mod DatesAndTimes
 pub mod Front
+pub mod Kinds
+pub mod Numbers

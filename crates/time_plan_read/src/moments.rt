@@ -1,4 +1,7 @@
 //! The offset and the moment that the numbers of a text are of.
+ghost use Rattle.std.specs.Prelude.{◌≤◌, IsSome};
+ghost use Rattle.time_plan_read.specs.Numbers.{HasUnset};
+
 use crate::fields::Fields;
 use crate::kinds::Kinds;
 use std::convert::TryFrom;
@@ -6,7 +9,10 @@ use time_below::{Timestamp, UtcOffset};
 
 /// The offset of numbers.
 #[inline(always)]
-pub(crate) fn offset_of(fields: &Fields) -> Option<UtcOffset> {
+pub(crate) fn offset_of(fields: &Fields) -> Option<UtcOffset>
+    ensures { fields.now.offset_hour ≤ 25 → fields.now.offset_minute ≤ 59
+        → fields.now.offset_second ≤ 59 → IsSome result }
+{
     if 25 < fields.offset_hour || 59 < fields.offset_minute || 59 < fields.offset_second {
         return None;
     }
@@ -66,7 +72,9 @@ fn nanoseconds_of(milliseconds: i64) -> u32 {
 }
 
 /// Sets the numbers of an offset.
-pub(crate) fn set_offset(fields: &mut Fields, offset: UtcOffset) {
+pub(crate) fn set_offset(fields: &mut Fields, offset: UtcOffset)
+    ensures { HasUnset fields.old → HasUnset fields.new }
+{
     let (hours, minutes, seconds) = offset.as_hms();
     fields.offset_is_negative = offset.is_negative();
     fields.offset_hour = hours.unsigned_abs();
@@ -75,7 +83,9 @@ pub(crate) fn set_offset(fields: &mut Fields, offset: UtcOffset) {
 }
 
 /// Sets to zero what is finer than the last part of the offset that is shown, if one is.
-pub(crate) fn clear_finer_offset(fields: &mut Fields, shown: Kinds) {
+pub(crate) fn clear_finer_offset(fields: &mut Fields, shown: Kinds)
+    ensures { HasUnset fields.old → HasUnset fields.new }
+{
     if shown.have(Kinds::OFFSET_SECOND) {
         return;
     }

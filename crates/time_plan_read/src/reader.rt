@@ -1,7 +1,11 @@
 //! Readers of the texts of a plan.
-ghost use Rattle.std.specs.Prelude.{◌≡◌, ◌≤◌, ◌++◌, IfErr, IfOk, IfSome, length};
+ghost use Rattle.std.specs.Prelude.{◌≡◌, ◌≤◌, ◌++◌, true, [], IfErr, IfOk, IfSome, IsOk, IsSome, length};
 ghost use Rattle.time_fmt.specs.Outcome.{done};
+ghost use Rattle.time_plan.specs.Plan.{steps_of};
+ghost use Rattle.time_plan_read.specs.DatesAndTimes.{AreDatesAndTimes, HasFourDigits, are_runs};
 ghost use Rattle.time_plan_read.specs.Front.{BeginsWith};
+ghost use Rattle.time_plan_read.specs.Numbers.{AreKinds, AreNumbersOf, HasUnset};
+ghost use Rattle.time_provide.specs.Real.{AreReal};
 
 use crate::behind::is_ambiguous;
 use crate::blame::no_value;
@@ -31,6 +35,8 @@ pub struct Reader<'a, V> {
     kinds: Kinds,
     base: Fields,
     value: PhantomData<V>,
+    ghost kinds_of_steps: { AreKinds (steps_of plan.now) [] kinds.0 },
+    ghost base_in_range: { HasUnset base },
 }
 
 /// The readers of a plan.
@@ -77,6 +83,8 @@ fn reader_of<V: Readable>(
     kinds: Kinds,
     base: Fields,
 ) -> Result<Reader<'_, V>, NoReader>
+    requires kinds { AreKinds (steps_of plan.now) [] kinds.0 }
+    requires base { HasUnset base }
     ensures plan { IfOk result (λ reader. reader.plan.now ≡ plan.now) }
 {
     match refusal_of::<V>(plan.steps()) {
@@ -131,6 +139,10 @@ impl<V: Readable> Reader<'_, V> {
         V: Drop,
         ensures written { IfOk result (λ value.
             ⟦<Plan as Formattable>⟧.outcome_of self.now.plan.now (V.facts value) ≡ done text.now) }
+        ensures complete { AreDatesAndTimes V.SUPPLIES_DATE V.SUPPLIES_TIME (steps_of self.now.plan.now)
+            → (value : V) → AreReal (V.facts value) → HasFourDigits (V.facts value)
+            → ⟦<Plan as Formattable>⟧.outcome_of self.now.plan.now (V.facts value) ≡ done text.now
+            → IsOk result }
         ensures inside { IfErr result (λ fault. fault.at ≤ length text.now) }
     {
         let mut fields = self.base;
@@ -174,6 +186,10 @@ impl<V: Readable> Reader<'_, V> {
         V: Drop,
         ensures written { IfSome result (λ value.
             ⟦<Plan as Formattable>⟧.outcome_of self.now.plan.now (V.facts value) ≡ done text.now) }
+        ensures complete { (other : V) → are_runs (steps_of self.now.plan.now) ≡ true
+            → ⟦<Plan as Formattable>⟧.outcome_of self.now.plan.now (V.facts other) ≡ done text.now
+            → AreNumbersOf V.SUPPLIES_DATE V.SUPPLIES_TIME self.now.kinds.0 fields.now (V.facts other)
+            → IsSome result }
     {
         let value = V::of_fields(fields, self.kinds)?;
         match difference(self.plan, text, &value) {

@@ -1,4 +1,9 @@
 //! Dates and times of day that are one step.
+ghost use Rattle.std.specs.Prelude.{◌≡◌, ◌≤◌, ◌<◌, ◌++◌, ℕ, List, pos};
+ghost use Rattle.time_below.specs.Facts.{DateFacts};
+ghost use Rattle.time_below.specs.TimeOfDay.{TimeOfDay, IsTimeOfDay};
+ghost use Rattle.time_fmt.specs.Runs.{date_run, time_run};
+
 use crate::digits::{digits, four, two};
 use crate::fault::{Reason, Stop};
 use crate::fields::Fields;
@@ -20,7 +25,13 @@ const DATE: usize = 10;
 /// Whether these are digits, and those between them the right ones, is seen when the text of the
 /// value is compared.
 #[inline(always)]
-pub(crate) fn read_time(text: &[u8], fields: &mut Fields) -> Option<usize> {
+#[tactic(auto, using(crate::proofs::Bytes::is_time_text))]
+pub(crate) fn read_time(text: &[u8], fields: &mut Fields) -> Option<usize>
+    ensures reads { (x y : ℕ) (t : TimeOfDay) (rest : List ℕ) → IsTimeOfDay t
+        → text.now ≡ time_run x y t ++ rest
+        → (result ≡ Some 8) × (fields.new
+        ≡ record fields.old { hour_24 = t.hour; minute = t.minute; second = t.second }) }
+{
     let [a, b, _, c, d, _, e, f, ..] = text else {
         return None;
     };
@@ -33,7 +44,13 @@ pub(crate) fn read_time(text: &[u8], fields: &mut Fields) -> Option<usize> {
 /// Reads a year, a month and a day, and returns how many bytes they have. They are compared later,
 /// as a time of day.
 #[inline(always)]
-pub(crate) fn read_date(text: &[u8], fields: &mut Fields) -> Option<usize> {
+#[tactic(auto, using(crate::proofs::Bytes::is_date_text))]
+pub(crate) fn read_date(text: &[u8], fields: &mut Fields) -> Option<usize>
+    ensures reads { (x y year : ℕ) (d : DateFacts) (rest : List ℕ) → d.year ≡ pos year
+        → year ≤ 9_999 → d.month < 100 → d.day < 100 → text.now ≡ date_run x y d ++ rest
+        → (result ≡ Some 10) × (fields.new
+        ≡ record fields.old { year = d.year; month = d.month; day = d.day }) }
+{
     let [a, b, c, d, _, e, f, _, g, h, ..] = text else {
         return None;
     };

@@ -1,5 +1,13 @@
 //! The steps of a text, one by one.
-ghost use Rattle.std.specs.Prelude.{◌≤◌, IfErr, length};
+ghost use Rattle.std.specs.Prelude.{◌≡◌, ◌≤◌, ◌++◌, ℕ, true, List, [], IfErr, IsSomeAnd, length};
+ghost use Rattle.time_below.specs.Facts.{Facts};
+ghost use Rattle.time_fmt.specs.Description.{tree_outcome, trees_outcome};
+ghost use Rattle.time_fmt.specs.Outcome.{done};
+ghost use Rattle.time_plan.specs.Shown.{shown_tree};
+ghost use Rattle.time_plan.specs.Steps.{step_tree, step_trees};
+ghost use Rattle.time_plan_read.specs.DatesAndTimes.{is_run, are_runs, HasFourDigits};
+ghost use Rattle.time_plan_read.specs.Numbers.{AreSet, HasUnset, Sets};
+ghost use Rattle.time_provide.specs.Real.{AreReal};
 
 use crate::behind::has_digits;
 use crate::components::read_component;
@@ -18,7 +26,12 @@ pub(crate) fn read_steps<'a>(
     steps: &[Step],
     text: &'a [u8],
     fields: &mut Fields,
-) -> Option<&'a [u8]> {
+) -> Option<&'a [u8]>
+    ensures reads { (f : Facts) (front rest : List ℕ) → AreReal f → HasFourDigits f
+        → are_runs steps.now ≡ true → trees_outcome (step_trees steps.now) f ≡ done front
+        → text.now ≡ front ++ rest → HasUnset fields.old
+        → IsSomeAnd result (λ left. left.now ≡ rest) × AreSet steps.now [] f fields.new }
+{
     let mut left = text;
     let mut steps_left = steps;
     'steps: while let [step, others @ ..] = steps_left {
@@ -57,14 +70,24 @@ fn read_step<'a>(
     others: &[Step],
     text: &'a [u8],
     fields: &mut Fields,
-) -> Option<&'a [u8]> {
+) -> Option<&'a [u8]>
+    ensures reads { (f : Facts) (front rest : List ℕ) → AreReal f → HasFourDigits f
+        → is_run step.now.shown ≡ true → tree_outcome (step_tree step.now) f ≡ done front
+        → text.now ≡ front ++ rest
+        → IsSomeAnd result (λ left. left.now ≡ rest) × Sets step.now.shown f fields.old fields.new }
+{
     let count = read_shown(step, others, text, fields)?;
     after_literal(behind(text, count)?, &step.literal)
 }
 
 /// Reads what a step shows into the fields, and returns how many bytes that has.
 #[inline(always)]
-fn read_shown(step: &Step, others: &[Step], text: &[u8], fields: &mut Fields) -> Option<usize> {
+fn read_shown(step: &Step, others: &[Step], text: &[u8], fields: &mut Fields) -> Option<usize>
+    ensures reads { (f : Facts) (front rest : List ℕ) → AreReal f → HasFourDigits f
+        → is_run step.now.shown ≡ true → tree_outcome (shown_tree step.now.shown) f ≡ done front
+        → text.now ≡ front ++ rest
+        → (result ≡ Some (length front)) × Sets step.now.shown f fields.old fields.new }
+{
     match &step.shown {
         Shown::Component(component) => read_component(component, step, others, text, fields),
         Shown::Run(Run::Empty) => Some(0),

@@ -1,6 +1,7 @@
-use Rattle.std.proofs.Common.{◌≡◌, IfNone, subst, sym}
+use Rattle.std.proofs.Common.{◌≡◌, ◌∙◌, IfNone, ap, subst, sym}
 use Rattle.time_below.specs.Facts.{Facts}
 use Rattle.time_fmt.specs.Outcome.{Outcome, done}
+use Rattle.time_plan_read.specs.DatesAndTimes.{are_runs}
 use Rattle.time_plan_read.proofs.compare.difference.Goals as goal
 
 -- the plan's text is that of its steps
@@ -8,10 +9,19 @@ pub returns-then-fits_plainly : goal.returns-then-fits_plainly
 returns-then-fits_plainly g c =
     let P : (Facts → Outcome) → Type 0 = λ outcome. IfNone c.whole_difference.result
     (outcome (g.V.ComponentProvider.facts c.args.value.now) ≡ done c.args.text.now) in
-    record { same = subst P (sym c.steps.ensures.outcome) c.whole_difference.ensures.same }
+    record {
+      same = subst P (sym c.steps.ensures.outcome) c.whole_difference.ensures.same;
+      other = λ runs is. c.whole_difference.ensures.other
+          (ap (λ (outcome : Facts → Outcome). outcome (g.V.ComponentProvider.facts c.args.value.now)) (sym c.steps.ensures.outcome) ∙ is);
+    }
 
 pub returns-else-fits_plainly : goal.returns-else-fits_plainly
 returns-else-fits_plainly g c =
     let P : (Facts → Outcome) → Type 0 = λ outcome. IfNone c.stepwise_difference.result
     (outcome (g.V.ComponentProvider.facts c.args.value.now) ≡ done c.args.text.now) in
-    record { same = subst P (sym c.steps-else-fits_plainly.ensures.outcome) c.stepwise_difference.ensures.same }
+    record {
+      same = subst P (sym c.steps-else-fits_plainly.ensures.outcome) c.stepwise_difference.ensures.same;
+      other = λ runs is. c.stepwise_difference.ensures.other
+          (ap are_runs c.steps-else-fits_plainly.ensures.steps ∙ runs)
+          (ap (λ (outcome : Facts → Outcome). outcome (g.V.ComponentProvider.facts c.args.value.now)) (sym c.steps-else-fits_plainly.ensures.outcome) ∙ is);
+    }

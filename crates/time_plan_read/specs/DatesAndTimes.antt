@@ -1,0 +1,46 @@
+-- Plans of dates and times of day.
+use Rattle.std.specs.Prelude.{◌≡◌, ◌≤◌, ◌&&◌, ◌||◌, Bool, true, false, List, [], ◌∷◌, pos, unsigned_abs}
+use Rattle.time_below.specs.Facts.{Facts, the_date}
+use Rattle.time_plan.specs.declared.shown.Run.TheVariants as run
+use Rattle.time_plan.specs.declared.shown.Shown.{Shown}
+use Rattle.time_plan.specs.declared.shown.Shown.TheVariants as shown
+use Rattle.time_plan.specs.declared.step.Step.{Step}
+
+-- a date, a time of day, or nothing
+abbrev pub is_run : Shown → Bool
+is_run (shown.Run r) = true
+is_run (shown.Component c) = false
+
+abbrev pub is_date : Shown → Bool
+is_date (shown.Run (run.Date between)) = true
+is_date other = false
+
+abbrev pub is_time : Shown → Bool
+is_time (shown.Run (run.Time between)) = true
+is_time other = false
+
+abbrev pub are_runs : List Step → Bool
+are_runs [] = true
+are_runs (s ∷ ss) = is_run s.shown && are_runs ss
+
+-- some step is a date
+abbrev pub show_date : List Step → Bool
+show_date [] = false
+show_date (s ∷ ss) = is_date s.shown || show_date ss
+
+-- some step is a time of day
+abbrev pub show_time : List Step → Bool
+show_time [] = false
+show_time (s ∷ ss) = is_time s.shown || show_time ss
+
+-- Each step is a date, a time of day or nothing, before its literal. A date is shown where the values have one, and so
+-- is a time of day.
+pub record AreDatesAndTimes (has_date has_time : Bool) (steps : List Step) : Type 0 where
+  pub each : are_runs steps ≡ true
+  pub date : has_date ≡ true → show_date steps ≡ true
+  pub time : has_time ≡ true → show_time steps ≡ true
+
+-- a year 0 to 9999, which is written by four digits
+abbrev pub HasFourDigits : Facts → Type 0
+HasFourDigits f =
+    (unsigned_abs (the_date f).year ≤ 9_999) × ((the_date f).year ≡ pos (unsigned_abs (the_date f).year))
