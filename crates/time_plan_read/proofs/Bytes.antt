@@ -45,6 +45,9 @@ time_bytes x y t real =
     let second : zero_padded 2 t.second ≡ (48 + t.second / 10) ∷ (48 + t.second % 10) ∷ [] = two_digits t.second (omega (arith, real)) in
     rw (hour, minute, second) refl
 
+pub length-time_run : (x y : ℕ) (t : TimeOfDay) → IsTimeOfDay t → length (time_run x y t) ≡ 8
+length-time_run x y t real = ap length (time_bytes x y t real)
+
 pub is_time_text : (text : List ℕ) (x y : ℕ) (t : TimeOfDay) (rest : List ℕ) → IsTimeOfDay t → text ≡ time_run x y t ++ rest
     → IsTimeText text t
 is_time_text text x y t rest real is =
@@ -76,11 +79,23 @@ date_bytes x y year d is small month_small day_small =
     let day = two_digits d.day day_small in
     rw (four, month, day) refl
 
+pub length-date_run : (x y year : ℕ) (d : DateFacts) → d.year ≡ pos year → year ≤ 9_999 → d.month < 100 → d.day < 100
+    → length (date_run x y d) ≡ 10
+length-date_run x y year d is small month_small day_small = ap length (date_bytes x y year d is small month_small day_small)
+
 pub is_date_text : (text : List ℕ) (x y year : ℕ) (d : DateFacts) (rest : List ℕ) → d.year ≡ pos year → year ≤ 9_999
     → d.month < 100 → d.day < 100 → text ≡ date_run x y d ++ rest → IsDateText text year d
 is_date_text text x y year d rest is_year small month_small day_small is =
     let bytes = is ∙ ap (λ (front : List ℕ). front ++ rest) (date_bytes x y year d is_year small month_small day_small) in
     subst (λ (text : List ℕ). IsDateText text year d) (sym bytes)
     (record {
-      long = omega arith; at_0 = refl; at_1 = refl; at_2 = refl; at_3 = refl; at_5 = refl; at_6 = refl; at_8 = refl; at_9 = refl;
+      long = omega arith;
+      at_0 = refl;
+      at_1 = refl;
+      at_2 = refl;
+      at_3 = refl;
+      at_5 = refl;
+      at_6 = refl;
+      at_8 = refl;
+      at_9 = refl;
     })

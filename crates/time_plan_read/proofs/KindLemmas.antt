@@ -4,10 +4,8 @@ use Rattle.std.specs.Int.{bit_at}
 use Rattle.std.specs.Prelude.{bit_and, bit_or}
 use Rattle.std.proofs.lemmas.Nat.{and_assoc}
 use Rattle.std.proofs.lemmas.Nat.Bits.{bit_at_and, bit_at_or, bit_at-zero, same_from_bits}
-use Rattle.time_plan.specs.declared.shown.Run.TheVariants as run
 use Rattle.time_plan.specs.declared.shown.Shown.{Shown}
 use Rattle.time_plan.specs.declared.shown.Shown.TheVariants as shown
-use Rattle.time_plan.specs.declared.step.Step.{Step}
 use Rattle.time_plan_read.proofs.StepLists.{both_true}
 use Rattle.time_plan_read.specs.DatesAndTimes.{is_run, is_date, is_time, are_runs, show_date, show_time}
 use Rattle.time_plan_read.specs.Kinds.{Have, of_date, of_time, of_moment}
@@ -75,13 +73,20 @@ completes_on j k l first second = record {
 }
 
 -- kinds that are completed are those of the steps still
-pub completed_kinds : (all left : List Step) (k l : ℕ) → AreKinds all left k → Completes k l → AreKinds all left l
+pub completed_kinds : (all left : List Shown) (k l : ℕ) → AreKinds all left k → Completes k l → AreKinds all left l
 completed_kinds all left k l are more = record {
   date = λ shown none. more.all of_date (are.date shown none);
   time = λ shown none. more.all of_time (are.time shown none);
   each = are.each;
   no_moment = λ runs. more.no_moment (are.no_moment runs);
 }
+
+-- two, or what completes and two, complete
+pub completes_two : (j k a b : ℕ) → Completes j k → bit_and a of_moment ≡ 0 → bit_and b of_moment ≡ 0
+    → Completes j (bit_or (bit_or k a) b)
+completes_two j k a b first none_a none_b =
+    completes_on j (bit_or k a) (bit_or (bit_or k a) b) (completes_on j k (bit_or k a) first (completes_more k a none_a))
+    (completes_more (bit_or k a) b none_b)
 
 -- ---- the kinds of steps
 
@@ -101,20 +106,37 @@ with_time : (d : Bool) (ss : Bool) (k more : ℕ) → (d ≡ true → more ≡ o
 with_time true ss k more is have none = rw (is refl) (have_added k of_time)
 with_time false ss k more is have none = have_more k more of_time (have none)
 
-pub kinds_more : (all left : List Step) (s : Step) (k more : ℕ) → AreKinds all (s ∷ left) k → AreKindsOfOne s.shown more
+pub kinds_more : (all left : List Shown) (s : Shown) (k more : ℕ) → AreKinds all (s ∷ left) k → AreKindsOfOne s more
     → AreKinds all left (bit_or k more)
 kinds_more all left s k more are one = record {
-  date = λ shows none. with_date (is_date s.shown) (show_date left) k more one.date (λ e. are.date shows e) none;
-  time = λ shows none. with_time (is_time s.shown) (show_time left) k more one.time (λ e. are.time shows e) none;
-  each = λ runs. (both_true (is_run s.shown) (are_runs left) (are.each runs)).1;
+  date = λ shows none. with_date (is_date s) (show_date left) k more one.date (λ e. are.date shows e) none;
+  time = λ shows none. with_time (is_time s) (show_time left) k more one.time (λ e. are.time shows e) none;
+  each = λ runs. (both_true (is_run s) (are_runs left) (are.each runs)).1;
   no_moment = λ runs. none_more k more of_moment (are.no_moment runs)
-      (one.no_moment (both_true (is_run s.shown) (are_runs left) (are.each runs)).0);
+      (one.no_moment (both_true (is_run s) (are_runs left) (are.each runs)).0);
 }
 
-pub kinds_of_none : (all : List Step) → AreKinds all all 0
+pub kinds_of_none : (all : List Shown) → AreKinds all all 0
 kinds_of_none all = record {
   date = λ shows none. let no : ⊥ = cc in absurd no;
   time = λ shows none. let no : ⊥ = cc in absurd no;
   each = λ runs. runs;
   no_moment = λ runs. refl;
+}
+
+date_runs : (s : Shown) → is_date s ≡ true → is_run s ≡ true
+date_runs (shown.Run r) is = refl
+date_runs (shown.Component c) is = let no : ⊥ = cc in absurd no
+
+time_runs : (s : Shown) → is_time s ≡ true → is_run s ≡ true
+time_runs (shown.Run r) is = refl
+time_runs (shown.Component c) is = let no : ⊥ = cc in absurd no
+
+-- what is read as shown is what is shown
+pub kinds_of_parts : (s p : Shown) (kinds : ℕ) → (is_run s ≡ true → p ≡ s) → AreKindsOfOne p kinds
+    → AreKindsOfOne s kinds
+kinds_of_parts s p kinds same are = record {
+  date = λ is. are.date (ap is_date (same (date_runs s is)) ∙ is);
+  time = λ is. are.time (ap is_time (same (time_runs s is)) ∙ is);
+  no_moment = λ is. are.no_moment (ap is_run (same is) ∙ is);
 }

@@ -2,3 +2,4 @@ pub mod DatesAndTimes
 pub mod Front
 pub mod Kinds
 pub mod Numbers
+pub mod Parts

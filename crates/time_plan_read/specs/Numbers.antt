@@ -1,10 +1,9 @@
 -- The numbers that are read of a text.
-use Rattle.std.specs.Prelude.{◌≡◌, ◌≤◌, ◌<◌, ℕ, Bool, true, false, List, bit_and}
+use Rattle.std.specs.Prelude.{◌≡◌, ◌≤◌, ◌<◌, ℕ, Bool, true, false, List, bit_and, is_some}
 use Rattle.time_below.specs.Facts.{Facts, the_date, the_time}
 use Rattle.time_plan.specs.declared.shown.Run.TheVariants as run
 use Rattle.time_plan.specs.declared.shown.Shown.{Shown}
 use Rattle.time_plan.specs.declared.shown.Shown.TheVariants as shown
-use Rattle.time_plan.specs.declared.step.Step.{Step}
 use Rattle.time_plan_read.specs.DatesAndTimes.{are_runs, show_date, show_time}
 use Rattle.time_plan_read.specs.Kinds.{Have, of_date, of_time, of_moment}
 use Rattle.time_plan_read.specs.declared.fields.Fields.{Fields}
@@ -27,7 +26,7 @@ pub record HasUnset (x : Fields) : Type 0 where
   pub offset_second : x.offset_second ≤ 59
 
 -- what the steps show of a value is set, but for what steps show that are left
-pub record AreSet (all left : List Step) (f : Facts) (x : Fields) : Type 0 where
+pub record AreSet (all left : List Shown) (f : Facts) (x : Fields) : Type 0 where
   pub year : show_date all ≡ true → show_date left ≡ false → x.year ≡ (the_date f).year
   pub month : show_date all ≡ true → show_date left ≡ false → x.month ≡ (the_date f).month
   pub day : show_date all ≡ true → show_date left ≡ false → x.day ≡ (the_date f).day
@@ -38,7 +37,7 @@ pub record AreSet (all left : List Step) (f : Facts) (x : Fields) : Type 0 where
 
 -- The kinds have those of a date if some step shows one, but for the steps that are left; and so those of a time of day.
 -- Where each step is a date, a time of day or nothing, they have no moment.
-pub record AreKinds (all left : List Step) (kinds : ℕ) : Type 0 where
+pub record AreKinds (all left : List Shown) (kinds : ℕ) : Type 0 where
   pub date : show_date all ≡ true → show_date left ≡ false → Have kinds of_date
   pub time : show_time all ≡ true → show_time left ≡ false → Have kinds of_time
   pub each : are_runs all ≡ true → are_runs left ≡ true
@@ -63,6 +62,11 @@ pub record AreNumbersOf (date time : Bool) (kinds : ℕ) (x : Fields) (f : Facts
   pub minute : time ≡ true → x.minute ≡ (the_time f).minute
   pub second : time ≡ true → x.second ≡ (the_time f).second
   pub unset : HasUnset x
+
+-- two values have the same groups, as far as dates and times of day show them
+pub record HaveTheGroups (f g : Facts) : Type 0 where
+  pub date : is_some f.date ≡ is_some g.date
+  pub time : is_some f.time ≡ is_some g.time
 
 -- two values have one date, and one time of day up to the second
 pub record HaveOneSecond (f g : Facts) : Type 0 where

@@ -1,15 +1,15 @@
 //! The text of a value by the steps of a plan, compared with another one.
 ghost use Rattle.std.specs.Prelude.{◌≡◌, ◌≤◌, ℕ, true, List, ◌++◌, IfSome, IfNone, IsNone, IsSome};
-ghost use Rattle.std.specs.Prelude.{IsSomeAnd, length, take};
-ghost use Rattle.time_below.specs.Tree.{Tree, Trees, more};
+ghost use Rattle.std.specs.Prelude.{IsSomeAnd, length, map, take};
+ghost use Rattle.time_below.specs.Tree.{Tree, Trees, more, trees};
 ghost use Rattle.time_below.specs.Width.{tree_width, trees_width};
 ghost use Rattle.time_fmt.specs.Description.{tree_outcome, trees_outcome};
 ghost use Rattle.time_fmt.specs.Outcome.{done};
-ghost use Rattle.time_plan.specs.Plan.{steps_of};
 ghost use Rattle.time_plan.specs.Shown.{shown_tree};
-ghost use Rattle.time_plan.specs.Steps.{step_tree, step_trees};
-ghost use Rattle.time_plan_read.specs.DatesAndTimes.{is_run, are_runs};
+ghost use Rattle.time_plan.specs.Steps.{step_trees};
+ghost use Rattle.time_plan_read.specs.DatesAndTimes.{are_runs, is_run, shown_by};
 
+use crate::any_step::{ReadStep, StepParts};
 use crate::names::{after_all, after_literal};
 use std::default::Default;
 use std::marker::Brand;
@@ -26,14 +26,14 @@ where
     V::State: Drop,
     ensures same { IfNone result (⟦<Plan as Formattable>⟧.outcome_of plan.now (V.facts value.now)
         ≡ done text.now) }
-    ensures other { are_runs (steps_of plan.now) ≡ true
+    ensures other { are_runs (shown_by plan.now) ≡ true
         → ⟦<Plan as Formattable>⟧.outcome_of plan.now (V.facts value.now) ≡ done text.now
         → IsNone result }
 {
     if plan.fits_plainly(ROOM) {
         whole_difference(plan.steps(), text, value)
     } else {
-        stepwise_difference(plan.steps(), text, value)
+        stepwise_difference(plan.steps(), &[], text, value)
     }
 }
 
@@ -88,21 +88,24 @@ const SHOWN_ROOM: usize = 32;
 
 /// The same for steps of any width, one by one. Literals are compared where they lie.
 #[inline(never)]
-fn stepwise_difference<V: ComponentProvider>(
-    steps: &[Step],
+pub(crate) fn stepwise_difference<T: ReadStep, V: ComponentProvider>(
+    steps: &[T],
+    texts: &[u8],
     text: &[u8],
     value: &V,
 ) -> Option<usize>
 where
     V::State: Drop,
-    ensures same { IfNone result (trees_outcome (step_trees steps.now) (V.facts value.now) ≡ done text.now) }
-    ensures other { are_runs steps.now ≡ true
-        → trees_outcome (step_trees steps.now) (V.facts value.now) ≡ done text.now → IsNone result }
+    ensures same { IfNone result (trees_outcome (trees (map (T.tree_of texts.now) steps.now)) (V.facts value.now)
+        ≡ done text.now) }
+    ensures other { are_runs (map (T.shown_of texts.now) steps.now) ≡ true
+        → trees_outcome (trees (map (T.tree_of texts.now) steps.now)) (V.facts value.now) ≡ done text.now
+        → IsNone result }
 {
     let mut state = V::State::default();
     let mut left = text;
     for step in steps {
-        match behind_step(step, left, value, &mut state) {
+        match behind_step(step, texts, left, value, &mut state) {
             Some(rest) => left = rest,
             None => return Some(text.len().saturating_sub(left.len())),
         }
@@ -115,8 +118,9 @@ where
 }
 
 /// What follows the text of a step, if the text begins with it.
-fn behind_step<'a, V: ComponentProvider>(
-    step: &Step,
+fn behind_step<'a, T: ReadStep, V: ComponentProvider>(
+    step: &T,
+    texts: &[u8],
     text: &'a [u8],
     value: &V,
     state: &mut V::State,
@@ -124,15 +128,16 @@ fn behind_step<'a, V: ComponentProvider>(
     requires agrees { V.agrees state.old value.now }
     ensures agrees { V.agrees state.new value.now }
     ensures behind { IfSome result (λ rest. (others : Trees) → trees_outcome others (V.facts value.now) ≡ done rest.now
-        → trees_outcome (more (step_tree step.now) others) (V.facts value.now) ≡ done text.now) }
-    ensures reads { (front rest : List ℕ) → is_run step.now.shown ≡ true
-        → tree_outcome (step_tree step.now) (V.facts value.now) ≡ done front → text.now ≡ front ++ rest
-        → IsSomeAnd result (λ left. left.now ≡ rest) }
+        → trees_outcome (more (T.tree_of texts.now step.now) others) (V.facts value.now) ≡ done text.now) }
+    ensures reads { (front rest : List ℕ) → is_run (T.shown_of texts.now step.now) ≡ true
+        → tree_outcome (T.tree_of texts.now step.now) (V.facts value.now) ≡ done front
+        → text.now ≡ front ++ rest → IsSomeAnd result (λ left. left.now ≡ rest) }
 {
     let mut room = [0u8; SHOWN_ROOM];
-    let count = shown_in_room::<Brand, V>(&step.shown, &mut room, value, state)?;
+    let StepParts { shown, literal } = step.parts(texts);
+    let count = shown_in_room::<Brand, V>(&shown, &mut room, value, state)?;
     let rest = after_all(text, &room[..count])?;
-    after_literal(rest, &step.literal)
+    after_literal(rest, literal)
 }
 
 /// Writes what a step shows to the start of a buffer, and returns the number of its bytes, or nothing if the value is

@@ -97,10 +97,7 @@ fn week_date(year: i32, week: u8, weekday: u8, days_before: i32) -> Option<Date>
 
 /// The date of a year, the number of a month and a day.
 #[inline(always)]
-#[tactic(auto, using(
-    time_below::proofs::MonthLemmas::month_of_date,
-    time_below::proofs::MonthLemmas::day_of_date
-))]
+#[tactic(auto, using(time_below::proofs::MonthLemmas::month_of_date, time_below::proofs::MonthLemmas::day_of_date))]
 fn calendar_date(year: i32, number: u8, day: u8) -> Option<Date>
     ensures { (d : OrdinalDate) → IsDate d → year ≡ d.year → number ≡ month_of d
         → day ≡ day_in_month d → result ≡ Some d }

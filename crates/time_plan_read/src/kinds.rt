@@ -1,11 +1,12 @@
 //! What the steps of a plan show, and whether their texts determine a value.
-ghost use Rattle.std.specs.Prelude.{◌≡◌, ◌↔◌, IsTrue, true, false, [], bit_and, bit_or};
+ghost use Rattle.std.specs.Prelude.{◌≡◌, ◌↔◌, IsTrue, true, false, [], map, bit_and, bit_or};
 ghost use Rattle.time_plan_read.specs.DatesAndTimes.{is_date, is_run, is_time};
 ghost use Rattle.time_plan_read.specs.Kinds.{of_date, of_time, of_moment};
 ghost use Rattle.time_plan_read.specs.Numbers.{AreKinds, Completes};
 
+use crate::any_step::ReadStep;
 use time_below::format_description::Component;
-use time_plan::{Run, Shown, Step};
+use time_plan::{Run, Shown};
 
 /// Which components are shown, one bit for each.
 #[derive(Clone, Copy, Debug, PartialEq, Eq)]
@@ -135,10 +136,7 @@ impl Kinds {
 
     /// Whether the moment is determined by itself.
     #[inline(always)]
-    #[tactic(auto, using(
-        crate::proofs::KindLemmas::no_seconds,
-        crate::proofs::KindLemmas::no_milliseconds
-    ))]
+    #[tactic(auto, using(crate::proofs::KindLemmas::no_seconds, crate::proofs::KindLemmas::no_milliseconds))]
     pub(crate) fn have_moment(self) -> bool
         ensures { bit_and self.0 of_moment ≡ 0 → result ≡ false }
     {
@@ -146,11 +144,7 @@ impl Kinds {
     }
 
     /// With the components of a base value that complete the date.
-    #[tactic(auto, using(
-        crate::proofs::KindLemmas::completes_itself,
-        crate::proofs::KindLemmas::completes_more,
-        crate::proofs::KindLemmas::completes_on
-    ))]
+    #[tactic(auto, using(crate::proofs::KindLemmas::completes_itself, crate::proofs::KindLemmas::completes_more, crate::proofs::KindLemmas::completes_on))]
     pub(crate) fn with_date(self) -> Kinds
         ensures { Completes self.0 result.0 }
     {
@@ -207,10 +201,6 @@ impl Kinds {
     }
 
     /// With the components of a base value that complete the time of day.
-    #[tactic(auto, using(
-        crate::proofs::KindLemmas::completes_more,
-        crate::proofs::KindLemmas::completes_on
-    ))]
     pub(crate) fn with_time(self) -> Kinds
         ensures { Completes self.0 result.0 }
     {
@@ -223,10 +213,6 @@ impl Kinds {
     }
 
     /// With the components of a base value that complete the offset.
-    #[tactic(auto, using(
-        crate::proofs::KindLemmas::completes_more,
-        crate::proofs::KindLemmas::completes_on
-    ))]
     pub(crate) fn with_offset(self) -> Kinds
         ensures { Completes self.0 result.0 }
     {
@@ -295,12 +281,12 @@ pub(crate) fn kinds_of(shown: &Shown) -> Kinds
 }
 
 /// The kinds of components that the steps show.
-pub(crate) fn shown_by(steps: &[Step]) -> Kinds
-    ensures { AreKinds steps.now [] result.0 }
+pub(crate) fn shown_by<T: ReadStep>(steps: &[T], texts: &[u8]) -> Kinds
+    ensures { AreKinds (map (T.shown_of texts.now) steps.now) [] result.0 }
 {
     let mut kinds = Kinds::NONE;
     for step in steps {
-        kinds = kinds.and(kinds_of(&step.shown));
+        kinds = kinds.and(kinds_of(&step.parts(texts).shown));
     }
     kinds
 }

@@ -1,5 +1,6 @@
 //! The offset and the moment that the numbers of a text are of.
-ghost use Rattle.std.specs.Prelude.{◌≤◌, IsSome};
+ghost use Rattle.std.specs.Prelude.{◌≡◌, ◌≤◌, IsSome};
+ghost use Rattle.time_below.specs.Moment.{IsMoment};
 ghost use Rattle.time_plan_read.specs.Numbers.{HasUnset};
 
 use crate::fields::Fields;
@@ -55,7 +56,10 @@ pub(crate) fn moment_of(fields: &Fields, kinds: Kinds) -> Option<Timestamp> {
 }
 
 /// The moment of seconds and a nanosecond.
-pub(crate) fn timestamp(seconds: i64, nanosecond: u32) -> Option<Timestamp> {
+pub(crate) fn timestamp(seconds: i64, nanosecond: u32) -> Option<Timestamp>
+    ensures { IsMoment (record { seconds = seconds; nanosecond = nanosecond })
+        → result ≡ Some (record { seconds = seconds; nanosecond = nanosecond }) }
+{
     match Timestamp::new(seconds, nanosecond) {
         Ok(moment) => Some(moment),
         Err(_) => None,

@@ -1,41 +1,46 @@
 //! The steps of a text, one by one.
-ghost use Rattle.std.specs.Prelude.{◌≡◌, ◌≤◌, ◌++◌, ℕ, true, List, [], IfErr, IsSomeAnd, length};
+ghost use Rattle.std.specs.Prelude.{◌≡◌, ◌≤◌, ◌++◌, ℕ, true, List, [], map, IfErr, IsSomeAnd};
+ghost use Rattle.std.specs.Prelude.{length};
 ghost use Rattle.time_below.specs.Facts.{Facts};
+ghost use Rattle.time_below.specs.Tree.{trees};
 ghost use Rattle.time_fmt.specs.Description.{tree_outcome, trees_outcome};
 ghost use Rattle.time_fmt.specs.Outcome.{done};
 ghost use Rattle.time_plan.specs.Shown.{shown_tree};
-ghost use Rattle.time_plan.specs.Steps.{step_tree, step_trees};
-ghost use Rattle.time_plan_read.specs.DatesAndTimes.{is_run, are_runs, HasFourDigits};
+ghost use Rattle.time_plan_read.specs.DatesAndTimes.{HasFourDigits, are_runs, is_run};
 ghost use Rattle.time_plan_read.specs.Numbers.{AreSet, HasUnset, Sets};
 ghost use Rattle.time_provide.specs.Real.{AreReal};
 
+use crate::any_step::{LiteralRef, ReadStep, StepParts};
 use crate::behind::has_digits;
 use crate::components::read_component;
 use crate::fault::{NotRead, Reason, Stop, not_read};
 use crate::fields::Fields;
 use crate::names::{after_literal, behind};
 use crate::runs::{read_date, read_time, stop_of_run};
-use time_plan::{Literal, Run, Shown, Step};
+use time_plan::{Run, Shown};
 
 /// Reads the steps in order into the fields, and returns what follows them.
 ///
 /// No step tells what is wrong with a text, and numbers of so many digits take any bytes:
 /// `checked_steps` tells what is wrong, once the text of the value was another one.
 #[inline(always)]
-pub(crate) fn read_steps<'a>(
-    steps: &[Step],
+pub(crate) fn read_steps<'a, T: ReadStep>(
+    steps: &[T],
+    texts: &[u8],
     text: &'a [u8],
     fields: &mut Fields,
 ) -> Option<&'a [u8]>
     ensures reads { (f : Facts) (front rest : List ℕ) → AreReal f → HasFourDigits f
-        → are_runs steps.now ≡ true → trees_outcome (step_trees steps.now) f ≡ done front
+        → are_runs (map (T.shown_of texts.now) steps.now) ≡ true
+        → trees_outcome (trees (map (T.tree_of texts.now) steps.now)) f ≡ done front
         → text.now ≡ front ++ rest → HasUnset fields.old
-        → IsSomeAnd result (λ left. left.now ≡ rest) × AreSet steps.now [] f fields.new }
+        → IsSomeAnd result (λ left. left.now ≡ rest)
+        × AreSet (map (T.shown_of texts.now) steps.now) [] f fields.new }
 {
     let mut left = text;
     let mut steps_left = steps;
     'steps: while let [step, others @ ..] = steps_left {
-        left = read_step(step, others, left, fields)?;
+        left = read_step(step, others, texts, left, fields)?;
         steps_left = others;
     }
     Some(left)
@@ -44,8 +49,9 @@ pub(crate) fn read_steps<'a>(
 /// The same, and how many bytes are left, or the first place where the text is none of the steps.
 #[cold]
 #[inline(never)]
-pub(crate) fn checked_steps(
-    steps: &[Step],
+pub(crate) fn checked_steps<T: ReadStep>(
+    steps: &[T],
+    texts: &[u8],
     text: &[u8],
     fields: &mut Fields,
 ) -> Result<usize, NotRead>
@@ -54,7 +60,7 @@ pub(crate) fn checked_steps(
     let mut left = text;
     let mut steps_left = steps;
     'steps: while let [step, others @ ..] = steps_left {
-        match checked_step(step, others, left, fields) {
+        match checked_step(step, others, texts, left, fields) {
             Ok(rest) => left = rest,
             Err(stop) => return Err(not_read(text, stop)),
         }
@@ -65,31 +71,41 @@ pub(crate) fn checked_steps(
 
 /// Reads what a step shows into the fields, and its literal, and returns what follows them.
 #[inline(always)]
-fn read_step<'a>(
-    step: &Step,
-    others: &[Step],
+fn read_step<'a, T: ReadStep>(
+    step: &T,
+    others: &[T],
+    texts: &[u8],
     text: &'a [u8],
     fields: &mut Fields,
 ) -> Option<&'a [u8]>
     ensures reads { (f : Facts) (front rest : List ℕ) → AreReal f → HasFourDigits f
-        → is_run step.now.shown ≡ true → tree_outcome (step_tree step.now) f ≡ done front
-        → text.now ≡ front ++ rest
-        → IsSomeAnd result (λ left. left.now ≡ rest) × Sets step.now.shown f fields.old fields.new }
+        → is_run (T.shown_of texts.now step.now) ≡ true
+        → tree_outcome (T.tree_of texts.now step.now) f ≡ done front → text.now ≡ front ++ rest
+        → IsSomeAnd result (λ left. left.now ≡ rest)
+        × Sets (T.shown_of texts.now step.now) f fields.old fields.new }
 {
-    let count = read_shown(step, others, text, fields)?;
-    after_literal(behind(text, count)?, &step.literal)
+    let parts = step.parts(texts);
+    let count = read_shown(&parts.shown, step, others, texts, text, fields)?;
+    after_literal(behind(text, count)?, parts.literal)
 }
 
 /// Reads what a step shows into the fields, and returns how many bytes that has.
 #[inline(always)]
-fn read_shown(step: &Step, others: &[Step], text: &[u8], fields: &mut Fields) -> Option<usize>
+fn read_shown<T: ReadStep>(
+    shown: &Shown,
+    step: &T,
+    others: &[T],
+    texts: &[u8],
+    text: &[u8],
+    fields: &mut Fields,
+) -> Option<usize>
     ensures reads { (f : Facts) (front rest : List ℕ) → AreReal f → HasFourDigits f
-        → is_run step.now.shown ≡ true → tree_outcome (shown_tree step.now.shown) f ≡ done front
+        → is_run shown.now ≡ true → tree_outcome (shown_tree shown.now) f ≡ done front
         → text.now ≡ front ++ rest
-        → (result ≡ Some (length front)) × Sets step.now.shown f fields.old fields.new }
+        → (result ≡ Some (length front)) × Sets shown.now f fields.old fields.new }
 {
-    match &step.shown {
-        Shown::Component(component) => read_component(component, step, others, text, fields),
+    match shown {
+        Shown::Component(component) => read_component(component, step, others, texts, text, fields),
         Shown::Run(Run::Empty) => Some(0),
         Shown::Run(Run::Time(_)) => read_time(text, fields),
         Shown::Run(Run::Date(_)) => read_date(text, fields),
@@ -98,22 +114,24 @@ fn read_shown(step: &Step, others: &[Step], text: &[u8], fields: &mut Fields) ->
 
 /// Reads a step as `read_step` does, or tells where the text is none of it.
 #[inline(never)]
-pub(crate) fn checked_step<'a>(
-    step: &Step,
-    others: &[Step],
+pub(crate) fn checked_step<'a, T: ReadStep>(
+    step: &T,
+    others: &[T],
+    texts: &[u8],
     text: &'a [u8],
     fields: &mut Fields,
 ) -> Result<&'a [u8], Stop> {
-    if let Some(stop) = stop_of_digits(&step.shown, text) {
+    let StepParts { shown, literal } = step.parts(texts);
+    if let Some(stop) = stop_of_digits(&shown, text) {
         return Err(stop);
     }
-    let read = read_shown(step, others, text, fields);
+    let read = read_shown(&shown, step, others, texts, text, fields);
     let Some(rest) = read.and_then(|count| behind(text, count)) else {
-        return Err(stop_of_shown(&step.shown, text));
+        return Err(stop_of_shown(&shown, text));
     };
-    match after_literal(rest, &step.literal) {
+    match after_literal(rest, literal) {
         Some(rest) => Ok(rest),
-        None => Err(stop_of_literal(&step.literal, rest)),
+        None => Err(stop_of_literal(literal, rest)),
     }
 }
 
@@ -139,15 +157,15 @@ fn stop_of_shown(shown: &Shown, text: &[u8]) -> Stop {
 }
 
 /// Where a text does not go on by a literal.
-fn stop_of_literal(literal: &Literal, text: &[u8]) -> Stop {
+fn stop_of_literal(literal: LiteralRef<'_>, text: &[u8]) -> Stop {
     let bytes = match literal {
-        Literal::Byte(byte) => {
+        LiteralRef::Byte(byte) => {
             return Stop {
                 left: text.len(),
-                reason: Reason::Literal(*byte),
+                reason: Reason::Literal(byte),
             };
         }
-        Literal::Bytes(bytes) => bytes.as_slice(),
+        LiteralRef::Bytes(bytes) => bytes,
     };
     let mut left = text;
     for byte in bytes {

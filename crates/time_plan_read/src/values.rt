@@ -47,10 +47,7 @@ fn fields_of(date: Date, time: Time) -> Fields
 
 /// With the components of a base value that complete a date and a time of day, unless texts show
 /// the moment.
-#[tactic(auto, using(
-    crate::proofs::KindLemmas::completes_itself,
-    crate::proofs::KindLemmas::completes_on
-))]
+#[tactic(auto, using(crate::proofs::KindLemmas::completes_itself, crate::proofs::KindLemmas::completes_on))]
 fn with_moment(shown: Kinds) -> Kinds
     ensures { Completes shown.0 result.0 }
 {
