@@ -1,4 +1,4 @@
 mod FlattenLemmas
-mod StepLemmas
+pub mod StepLemmas
 mod ThreeLemmas
 mod WriteLemmas

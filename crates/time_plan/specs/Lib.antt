@@ -1,3 +1,4 @@
 pub mod Literal
+pub mod Plan
 pub mod Shown
 pub mod Steps

@@ -34,6 +34,7 @@ impl Plan {
     ghost use Rattle.std.specs.Prelude.{IfOk, map};
     ghost use Rattle.time_below.specs.Tree.{all_of, trees};
     ghost use Rattle.time_fmt.specs.Laws.{Means};
+    ghost use Rattle.time_plan.specs.Plan.{steps_of};
 
     /// The plan of a tree: a borrowed or an owned item, or a version 3 description by its `inner`.
     ///
@@ -67,6 +68,7 @@ impl Plan {
 
     /// The steps, in order: a component or a run of them, and the literal after it.
     pub fn steps(&self) -> &[Step]
+        ensures steps { result.now ≡ steps_of self.now }
         ensures outcome { ⟦<Plan as Formattable>⟧.outcome_of self.now ≡ trees_outcome (step_trees result.now) }
         ensures width { ⟦<Plan as ComputeMetadata>⟧.width_of self.now ≡ trees_width (step_trees result.now) }
     {

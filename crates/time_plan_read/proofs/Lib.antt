@@ -1,4 +1,10 @@
+mod Bytes
 mod Fronts
+mod KindLemmas
 mod LenientLemmas
 pub mod StepLemmas
+mod StepLists
+mod Texts
 mod UsualLemmas
+mod ValueLemmas
+mod Writes

@@ -9,7 +9,7 @@ use Rattle.time_fmt.specs.Outcome.{Outcome, Refusal, done, join}
 use Rattle.time_plan.specs.Literal.{literal_bytes, literal_tree}
 use Rattle.time_plan.specs.Shown.{shown_tree}
 use Rattle.time_plan.specs.Steps.{step_tree}
-use Rattle.time_plan.specs.declared.shown.Run.TheVariants as run
+use Rattle.time_fmt.specs.declared.runs.Run.TheVariants as run
 use Rattle.time_plan.specs.declared.shown.Shown.{Shown}
 use Rattle.time_plan.specs.declared.shown.Shown.TheVariants as shown
 use Rattle.time_plan.specs.declared.step.Step.{Step}

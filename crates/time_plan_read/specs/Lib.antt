@@ -1,4 +1,7 @@
+pub mod DatesAndTimes
 pub mod Front
+pub mod Kinds
 pub mod Left
 pub mod Lenient
+pub mod Numbers
 pub mod Parts

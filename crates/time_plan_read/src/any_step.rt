@@ -1,10 +1,12 @@
 //! Steps of any kind: what is read of them.
 //!
 //! `inline(always)` makes the parts of a plan's step those of the plan, with no copy.
-ghost use Rattle.std.specs.Prelude.{◌≡◌, List, ℕ};
+ghost use Rattle.std.specs.Prelude.{◌≡◌, true, List, ℕ};
 ghost use Rattle.time_below.specs.Tree.{Tree};
 ghost use Rattle.time_plan.specs.Literal.{literal_bytes};
 ghost use Rattle.time_plan.specs.Steps.{step_tree};
+ghost use Rattle.time_plan.specs.declared.shown.Shown.{Shown};
+ghost use Rattle.time_plan_read.specs.DatesAndTimes.{is_run, untold};
 ghost use Rattle.time_plan_read.specs.Parts.{AreSame, parts_tree, ref_bytes};
 
 use time_plan::{Literal, Shown, Step};
@@ -33,13 +35,20 @@ pub trait ReadStep {
     /// The tree of a step whose literals lie in these bytes.
     ghost tree_of: { List ℕ → Self → Tree };
 
+    /// What it shows, where that is told of a date or a time of day: nothing is told of a component.
+    ghost shown_of: { List ℕ → Self → Shown } = { λ _ _. untold };
+
     /// What the step shows, and the literal after it, which may lie in these bytes.
     fn parts<'a>(&'a self, texts: &'a [u8]) -> StepParts<'a>
-        ensures { AreSame (tree_of texts.now self.now) (parts_tree result) };
+        ensures tree { AreSame (tree_of texts.now self.now) (parts_tree result) }
+        ensures shown { is_run (shown_of texts.now self.now) ≡ true
+            → result.shown ≡ shown_of texts.now self.now };
 }
 
 impl ReadStep for Step {
     ghost tree_of = { λ _ step. step_tree step };
+
+    ghost shown_of = { λ _ step. step.shown };
 
     #[inline(always)]
     #[tactic(auto, using(crate::proofs::StepLemmas::step_is_same))]

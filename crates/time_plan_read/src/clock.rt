@@ -1,11 +1,19 @@
 //! The time of day that the numbers of a text are of.
+ghost use Rattle.std.specs.Prelude.{◌≡◌, ◌<◌};
+ghost use Rattle.time_below.specs.TimeOfDay.{TimeOfDay, IsTimeOfDay};
+ghost use Rattle.time_plan_read.specs.Kinds.{Have, of_time};
+ghost use Rattle.time_plan_read.specs.Numbers.{HasUnset};
+
 use crate::fields::Fields;
 use crate::kinds::Kinds;
 use time_below::Time;
 
 /// The hour of numbers.
 #[inline(always)]
-fn hour_of(fields: &Fields, kinds: Kinds) -> u8 {
+#[tactic(auto, using(crate::proofs::KindLemmas::have_hour))]
+fn hour_of(fields: &Fields, kinds: Kinds) -> u8
+    ensures { Have kinds.0 of_time → result ≡ fields.now.hour_24 }
+{
     if kinds.have(Kinds::HOUR24) {
         return fields.hour_24;
     }
@@ -15,7 +23,12 @@ fn hour_of(fields: &Fields, kinds: Kinds) -> u8 {
 
 /// The time of day of numbers.
 #[inline(always)]
-pub(crate) fn time_of(fields: &Fields, kinds: Kinds) -> Option<Time> {
+pub(crate) fn time_of(fields: &Fields, kinds: Kinds) -> Option<Time>
+    ensures { (t : TimeOfDay) → IsTimeOfDay t → Have kinds.0 of_time → fields.now.hour_24 ≡ t.hour
+        → fields.now.minute ≡ t.minute → fields.now.second ≡ t.second
+        → fields.now.nanosecond < 1_000_000_000
+        → result ≡ Some (record t { nanosecond = fields.now.nanosecond }) }
+{
     let hour = hour_of(fields, kinds);
     match Time::from_hms_nano(hour, fields.minute, fields.second, fields.nanosecond) {
         Ok(time) => Some(time),
@@ -24,7 +37,9 @@ pub(crate) fn time_of(fields: &Fields, kinds: Kinds) -> Option<Time> {
 }
 
 /// Sets the numbers of a time of day.
-pub(crate) fn set_time(fields: &mut Fields, time: Time) {
+pub(crate) fn set_time(fields: &mut Fields, time: Time)
+    ensures { HasUnset fields.old → HasUnset fields.new }
+{
     let (hour, minute, second, nanosecond) = time.as_hms_nano();
     fields.hour_24 = hour;
     fields.hour_12 = if hour % 12 == 0 { 12 } else { hour % 12 };
@@ -35,7 +50,9 @@ pub(crate) fn set_time(fields: &mut Fields, time: Time) {
 }
 
 /// Sets to zero what is finer than the last part of the time of day that is shown, if one is.
-pub(crate) fn clear_finer_time(fields: &mut Fields, shown: Kinds) {
+pub(crate) fn clear_finer_time(fields: &mut Fields, shown: Kinds)
+    ensures { HasUnset fields.old → HasUnset fields.new }
+{
     if !shown.have_part_of_time() || shown.have(Kinds::DECIMALS) {
         return;
     }

@@ -1,11 +1,13 @@
 //! The text of a value by the steps of a plan, compared with another one.
-ghost use Rattle.std.specs.Prelude.{◌≡◌, ◌≤◌, ℕ, List, ◌++◌, IfSome, IfNone, length, map, take};
+ghost use Rattle.std.specs.Prelude.{◌≡◌, ◌≤◌, ℕ, true, List, ◌++◌, IfSome, IfNone, IsNone, IsSome};
+ghost use Rattle.std.specs.Prelude.{IsSomeAnd, length, map, take};
 ghost use Rattle.time_below.specs.Tree.{Tree, Trees, more, trees};
 ghost use Rattle.time_below.specs.Width.{tree_width, trees_width};
 ghost use Rattle.time_fmt.specs.Description.{tree_outcome, trees_outcome};
 ghost use Rattle.time_fmt.specs.Outcome.{done};
 ghost use Rattle.time_plan.specs.Shown.{shown_tree};
 ghost use Rattle.time_plan.specs.Steps.{step_trees};
+ghost use Rattle.time_plan_read.specs.DatesAndTimes.{are_runs, is_run, shown_by};
 
 use crate::any_step::{ReadStep, StepParts};
 use crate::names::{after_all, after_literal};
@@ -24,6 +26,9 @@ where
     V::State: Drop,
     ensures same { IfNone result (⟦<Plan as Formattable>⟧.outcome_of plan.now (V.facts value.now)
         ≡ done text.now) }
+    ensures other { are_runs (shown_by plan.now) ≡ true
+        → ⟦<Plan as Formattable>⟧.outcome_of plan.now (V.facts value.now) ≡ done text.now
+        → IsNone result }
 {
     if plan.fits_plainly(ROOM) {
         whole_difference(plan.steps(), text, value)
@@ -39,6 +44,7 @@ where
     V::State: Drop,
     requires room { trees_width (step_trees steps.now) ≤ ROOM }
     ensures same { IfNone result (trees_outcome (step_trees steps.now) (V.facts value.now) ≡ done text.now) }
+    ensures other { trees_outcome (step_trees steps.now) (V.facts value.now) ≡ done text.now → IsNone result }
 {
     let mut room = [0u8; ROOM];
     let Some(count) = written::<Brand, V>(steps, &mut room, value) else {
@@ -66,6 +72,8 @@ where
     ensures text { IfSome result (λ count. trees_outcome (step_trees steps.now) (V.facts value.now)
         ≡ done (take count room.new)) }
     ensures within { IfSome result (λ count. count ≤ length room.new) }
+    ensures whole { (text : List ℕ) → trees_outcome (step_trees steps.now) (V.facts value.now) ≡ done text
+        → IsSome result }
 {
     let mut state = V::State::default();
     let mut sink = RoomSink::<B>::new(room);
@@ -90,6 +98,9 @@ where
     V::State: Drop,
     ensures same { IfNone result (trees_outcome (trees (map (T.tree_of texts.now) steps.now)) (V.facts value.now)
         ≡ done text.now) }
+    ensures other { are_runs (map (T.shown_of texts.now) steps.now) ≡ true
+        → trees_outcome (trees (map (T.tree_of texts.now) steps.now)) (V.facts value.now) ≡ done text.now
+        → IsNone result }
 {
     let mut state = V::State::default();
     let mut left = text;
@@ -118,6 +129,9 @@ fn behind_step<'a, T: ReadStep, V: ComponentProvider>(
     ensures agrees { V.agrees state.new value.now }
     ensures behind { IfSome result (λ rest. (others : Trees) → trees_outcome others (V.facts value.now) ≡ done rest.now
         → trees_outcome (more (T.tree_of texts.now step.now) others) (V.facts value.now) ≡ done text.now) }
+    ensures reads { (front rest : List ℕ) → is_run (T.shown_of texts.now step.now) ≡ true
+        → tree_outcome (T.tree_of texts.now step.now) (V.facts value.now) ≡ done front
+        → text.now ≡ front ++ rest → IsSomeAnd result (λ left. left.now ≡ rest) }
 {
     let mut room = [0u8; SHOWN_ROOM];
     let StepParts { shown, literal } = step.parts(texts);
@@ -140,6 +154,8 @@ pub(crate) fn shown_in_room<B: Before, V: ComponentProvider>(
     ensures text { IfSome result (λ count. tree_outcome (shown_tree shown.now) (V.facts value.now)
         ≡ done (take count room.new)) }
     ensures within { IfSome result (λ count. count ≤ length room.new) }
+    ensures whole { (text : List ℕ) → is_run shown.now ≡ true → SHOWN_ROOM ≤ length room.old
+        → tree_outcome (shown_tree shown.now) (V.facts value.now) ≡ done text → IsSome result }
 {
     if room.len() < shown.width() {
         return None;

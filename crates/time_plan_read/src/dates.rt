@@ -1,4 +1,9 @@
 //! The date that the numbers of a text are of.
+ghost use Rattle.std.specs.Prelude.{◌≡◌};
+ghost use Rattle.time_below.specs.Calendar.{OrdinalDate, IsDate, day_of as day_in_month, month_of};
+ghost use Rattle.time_plan_read.specs.Kinds.{Have, of_date};
+ghost use Rattle.time_plan_read.specs.Numbers.{HasUnset};
+
 use crate::fields::Fields;
 use crate::kinds::Kinds;
 use time_below::{Date, Month, is_leap_year};
@@ -92,7 +97,11 @@ fn week_date(year: i32, week: u8, weekday: u8, days_before: i32) -> Option<Date>
 
 /// The date of a year, the number of a month and a day.
 #[inline(always)]
-fn calendar_date(year: i32, number: u8, day: u8) -> Option<Date> {
+#[tactic(auto, using(time_below::proofs::MonthLemmas::month_of_date, time_below::proofs::MonthLemmas::day_of_date))]
+fn calendar_date(year: i32, number: u8, day: u8) -> Option<Date>
+    ensures { (d : OrdinalDate) → IsDate d → year ≡ d.year → number ≡ month_of d
+        → day ≡ day_in_month d → result ≡ Some d }
+{
     if number < 1 || 12 < number {
         return None;
     }
@@ -104,7 +113,10 @@ fn calendar_date(year: i32, number: u8, day: u8) -> Option<Date> {
 
 /// The date of numbers.
 #[inline(always)]
-pub(crate) fn date_of(fields: &Fields, kinds: Kinds) -> Option<Date> {
+pub(crate) fn date_of(fields: &Fields, kinds: Kinds) -> Option<Date>
+    ensures { (d : OrdinalDate) → IsDate d → Have kinds.0 of_date → fields.now.year ≡ d.year
+        → fields.now.month ≡ month_of d → fields.now.day ≡ day_in_month d → result ≡ Some d }
+{
     if kinds.have(Kinds::YEAR.and(Kinds::MONTH).and(Kinds::DAY)) {
         return calendar_date(fields.year, fields.month, fields.day);
     }
@@ -132,7 +144,9 @@ fn seldom_date(fields: &Fields, kinds: Kinds) -> Option<Date> {
 }
 
 /// Sets the numbers of a date.
-pub(crate) fn set_date(fields: &mut Fields, date: Date) {
+pub(crate) fn set_date(fields: &mut Fields, date: Date)
+    ensures { HasUnset fields.old → HasUnset fields.new }
+{
     let (year, month, day) = date.to_calendar_date();
     let (iso_year, iso_week) = date.iso_year_week();
     let (century, last_two) = parts_of_year(year);

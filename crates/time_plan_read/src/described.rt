@@ -1,23 +1,33 @@
 //! Descriptions by their steps.
-ghost use Rattle.std.specs.Prelude.{◌≡◌, IfNone, map};
+ghost use Rattle.std.specs.Prelude.{◌≡◌, ◌∷◌, ◌++◌, ℕ, true, IfNone, IsNone, IsSomeAnd, List, [], map};
 ghost use Rattle.time_below.specs.Facts.{Facts};
 ghost use Rattle.time_below.specs.Tree.{trees};
 ghost use Rattle.time_fmt.specs.Description.{trees_outcome};
 ghost use Rattle.time_fmt.specs.Outcome.{Outcome, done};
 ghost use Rattle.time_plan.specs.Steps.{step_trees};
+ghost use Rattle.time_plan.specs.declared.shown.Shown.{Shown};
+ghost use Rattle.time_plan_read.specs.DatesAndTimes.{HasFourDigits, are_runs, shown_by, untold};
+ghost use Rattle.time_plan_read.specs.Numbers.{AreSet, HasUnset, HaveOneSecond, HaveTheGroups};
+ghost use Rattle.time_provide.specs.Real.{AreReal};
 
 use crate::any_step::ReadStep;
 use crate::compare::{difference, stepwise_difference};
+use crate::fields::Fields;
 use crate::reader::StepsReader;
+use crate::steps::read_steps;
 use time_fmt::{ComponentProvider, Formattable};
 use time_plan::{Plan, Step};
 
-/// A description by its steps, and the comparison of a text with that of a value.
+/// A description by its steps, the numbers of a text, and the comparison of a text with that of a
+/// value.
 pub(crate) trait Described {
     type Step: ReadStep;
 
     /// What is written of a value.
     ghost outcome_of: { Self → Facts → Outcome };
+
+    /// What the steps show, where that is told.
+    ghost shown: { Self → List Shown };
 
     /// The steps.
     fn steps(&self) -> &[Self::Step];
@@ -25,17 +35,30 @@ pub(crate) trait Described {
     /// What the literals of the steps may lie in.
     fn texts(&self) -> &[u8];
 
+    /// Reads the steps in order into the fields, and returns what follows them.
+    fn read_steps<'a>(&self, text: &'a [u8], fields: &mut Fields) -> Option<&'a [u8]>
+        ensures reads { (f : Facts) (front rest : List ℕ) → AreReal f → HasFourDigits f
+            → are_runs (shown self.now) ≡ true → outcome_of self.now f ≡ done front
+            → text.now ≡ front ++ rest → HasUnset fields.old
+            → IsSomeAnd result (λ left. left.now ≡ rest)
+            × AreSet (shown self.now) [] f fields.new };
+
     /// Where the text of a value and this text differ, if they do.
     fn difference<V: ComponentProvider>(&self, text: &[u8], value: &V) -> Option<usize>
     where
         V::State: Drop,
-        ensures same { IfNone result (outcome_of self.now (V.facts value.now) ≡ done text.now) };
+        ensures same { IfNone result (outcome_of self.now (V.facts value.now) ≡ done text.now) }
+        ensures other { (f : Facts) → are_runs (shown self.now) ≡ true
+            → HaveTheGroups (V.facts value.now) f → HaveOneSecond (V.facts value.now) f
+            → outcome_of self.now f ≡ done text.now → IsNone result };
 }
 
 impl Described for Plan {
     type Step = Step;
 
     ghost outcome_of = { λ plan. ⟦<Plan as Formattable>⟧.outcome_of plan };
+
+    ghost shown = { shown_by };
 
     #[inline(always)]
     fn steps(&self) -> &[Step] {
@@ -45,6 +68,11 @@ impl Described for Plan {
     #[inline(always)]
     fn texts(&self) -> &[u8] {
         &[]
+    }
+
+    #[inline(always)]
+    fn read_steps<'a>(&self, text: &'a [u8], fields: &mut Fields) -> Option<&'a [u8]> {
+        read_steps(self.steps(), &[], text, fields)
     }
 
     #[inline(always)]
@@ -61,12 +89,18 @@ impl<T: ReadStep, R> Described for StepsReader<'_, T, R> {
 
     ghost outcome_of = { λ it. trees_outcome (trees (map (T.tree_of it.texts.now) it.steps.now)) };
 
+    ghost shown = { λ _. untold ∷ [] };
+
     fn steps(&self) -> &[T] {
         self.steps
     }
 
     fn texts(&self) -> &[u8] {
         self.texts
+    }
+
+    fn read_steps<'a>(&self, text: &'a [u8], fields: &mut Fields) -> Option<&'a [u8]> {
+        read_steps(self.steps, self.texts, text, fields)
     }
 
     fn difference<V: ComponentProvider>(&self, text: &[u8], value: &V) -> Option<usize>

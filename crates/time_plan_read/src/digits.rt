@@ -1,16 +1,24 @@
 //! Numbers at the front of a text.
+ghost use Rattle.std.specs.Prelude.{◌≡◌, ◌≤◌, ◌<◌, ◌+◌, ◌/◌, ◌%◌, ℕ, pos};
+
 use time_below::format_description::modifier::Padding;
 
 /// The number of two digits, and some number of other bytes.
 #[inline(always)]
-pub(crate) fn two(tens: u8, units: u8) -> u8 {
+pub(crate) fn two(tens: u8, units: u8) -> u8
+    ensures reads { (n : ℕ) → n < 100 → tens ≡ 48 + n / 10 → units ≡ 48 + n % 10 → result ≡ n }
+    ensures range { result < 256 }
+{
     let tens = tens.wrapping_sub(b'0');
     tens.wrapping_mul(10).wrapping_add(units.wrapping_sub(b'0'))
 }
 
 /// The number of four digits, and some number of other bytes.
 #[inline(always)]
-pub(crate) fn four(a: u8, b: u8, c: u8, d: u8) -> i32 {
+pub(crate) fn four(a: u8, b: u8, c: u8, d: u8) -> i32
+    ensures reads { (n : ℕ) → n ≤ 9_999 → a ≡ 48 + n / 1000 → b ≡ 48 + n / 100 % 10
+        → c ≡ 48 + n / 10 % 10 → d ≡ 48 + n % 10 → result ≡ pos n }
+{
     100 * two(a, b) as i32 + two(c, d) as i32
 }
 

@@ -1,4 +1,9 @@
 //! What the steps of a plan show, and whether their texts determine a value.
+ghost use Rattle.std.specs.Prelude.{◌≡◌, ◌↔◌, IsTrue, true, false, [], map, bit_and, bit_or};
+ghost use Rattle.time_plan_read.specs.DatesAndTimes.{is_date, is_run, is_time};
+ghost use Rattle.time_plan_read.specs.Kinds.{of_date, of_time, of_moment};
+ghost use Rattle.time_plan_read.specs.Numbers.{AreKinds, Completes};
+
 use crate::any_step::ReadStep;
 use time_below::format_description::Component;
 use time_plan::{Run, Shown};
@@ -69,7 +74,9 @@ impl Kinds {
 
     /// Whether all of the others are there.
     #[inline(always)]
-    pub(crate) fn have(self, others: Kinds) -> bool {
+    pub(crate) fn have(self, others: Kinds) -> bool
+        ensures { IsTrue result ↔ (bit_and self.0 others.0 ≡ others.0) }
+    {
         self.0 & others.0 == others.0
     }
 
@@ -80,7 +87,9 @@ impl Kinds {
 
     /// Both together.
     #[inline(always)]
-    pub(crate) fn and(self, others: Kinds) -> Kinds {
+    pub(crate) fn and(self, others: Kinds) -> Kinds
+        ensures { result.0 ≡ bit_or self.0 others.0 }
+    {
         Kinds(self.0 | others.0)
     }
 
@@ -127,12 +136,18 @@ impl Kinds {
 
     /// Whether the moment is determined by itself.
     #[inline(always)]
-    pub(crate) fn have_moment(self) -> bool {
+    #[tactic(auto, using(crate::proofs::KindLemmas::no_seconds, crate::proofs::KindLemmas::no_milliseconds))]
+    pub(crate) fn have_moment(self) -> bool
+        ensures { bit_and self.0 of_moment ≡ 0 → result ≡ false }
+    {
         self.have(Kinds::UNIX_SECOND) || self.have(Kinds::UNIX_MILLISECOND)
     }
 
     /// With the components of a base value that complete the date.
-    pub(crate) fn with_date(self) -> Kinds {
+    #[tactic(auto, using(crate::proofs::KindLemmas::completes_itself, crate::proofs::KindLemmas::completes_more, crate::proofs::KindLemmas::completes_on))]
+    pub(crate) fn with_date(self) -> Kinds
+        ensures { Completes self.0 result.0 }
+    {
         if self.have_date() {
             return self;
         }
@@ -158,7 +173,10 @@ impl Kinds {
     }
 
     /// With a year: the other part of one of which a part is shown.
-    fn with_year(self) -> Kinds {
+    #[tactic(auto, using(crate::proofs::KindLemmas::completes_more))]
+    fn with_year(self) -> Kinds
+        ensures { Completes self.0 result.0 }
+    {
         if self.have(Kinds::LAST_TWO) {
             self.and(Kinds::CENTURY)
         } else if self.have(Kinds::CENTURY) {
@@ -169,7 +187,10 @@ impl Kinds {
     }
 
     /// With a year of the week calendar.
-    fn with_iso_year(self) -> Kinds {
+    #[tactic(auto, using(crate::proofs::KindLemmas::completes_more))]
+    fn with_iso_year(self) -> Kinds
+        ensures { Completes self.0 result.0 }
+    {
         if self.have(Kinds::ISO_LAST_TWO) {
             self.and(Kinds::ISO_CENTURY)
         } else if self.have(Kinds::ISO_CENTURY) {
@@ -180,7 +201,9 @@ impl Kinds {
     }
 
     /// With the components of a base value that complete the time of day.
-    pub(crate) fn with_time(self) -> Kinds {
+    pub(crate) fn with_time(self) -> Kinds
+        ensures { Completes self.0 result.0 }
+    {
         let whole = Kinds::MINUTE.and(Kinds::SECOND);
         if self.have(Kinds::HOUR24) || !self.have_any(Kinds::HOUR12.and(Kinds::PERIOD)) {
             self.and(Kinds::HOUR24).and(whole)
@@ -190,7 +213,9 @@ impl Kinds {
     }
 
     /// With the components of a base value that complete the offset.
-    pub(crate) fn with_offset(self) -> Kinds {
+    pub(crate) fn with_offset(self) -> Kinds
+        ensures { Completes self.0 result.0 }
+    {
         self.and(Kinds::OFFSET_HOUR).and(Kinds::OFFSET_MINUTE)
     }
 
@@ -242,7 +267,11 @@ pub(crate) fn kind_of(component: Component) -> Kinds {
 }
 
 /// The kinds of components that a step shows.
-pub(crate) fn kinds_of(shown: &Shown) -> Kinds {
+pub(crate) fn kinds_of(shown: &Shown) -> Kinds
+    ensures date { is_date shown.now ≡ true → result.0 ≡ of_date }
+    ensures time { is_time shown.now ≡ true → result.0 ≡ of_time }
+    ensures no_moment { is_run shown.now ≡ true → bit_and result.0 of_moment ≡ 0 }
+{
     match shown {
         Shown::Component(component) => kind_of(component.current()),
         Shown::Run(Run::Empty) => Kinds::NONE,
@@ -252,7 +281,9 @@ pub(crate) fn kinds_of(shown: &Shown) -> Kinds {
 }
 
 /// The kinds of components that the steps show.
-pub(crate) fn shown_by<T: ReadStep>(steps: &[T], texts: &[u8]) -> Kinds {
+pub(crate) fn shown_by<T: ReadStep>(steps: &[T], texts: &[u8]) -> Kinds
+    ensures { AreKinds (map (T.shown_of texts.now) steps.now) [] result.0 }
+{
     let mut kinds = Kinds::NONE;
     for step in steps {
         kinds = kinds.and(kinds_of(&step.parts(texts).shown));

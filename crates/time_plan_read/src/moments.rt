@@ -1,4 +1,8 @@
 //! The offset and the moment that the numbers of a text are of.
+ghost use Rattle.std.specs.Prelude.{◌≡◌, ◌≤◌, IsSome};
+ghost use Rattle.time_below.specs.Moment.{IsMoment};
+ghost use Rattle.time_plan_read.specs.Numbers.{HasUnset};
+
 use crate::fields::Fields;
 use crate::kinds::Kinds;
 use std::convert::TryFrom;
@@ -6,7 +10,10 @@ use time_below::{Timestamp, UtcOffset};
 
 /// The offset of numbers.
 #[inline(always)]
-pub(crate) fn offset_of(fields: &Fields) -> Option<UtcOffset> {
+pub(crate) fn offset_of(fields: &Fields) -> Option<UtcOffset>
+    ensures { fields.now.offset_hour ≤ 25 → fields.now.offset_minute ≤ 59
+        → fields.now.offset_second ≤ 59 → IsSome result }
+{
     if 25 < fields.offset_hour || 59 < fields.offset_minute || 59 < fields.offset_second {
         return None;
     }
@@ -49,7 +56,10 @@ pub(crate) fn moment_of(fields: &Fields, kinds: Kinds) -> Option<Timestamp> {
 }
 
 /// The moment of seconds and a nanosecond.
-pub(crate) fn timestamp(seconds: i64, nanosecond: u32) -> Option<Timestamp> {
+pub(crate) fn timestamp(seconds: i64, nanosecond: u32) -> Option<Timestamp>
+    ensures { IsMoment (record { seconds = seconds; nanosecond = nanosecond })
+        → result ≡ Some (record { seconds = seconds; nanosecond = nanosecond }) }
+{
     match Timestamp::new(seconds, nanosecond) {
         Ok(moment) => Some(moment),
         Err(_) => None,
@@ -66,7 +76,9 @@ fn nanoseconds_of(milliseconds: i64) -> u32 {
 }
 
 /// Sets the numbers of an offset.
-pub(crate) fn set_offset(fields: &mut Fields, offset: UtcOffset) {
+pub(crate) fn set_offset(fields: &mut Fields, offset: UtcOffset)
+    ensures { HasUnset fields.old → HasUnset fields.new }
+{
     let (hours, minutes, seconds) = offset.as_hms();
     fields.offset_is_negative = offset.is_negative();
     fields.offset_hour = hours.unsigned_abs();
@@ -75,7 +87,9 @@ pub(crate) fn set_offset(fields: &mut Fields, offset: UtcOffset) {
 }
 
 /// Sets to zero what is finer than the last part of the offset that is shown, if one is.
-pub(crate) fn clear_finer_offset(fields: &mut Fields, shown: Kinds) {
+pub(crate) fn clear_finer_offset(fields: &mut Fields, shown: Kinds)
+    ensures { HasUnset fields.old → HasUnset fields.new }
+{
     if shown.have(Kinds::OFFSET_SECOND) {
         return;
     }

@@ -1,14 +1,16 @@
 //! Names and literals at the front of a text.
-ghost use Rattle.std.specs.Prelude.{◌≡◌, ◌∷◌, ◌++◌, IfSome};
+ghost use Rattle.std.specs.Prelude.{◌≡◌, ◌≤◌, ◌∷◌, ◌++◌, ℕ, List, IfSome, IsSomeAnd, length, drop};
 ghost use Rattle.time_plan_read.specs.Parts.{ref_bytes};
 
 use crate::any_step::LiteralRef;
 
 /// What follows a byte.
 #[inline(always)]
-#[tactic(auto, using(crate::proofs::Fronts::first_and_rest))]
+#[tactic(auto, using(crate::proofs::Fronts::first_and_rest, crate::proofs::Fronts::begins_by))]
 pub(crate) fn after(text: &[u8], byte: u8) -> Option<&[u8]>
-    ensures { IfSome result (λ rest. text.now ≡ byte ∷ rest.now) }
+    ensures behind { IfSome result (λ rest. text.now ≡ byte ∷ rest.now) }
+    ensures reads { (rest : List ℕ) → text.now ≡ byte ∷ rest
+        → IsSomeAnd result (λ left. left.now ≡ rest) }
 {
     if let [first, rest @ ..] = text {
         if *first == byte {
@@ -20,7 +22,9 @@ pub(crate) fn after(text: &[u8], byte: u8) -> Option<&[u8]>
 
 /// What follows so many bytes.
 #[inline(always)]
-pub(crate) fn behind(text: &[u8], count: usize) -> Option<&[u8]> {
+pub(crate) fn behind(text: &[u8], count: usize) -> Option<&[u8]>
+    ensures { count ≤ length text.now → IsSomeAnd result (λ rest. rest.now ≡ drop count text.now) }
+{
     if text.len() < count {
         return None;
     }
@@ -29,8 +33,11 @@ pub(crate) fn behind(text: &[u8], count: usize) -> Option<&[u8]> {
 
 /// What follows these bytes.
 #[inline]
+#[tactic(auto, using(crate::proofs::Fronts::begins_by_all))]
 pub(crate) fn after_all<'a>(text: &'a [u8], bytes: &[u8]) -> Option<&'a [u8]>
-    ensures { IfSome result (λ rest. text.now ≡ bytes.now ++ rest.now) }
+    ensures behind { IfSome result (λ rest. text.now ≡ bytes.now ++ rest.now) }
+    ensures reads { (rest : List ℕ) → text.now ≡ bytes.now ++ rest
+        → IsSomeAnd result (λ left. left.now ≡ rest) }
 {
     if text.len() < bytes.len() {
         return None;
@@ -42,7 +49,9 @@ pub(crate) fn after_all<'a>(text: &'a [u8], bytes: &[u8]) -> Option<&'a [u8]>
 /// What follows a literal.
 #[inline(always)]
 pub(crate) fn after_literal<'a>(text: &'a [u8], literal: LiteralRef<'_>) -> Option<&'a [u8]>
-    ensures { IfSome result (λ rest. text.now ≡ ref_bytes literal.entry ++ rest.now) }
+    ensures behind { IfSome result (λ rest. text.now ≡ ref_bytes literal.entry ++ rest.now) }
+    ensures reads { (rest : List ℕ) → text.now ≡ ref_bytes literal.entry ++ rest
+        → IsSomeAnd result (λ left. left.now ≡ rest) }
 {
     match literal {
         LiteralRef::Byte(byte) => after(text, byte),

@@ -1,10 +1,13 @@
 //! Readers of the texts of a plan, and of steps of any kind.
-ghost use Rattle.std.specs.Prelude.{◌≡◌, ◌≤◌, ◌++◌, IfErr, IfOk, length, map};
+ghost use Rattle.std.specs.Prelude.{◌≡◌, ◌≤◌, ◌++◌, [], IfErr, IfOk, IsOk, length, map};
 ghost use Rattle.time_below.specs.Tree.{trees};
 ghost use Rattle.time_fmt.specs.Description.{trees_outcome};
 ghost use Rattle.time_fmt.specs.Outcome.{done};
 ghost use Rattle.time_plan.specs.Steps.{step_trees};
+ghost use Rattle.time_plan_read.specs.DatesAndTimes.{AreDatesAndTimes, HasFourDigits, shown_by as shown_of};
 ghost use Rattle.time_plan_read.specs.Front.{BeginsWith};
+ghost use Rattle.time_plan_read.specs.Numbers.{AreKinds, HasUnset};
+ghost use Rattle.time_provide.specs.Real.{AreReal};
 
 use crate::any_step::ReadStep;
 use crate::behind::is_ambiguous;
@@ -32,6 +35,7 @@ pub struct Reader<'a, V> {
     /// The plan.
     pub plan: &'a Plan,
     reading: Reading<V>,
+    ghost kinds_are_shown: { AreKinds (shown_of plan.now) [] reading.kinds.0 },
 }
 
 /// Reads the texts of steps of any kind as values of a type, as a `Reader` those of a plan.
@@ -88,6 +92,8 @@ fn reader_of<V: Readable>(
     kinds: Kinds,
     base: Fields,
 ) -> Result<Reader<'_, V>, NoReader>
+    requires kinds { AreKinds (shown_of plan.now) [] kinds.0 }
+    requires base { HasUnset base }
     ensures plan { IfOk result (λ reader. reader.plan.now ≡ plan.now) }
 {
     match refusal_of::<Step, V>(plan.steps(), &[]) {
@@ -165,6 +171,10 @@ impl<V: Readable> Reader<'_, V> {
         V: Drop,
         ensures written { IfOk result (λ value.
             ⟦<Plan as Formattable>⟧.outcome_of self.now.plan.now (V.facts value) ≡ done text.now) }
+        ensures complete { AreDatesAndTimes V.SUPPLIES_DATE V.SUPPLIES_TIME (shown_of self.now.plan.now)
+            → (value : V) → AreReal (V.facts value) → HasFourDigits (V.facts value)
+            → ⟦<Plan as Formattable>⟧.outcome_of self.now.plan.now (V.facts value) ≡ done text.now
+            → IsOk result }
         ensures inside { IfErr result (λ fault. fault.at ≤ length text.now) }
     {
         self.reading.read(self.plan, text)

@@ -1,14 +1,17 @@
 //! Reading the texts of a description.
-ghost use Rattle.std.specs.Prelude.{◌≡◌, ◌≤◌, ◌++◌, IfErr, IfOk, IfSome, length};
+ghost use Rattle.std.specs.Prelude.{◌≡◌, ◌≤◌, ◌++◌, true, [], IfErr, IfOk, IfSome, IsOk, IsSome, IsSomeAnd, IsTrue, length};
 ghost use Rattle.time_fmt.specs.Outcome.{done};
+ghost use Rattle.time_plan_read.specs.DatesAndTimes.{AreDatesAndTimes, HasFourDigits, are_runs};
 ghost use Rattle.time_plan_read.specs.Front.{BeginsWith};
+ghost use Rattle.time_plan_read.specs.Numbers.{AreKinds, AreNumbersOf, HasUnset};
+ghost use Rattle.time_provide.specs.Real.{AreReal};
 
 use crate::blame::no_value;
 use crate::described::Described;
 use crate::fault::{NotRead, Reason, Stop, not_read};
 use crate::fields::Fields;
 use crate::kinds::Kinds;
-use crate::steps::{checked_steps, read_steps};
+use crate::steps::checked_steps;
 use crate::values::Readable;
 use std::marker::PhantomData;
 use time_fmt::ComponentProvider;
@@ -19,11 +22,26 @@ pub(crate) struct Reading<V> {
     pub(crate) kinds: Kinds,
     pub(crate) base: Fields,
     value: PhantomData<V>,
+    ghost in_range: { HasUnset base },
+}
+
+/// Whether the steps were read, and nothing follows them.
+#[inline(always)]
+fn is_end(left: Option<&[u8]>) -> bool
+    ensures { IsSomeAnd left.entry (λ rest. rest.now ≡ []) → IsTrue result }
+{
+    match left {
+        Some(rest) => rest.is_empty(),
+        None => false,
+    }
 }
 
 impl<V: Readable> Reading<V> {
     /// The reading of these components, which are completed by these numbers.
-    pub(crate) fn new(kinds: Kinds, base: Fields) -> Reading<V> {
+    pub(crate) fn new(kinds: Kinds, base: Fields) -> Reading<V>
+        requires { HasUnset base }
+        ensures { result.kinds ≡ kinds }
+    {
         Reading {
             kinds,
             base,
@@ -44,15 +62,19 @@ impl<V: Readable> Reading<V> {
         V: Drop,
         ensures written { IfOk result (λ value.
             D.outcome_of described.now (V.facts value) ≡ done text.now) }
+        ensures complete { (value : V) → AreKinds (D.shown described.now) [] self.now.kinds.0
+            → AreDatesAndTimes V.SUPPLIES_DATE V.SUPPLIES_TIME (D.shown described.now)
+            → AreReal (V.facts value) → HasFourDigits (V.facts value)
+            → D.outcome_of described.now (V.facts value) ≡ done text.now → IsOk result }
         ensures inside { IfErr result (λ fault. fault.at ≤ length text.now) }
     {
         let mut fields = self.base;
-        match read_steps(described.steps(), described.texts(), text, &mut fields) {
-            Some([]) => match self.value_of(described, text, &fields) {
-                Some(value) => Ok(value),
-                None => Err(self.fault_of(described, text, true)),
-            },
-            _ => Err(self.fault_of(described, text, true)),
+        if !is_end(described.read_steps(text, &mut fields)) {
+            return Err(self.fault_of(described, text, true));
+        }
+        match self.value_of(described, text, &fields) {
+            Some(value) => Ok(value),
+            None => Err(self.fault_of(described, text, true)),
         }
     }
 
@@ -73,7 +95,7 @@ impl<V: Readable> Reading<V> {
         ensures inside { IfErr result (λ fault. fault.at ≤ length text.now) }
     {
         let mut fields = self.base;
-        let Some(left) = read_steps(described.steps(), described.texts(), text, &mut fields) else {
+        let Some(left) = described.read_steps(text, &mut fields) else {
             return Err(self.fault_of(described, text, false));
         };
         let (front, rest) = text.split_at(text.len().saturating_sub(left.len()));
@@ -91,6 +113,10 @@ impl<V: Readable> Reading<V> {
         V: Drop,
         ensures written { IfSome result (λ value.
             D.outcome_of described.now (V.facts value) ≡ done text.now) }
+        ensures complete { (other : V) → are_runs (D.shown described.now) ≡ true
+            → D.outcome_of described.now (V.facts other) ≡ done text.now
+            → AreNumbersOf V.SUPPLIES_DATE V.SUPPLIES_TIME self.now.kinds.0 fields.now (V.facts other)
+            → IsSome result }
     {
         let value = V::of_fields(fields, self.kinds)?;
         match described.difference(text, &value) {

@@ -1,9 +1,12 @@
 //! Dates and times of day that are one step.
-ghost use Rattle.std.specs.Prelude.{◌≡◌, IfNone, IfSome};
-ghost use Rattle.time_plan.specs.Shown.{run_tree, three_parts};
-ghost use Rattle.time_plan.specs.declared.shown.Part.TheVariants as part;
-ghost use Rattle.time_plan.specs.declared.shown.Run.TheVariants.{Empty};
+ghost use Rattle.std.specs.Prelude.{◌≡◌, ◌≤◌, ◌<◌, ◌++◌, ℕ, IfNone, IfSome, List, pos};
+ghost use Rattle.time_fmt.specs.Runs.{day_part, hour_part, minute_part, month_part, run_tree};
+ghost use Rattle.time_fmt.specs.Runs.{second_part, three_parts, year_part};
+ghost use Rattle.time_fmt.specs.declared.runs.Run.TheVariants.{Empty};
 ghost use Rattle.time_plan_read.specs.Left.{three_tree};
+ghost use Rattle.time_below.specs.Facts.{DateFacts};
+ghost use Rattle.time_below.specs.TimeOfDay.{TimeOfDay, IsTimeOfDay};
+ghost use Rattle.time_fmt.specs.Runs.{date_run, time_run};
 
 use crate::digits::{digits, four, two};
 use crate::fault::{Reason, Stop};
@@ -26,7 +29,13 @@ const DATE: usize = 10;
 /// Whether these are digits, and those between them the right ones, is seen when the text of the
 /// value is compared.
 #[inline(always)]
-pub(crate) fn read_time(text: &[u8], fields: &mut Fields) -> Option<usize> {
+#[tactic(auto, using(crate::proofs::Bytes::is_time_text))]
+pub(crate) fn read_time(text: &[u8], fields: &mut Fields) -> Option<usize>
+    ensures reads { (x y : ℕ) (t : TimeOfDay) (rest : List ℕ) → IsTimeOfDay t
+        → text.now ≡ time_run x y t ++ rest
+        → (result ≡ Some 8) × (fields.new
+        ≡ record fields.old { hour_24 = t.hour; minute = t.minute; second = t.second }) }
+{
     let [a, b, _, c, d, _, e, f, ..] = text else {
         return None;
     };
@@ -39,7 +48,13 @@ pub(crate) fn read_time(text: &[u8], fields: &mut Fields) -> Option<usize> {
 /// Reads a year, a month and a day, and returns how many bytes they have. They are compared later,
 /// as a time of day.
 #[inline(always)]
-pub(crate) fn read_date(text: &[u8], fields: &mut Fields) -> Option<usize> {
+#[tactic(auto, using(crate::proofs::Bytes::is_date_text))]
+pub(crate) fn read_date(text: &[u8], fields: &mut Fields) -> Option<usize>
+    ensures reads { (x y year : ℕ) (d : DateFacts) (rest : List ℕ) → d.year ≡ pos year
+        → year ≤ 9_999 → d.month < 100 → d.day < 100 → text.now ≡ date_run x y d ++ rest
+        → (result ≡ Some 10) × (fields.new
+        ≡ record fields.old { year = d.year; month = d.month; day = d.day }) }
+{
     let [a, b, c, d, _, e, f, _, g, h, ..] = text else {
         return None;
     };
@@ -94,7 +109,7 @@ pub(crate) fn parts_of(run: Run, text: &[u8]) -> Option<Parts<'_>>
 
 /// The parts of a date.
 fn parts_of_date(between: Separators, text: &[u8]) -> Parts<'_>
-    ensures { three_tree result ≡ three_parts part.Year between.first part.Month between.second part.Day }
+    ensures { three_tree result ≡ three_parts year_part between.first month_part between.second day_part }
 {
     let padding = Padding::Zero;
     Parts {
@@ -111,7 +126,7 @@ fn parts_of_date(between: Separators, text: &[u8]) -> Parts<'_>
 
 /// The parts of a time of day.
 fn parts_of_time(between: Separators, text: &[u8]) -> Parts<'_>
-    ensures { three_tree result ≡ three_parts part.Hour between.first part.Minute between.second part.Second }
+    ensures { three_tree result ≡ three_parts hour_part between.first minute_part between.second second_part }
 {
     let padding = Padding::Zero;
     Parts {

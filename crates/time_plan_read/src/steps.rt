@@ -1,5 +1,14 @@
 //! The steps of a text, one by one.
-ghost use Rattle.std.specs.Prelude.{◌≤◌, IfErr, length};
+ghost use Rattle.std.specs.Prelude.{◌≡◌, ◌≤◌, ◌++◌, ℕ, true, List, [], map, IfErr, IsSomeAnd};
+ghost use Rattle.std.specs.Prelude.{length};
+ghost use Rattle.time_below.specs.Facts.{Facts};
+ghost use Rattle.time_below.specs.Tree.{trees};
+ghost use Rattle.time_fmt.specs.Description.{tree_outcome, trees_outcome};
+ghost use Rattle.time_fmt.specs.Outcome.{done};
+ghost use Rattle.time_plan.specs.Shown.{shown_tree};
+ghost use Rattle.time_plan_read.specs.DatesAndTimes.{HasFourDigits, are_runs, is_run};
+ghost use Rattle.time_plan_read.specs.Numbers.{AreSet, HasUnset, Sets};
+ghost use Rattle.time_provide.specs.Real.{AreReal};
 
 use crate::any_step::{LiteralRef, ReadStep, StepParts};
 use crate::behind::has_digits;
@@ -20,7 +29,14 @@ pub(crate) fn read_steps<'a, T: ReadStep>(
     texts: &[u8],
     text: &'a [u8],
     fields: &mut Fields,
-) -> Option<&'a [u8]> {
+) -> Option<&'a [u8]>
+    ensures reads { (f : Facts) (front rest : List ℕ) → AreReal f → HasFourDigits f
+        → are_runs (map (T.shown_of texts.now) steps.now) ≡ true
+        → trees_outcome (trees (map (T.tree_of texts.now) steps.now)) f ≡ done front
+        → text.now ≡ front ++ rest → HasUnset fields.old
+        → IsSomeAnd result (λ left. left.now ≡ rest)
+        × AreSet (map (T.shown_of texts.now) steps.now) [] f fields.new }
+{
     let mut left = text;
     let mut steps_left = steps;
     'steps: while let [step, others @ ..] = steps_left {
@@ -61,7 +77,13 @@ fn read_step<'a, T: ReadStep>(
     texts: &[u8],
     text: &'a [u8],
     fields: &mut Fields,
-) -> Option<&'a [u8]> {
+) -> Option<&'a [u8]>
+    ensures reads { (f : Facts) (front rest : List ℕ) → AreReal f → HasFourDigits f
+        → is_run (T.shown_of texts.now step.now) ≡ true
+        → tree_outcome (T.tree_of texts.now step.now) f ≡ done front → text.now ≡ front ++ rest
+        → IsSomeAnd result (λ left. left.now ≡ rest)
+        × Sets (T.shown_of texts.now step.now) f fields.old fields.new }
+{
     let parts = step.parts(texts);
     let count = read_shown(&parts.shown, step, others, texts, text, fields)?;
     after_literal(behind(text, count)?, parts.literal)
@@ -76,7 +98,12 @@ fn read_shown<T: ReadStep>(
     texts: &[u8],
     text: &[u8],
     fields: &mut Fields,
-) -> Option<usize> {
+) -> Option<usize>
+    ensures reads { (f : Facts) (front rest : List ℕ) → AreReal f → HasFourDigits f
+        → is_run shown.now ≡ true → tree_outcome (shown_tree shown.now) f ≡ done front
+        → text.now ≡ front ++ rest
+        → (result ≡ Some (length front)) × Sets shown.now f fields.old fields.new }
+{
     match shown {
         Shown::Component(component) => read_component(component, step, others, texts, text, fields),
         Shown::Run(Run::Empty) => Some(0),

@@ -1,4 +1,7 @@
 //! The values that are read.
+ghost use Rattle.std.specs.Prelude.{IsSomeAnd};
+ghost use Rattle.time_plan_read.specs.Numbers.{AreNumbersOf, Completes, HasUnset, HaveOneSecond};
+
 use crate::clock::{set_time, time_of};
 use crate::dates::{date_of, set_date};
 use crate::fields::Fields;
@@ -15,17 +18,27 @@ pub trait Readable: ComponentProvider + Sized {
     fn is_determined(kinds: Kinds) -> bool;
 
     /// The value of these numbers, of which texts show these components, if there is one.
-    fn of_fields(fields: &Fields, kinds: Kinds) -> Option<Self>;
+    ///
+    /// The numbers of a date and a time of day that some value has give a value with that date and
+    /// that time of day.
+    fn of_fields(fields: &Fields, kinds: Kinds) -> Option<Self>
+        ensures complete { (other : Self)
+            → AreNumbersOf Self.SUPPLIES_DATE Self.SUPPLIES_TIME kinds.0 fields.now (Self.facts other)
+            → IsSomeAnd result (λ value. HaveOneSecond (Self.facts value) (Self.facts other)) };
 
     /// The numbers of the value.
-    fn fields(&self) -> Fields;
+    fn fields(&self) -> Fields
+        ensures in_range { HasUnset result };
 
     /// The components that texts show, and those of a base value that complete them.
-    fn completed(shown: Kinds) -> Kinds;
+    fn completed(shown: Kinds) -> Kinds
+        ensures completes { Completes shown.0 result.0 };
 }
 
 /// The numbers of a date and a time of day.
-fn fields_of(date: Date, time: Time) -> Fields {
+fn fields_of(date: Date, time: Time) -> Fields
+    ensures { HasUnset result }
+{
     let mut fields = Fields::default();
     set_date(&mut fields, date);
     set_time(&mut fields, time);
@@ -34,7 +47,10 @@ fn fields_of(date: Date, time: Time) -> Fields {
 
 /// With the components of a base value that complete a date and a time of day, unless texts show
 /// the moment.
-fn with_moment(shown: Kinds) -> Kinds {
+#[tactic(auto, using(crate::proofs::KindLemmas::completes_itself, crate::proofs::KindLemmas::completes_on))]
+fn with_moment(shown: Kinds) -> Kinds
+    ensures { Completes shown.0 result.0 }
+{
     if shown.have_moment() {
         shown
     } else {

@@ -1,12 +1,20 @@
-use Rattle.std.proofs.Common.{◌≡◌, drop, map}
+use Rattle.std.proofs.Common.{◌≡◌, true, drop, map}
 use Rattle.time_below.specs.Tree.{trees}
 use Rattle.time_fmt.specs.Description.{trees_outcome}
 use Rattle.time_fmt.specs.Outcome.{done}
 use Rattle.time_plan_read.proofs.compare.stepwise_difference.Given as goal
+use Rattle.time_plan_read.specs.DatesAndTimes.{are_runs}
 
--- what is left of the text is that of the steps that are left, if the text is that of the steps
+-- the text is that of the steps if what is left of it is that of the steps that are left; and dates and times of day are
+-- left behind one by one
 abbrev pub invariant-loop-step : goal.invariant-loop-step
 invariant-loop-step g l =
+    let f = g.V.ComponentProvider.facts l.value in
+    let tree = g.T.ReadStep.tree_of l.texts in
+    let shown = g.T.ReadStep.shown_of l.texts in
     g.V.ComponentProvider.agrees l.state l.value
-    × (trees_outcome (trees (map (g.T.ReadStep.tree_of l.texts) (drop l.step-index l.steps))) (g.V.ComponentProvider.facts l.value) ≡ done l.left
-    → trees_outcome (trees (map (g.T.ReadStep.tree_of l.texts) l.steps)) (g.V.ComponentProvider.facts l.value) ≡ done l.text)
+    × (trees_outcome (trees (map tree (drop l.step-index l.steps))) f ≡ done l.left
+    → trees_outcome (trees (map tree l.steps)) f ≡ done l.text)
+    × (are_runs (map shown l.steps) ≡ true → trees_outcome (trees (map tree l.steps)) f ≡ done l.text
+    → (are_runs (map shown (drop l.step-index l.steps)) ≡ true)
+    × (trees_outcome (trees (map tree (drop l.step-index l.steps))) f ≡ done l.left))

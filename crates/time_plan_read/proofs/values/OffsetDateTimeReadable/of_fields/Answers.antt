@@ -1,0 +1,24 @@
+use Rattle.std.proofs.Common.{refl}
+use Rattle.time_plan_read.proofs.ValueLemmas.{same_local}
+use Rattle.time_plan_read.proofs.values.OffsetDateTimeReadable.of_fields.Goals as goal
+
+-- the time of day is there
+pub returns-in_err-time_of : goal.returns-in_err-time_of
+returns-in_err-time_of c = record {
+  complete = λ other n.
+      let there = c.time_of.ensures other.time n.real.time (n.time_shown refl) (n.hour refl) (n.minute refl)
+      (n.second refl) n.unset.nanosecond in
+      let no : ⊥ = cc (there, c.in_err-time_of.was) in absurd no;
+}
+
+pub returns : goal.returns
+returns c = record {
+  complete = λ other n.
+      let is = same_local c.new_in_offset.result other c.date_of.result c.time_of.result _ _ _ c.args.fields.now.nanosecond
+      c.new_in_offset.ensures c.in_ok-date_of.was
+      (c.date_of.ensures other.date n.real.date.date (n.date_shown refl) (n.year refl) (n.month refl) (n.day refl))
+      c.in_ok-time_of.was
+      (c.time_of.ensures other.time n.real.time (n.time_shown refl) (n.hour refl) (n.minute refl)
+      (n.second refl) n.unset.nanosecond) in
+      rw is (record { date = refl; hour = refl; minute = refl; second = refl });
+}
