@@ -1,38 +1,27 @@
--- The text of a second, byte by byte, and the years that have none.
-use Rattle.std.proofs.Common.{◌≡◌, ℕ, ◌+◌, ◌-◌, ◌*◌, ◌/◌, ◌%◌, ◌<◌, ◌≤◌, List, [], ◌∷◌, ◌++◌, length, slice_index_or, refl}
-use Rattle.std.proofs.Common.{sym, ap, ◌∙◌, arith, ⊎_elim, ℤ, pos, negsuc, ◌+ℤ◌, ◌*ℤ◌, ◌<ℤ◌}
+-- The text of a second, and the years that have none.
+use Rattle.std.proofs.Common.{◌≡◌, ℕ, ◌+◌, ◌-◌, ◌*◌, ◌/◌, ◌<◌, ◌≤◌, List, [], ◌++◌, length, drop, refl, ◌∙◌, arith, ⊎_elim, ℤ, pos, unsigned_abs}
+use Rattle.std.proofs.Common.{negsuc, ◌+ℤ◌, ◌*ℤ◌, ◌<ℤ◌}
 use Rattle.std.specs.Int.{int_div_euclid}
 use Rattle.std.specs.Prelude.{codes}
 use Rattle.std.proofs.lemmas.Bool.{cases_lt}
+use Rattle.std.proofs.lemmas.Grind.{common_steps}
 use Rattle.std.proofs.lemmas.Int.{ints}
-use Rattle.time_below.specs.Calendar.{OrdinalDate, date_at}
+use Rattle.std.proofs.lemmas.List.{append-nil, drop_all}
+use Rattle.time_below.specs.Calendar.{date_at}
+use Rattle.time_below.specs.Facts.{date_facts}
 use Rattle.time_below.specs.Moment.{IsTimestampSecond, OffsetDateAndTime, utc_date, day_seconds, unix_day}
-use Rattle.time_below.specs.TimeOfDay.{TimeOfDay}
-use Rattle.time_digits.specs.Digits.{zero_padded}
-use Rattle.time_digits.proofs.PieceLemmas.{four_zero_padded}
-use Rattle.time_log.specs.LogText.{IsFourDigits, text_to_point}
-
--- a text of two bytes is the first and the second
-two_bytes : (xs ys : List ℕ) → length xs ≡ 2 → xs ≡ ys → ys ≡ slice_index_or xs 0 0 ∷ slice_index_or xs 1 0 ∷ []
-two_bytes [] ys two same = cc
-two_bytes (x ∷ []) ys two same = absurd (omega arith)
-two_bytes (x ∷ y ∷ []) ys two same = sym same
-two_bytes (x ∷ y ∷ z ∷ more) ys two same = absurd (omega arith)
-
--- the digits of a number, by those of one that is equal
-pub pair_of : (xs : List ℕ) (m n : ℕ) → m ≡ n → length xs ≡ 2 → xs ≡ zero_padded 2 m
-    → zero_padded 2 n ≡ slice_index_or xs 0 0 ∷ slice_index_or xs 1 0 ∷ []
-pair_of xs m n same two digits = two_bytes xs (zero_padded 2 n) two (digits ∙ ap (zero_padded 2) same)
-
--- a year of four digits is two pairs
-pub year_of : (xs ys : List ℕ) (m n : ℕ) → length xs ≡ 2 → xs ≡ zero_padded 2 (m / 100)
-    → length ys ≡ 2 → ys ≡ zero_padded 2 (m % 100) → m ≡ n → n < 10_000
-    → zero_padded 4 n
-    ≡ slice_index_or xs 0 0 ∷ slice_index_or xs 1 0 ∷ slice_index_or ys 0 0 ∷ slice_index_or ys 1 0 ∷ []
-year_of xs ys m n two high also low same h =
-    let first = two_bytes xs (zero_padded 2 (m / 100)) two high in
-    let last = two_bytes ys (zero_padded 2 (m % 100)) also low in
-    rw (← same) (sym (four_zero_padded m (omega arith)) ∙ rw (first, last) refl)
+use Rattle.time_fmt.specs.Outcome.{done}
+use Rattle.time_provide.specs.Real.{AreReal}
+use Rattle.time_known.specs.Accepted.{refused_for}
+use Rattle.time_known.specs.Fields.{Shown, fields}
+use Rattle.time_known.specs.Rfc3339.{second_text}
+use Rattle.time_known.specs.Values.{facts_of_offset_date_time}
+use Rattle.time_known.specs.WellKnown.{is_outside}
+use Rattle.time_known.specs.declared.accepted.OutOfRange.{OutOfRange}
+use Rattle.time_known.proofs.LawLemmas.{text_checked}
+use Rattle.time_known.proofs.OutcomeLemmas.{IsYearWithin, above_not, not_outside, test_is_passed, year_is_within}
+use Rattle.time_known.proofs.WidthLemmas.{length-second}
+use Rattle.time_log.specs.LogText.{IsFourDigits, IsLogOffset, text_to_point}
 
 -- a day before the range has a year below zero
 early_year : (b : ℕ) → 365_242_500 ≤ b → (date_at (negsuc b)).year <ℤ pos 0
@@ -65,16 +54,37 @@ far_years (negsuc a) far year =
     (λ (h : a ≤ 31_619_087_596_799). far (omega (arith, ints), omega (arith, ints)))
     (cases_lt 31_619_087_596_799 a)
 
--- a list of the bytes, by the texts that it joins
-pub joined_bytes : (year month day hour minute second : List ℕ) (y e a r m o d t h i n u s c : ℕ)
-    → year ≡ y ∷ e ∷ a ∷ r ∷ [] → month ≡ m ∷ o ∷ [] → day ≡ d ∷ t ∷ []
-    → hour ≡ h ∷ i ∷ [] → minute ≡ n ∷ u ∷ [] → second ≡ s ∷ c ∷ []
-    → y ∷ e ∷ a ∷ r ∷ 45 ∷ m ∷ o ∷ 45 ∷ d ∷ t ∷ 84 ∷ h ∷ i ∷ 58 ∷ n ∷ u ∷ 58 ∷ s ∷ c ∷ 46 ∷ []
-    ≡ year ++ (codes "-" ++ month ++ codes "-" ++ day) ++ codes "T"
-    ++ (hour ++ codes ":" ++ minute ++ codes ":" ++ second) ++ codes "."
-joined_bytes year month day hour minute second y e a r m o d t h i n u s c p q w x z v = rw (p, q, w, x, z, v) refl
+-- ---- what was put
 
--- the text of a value, by its date and its time
-pub same_text : (d : OrdinalDate) (t : TimeOfDay) (v w : OffsetDateAndTime) → d ≡ v.date → t ≡ v.time → v ≡ w
-    → text_to_point (record { date = d; time = t; offset = w.offset }) ≡ text_to_point w
-same_text d t v w date time value = rw (date, time, value) refl
+-- the year of an accepted value has four digits
+accepted_year : (v : OffsetDateAndTime) → text_checked 0 23 v [] ≡ done [] → IsYearWithin 0 9_999 v.date.year
+accepted_year v accepted =
+    year_is_within 0 9_999 v.date.year (test_is_passed (is_outside 0 9_999 v.date.year) (codes "year") _ [] accepted).right
+
+pub has_four_digits : (v : OffsetDateAndTime) → text_checked 0 23 v [] ≡ done [] → IsFourDigits v.date.year
+has_four_digits v accepted =
+    let year = accepted_year v accepted in (omega (arith, ints, year.is), omega (arith, ints, year.is, year.high))
+
+-- what fills the bytes is the text
+pub head_is : (v : OffsetDateAndTime) (f : Shown) (zeros head : List ℕ) → AreReal (facts_of_offset_date_time v)
+    → text_checked 0 23 v [] ≡ done [] → f ≡ fields (date_facts v.date) v.time v.offset
+    → head ≡ second_text f.date f.time ++ drop (length (second_text f.date f.time)) zeros → length zeros ≡ 20
+    → head ≡ text_to_point v
+head_is v f zeros head real accepted shown e long =
+    let text : second_text f.date f.time ≡ text_to_point v = rw shown refl in
+    let size = length-second v.date v.time real.date.date real.time (accepted_year v accepted) in
+    let none : drop (length (text_to_point v)) zeros ≡ [] =
+    drop_all (length (text_to_point v)) zeros (omega (arith, size, long)) in
+    e ∙ rw (text, none) (append-nil (text_to_point v))
+
+-- what is refused of a value whose offset has a text is its year
+refused_year : (v : OffsetDateAndTime) (component : OutOfRange) → IsLogOffset v.offset
+    → text_checked 0 23 v [] ≡ refused_for component → IsYearWithin 0 9_999 v.date.year → ⊥
+refused_year v component zone refused year =
+    grind (arith, common_steps, not_outside 0 9_999 v.date.year year, above_not 23 (unsigned_abs v.offset.hours) zone.0, zone.1, refused)
+
+pub year_is_refused : (v w : OffsetDateAndTime) (component : OutOfRange) → v ≡ w → IsLogOffset w.offset
+    → text_checked 0 23 v [] ≡ refused_for component → IsFourDigits w.date.year → ⊥
+year_is_refused v w component same zone refused year =
+    refused_year w component zone (rw same at refused)
+    (record { is = omega (arith, ints, year.0); low = omega arith; high = omega (arith, ints, year.0, year.1) })

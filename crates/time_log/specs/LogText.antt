@@ -4,7 +4,8 @@ use Rattle.std.specs.Prelude.{unsigned_abs, if◌then◌else◌}
 use Rattle.time_below.specs.Moment.{Moment, OffsetDateAndTime, local_at}
 use Rattle.time_below.specs.Offset.{Offset, is_utc}
 use Rattle.time_fmt.specs.Decimals.{decimals}
-use Rattle.time_known.specs.WellKnown.{clock_text, offset_text, date_text}
+use Rattle.time_known.specs.Rfc3339.{second_text}
+use Rattle.time_known.specs.WellKnown.{offset_text}
 use Rattle.time_below.specs.Facts.{date_facts}
 use Rattle.time_log.specs.declared.decimals.Decimals.{Decimals}
 use Rattle.time_log.specs.declared.decimals.Decimals.TheVariants.{Milliseconds, Microseconds, Nanoseconds}
@@ -22,8 +23,7 @@ digits_of Nanoseconds = 9
 
 -- full-date "T" time-hour ":" time-minute ":" time-second "."
 abbrev pub text_to_point : OffsetDateAndTime → List ℕ
-text_to_point v =
-    date_text (codes "-") (date_facts v.date) ++ codes "T" ++ clock_text (codes ":") v.time ++ codes "."
+text_to_point v = second_text (date_facts v.date) v.time
 
 -- then this many digits of the fraction, not rounded, and time-offset
 abbrev pub text_of : ℕ → OffsetDateAndTime → List ℕ

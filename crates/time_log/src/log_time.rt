@@ -64,10 +64,10 @@ impl LogTime {
     {
         let (hours, _, seconds) = offset.as_hms();
         if hours.unsigned_abs() > 23 {
-            return Err(Format::InvalidComponent(OutOfRange::OffsetHour.name()));
+            return Err(Format::from(OutOfRange::OffsetHour));
         }
         if seconds != 0 {
-            return Err(Format::InvalidComponent(OutOfRange::OffsetSecond.name()));
+            return Err(Format::from(OutOfRange::OffsetSecond));
         }
         Ok(LogTime::at(offset, decimals))
     }
@@ -143,7 +143,7 @@ impl LogTime {
         let (second, nanosecond) = moment.as_parts();
         if second != self.second {
             let Some(head) = head_at(moment, self.offset) else {
-                return Err(Format::InvalidComponent(OutOfRange::Year.name()));
+                return Err(Format::from(OutOfRange::Year));
             };
             self.second = second;
             self.head = head;

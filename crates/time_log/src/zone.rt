@@ -1,14 +1,15 @@
 //! The offset at the end of a text.
-ghost use Rattle.std.specs.Prelude.{◌≡◌, codes, if◌then◌else◌, length};
+ghost use Rattle.std.specs.Prelude.{◌≡◌, ◌<◌, codes, if◌then◌else◌, length};
 ghost use Rattle.time_below.specs.Offset.{is_utc};
+ghost use Rattle.time_digits.specs.Digits.{zero_padded};
 ghost use Rattle.time_fmt.specs.Room.{HasRoom};
 ghost use Rattle.time_fmt.specs.Sink.{Puts, vec_buffer};
 ghost use Rattle.time_log.specs.LogText.{zone_length};
 ghost use Rattle.time_known.specs.WellKnown.{signed_offset_text};
 
-use crate::head::pair;
 use crate::text::push_each;
 use time_below::UtcOffset;
+use time_digits::{ru8, two_digits_zero_padded};
 
 /// The bytes of the text of an offset: `Z`, or a sign, hours and minutes.
 pub(crate) fn zone_len(offset: UtcOffset) -> usize
@@ -26,6 +27,16 @@ pub(crate) fn zone_of(offset: UtcOffset) -> [u8; 6]
     let [m, i] = pair(minutes.unsigned_abs());
     let sign = if offset.is_negative() { b'-' } else { b'+' };
     [sign, h, o, b':', m, i]
+}
+
+/// The two digits of a number.
+fn pair(number: u8) -> [u8; 2]
+    requires { number < 100 }
+    ensures digits { result ≡ zero_padded 2 number }
+    ensures length { length result ≡ 2 }
+{
+    let digits = two_digits_zero_padded(ru8::within(number)).as_bytes();
+    [digits[0], digits[1]]
 }
 
 /// The text of an offset: `Z` for UTC, else these bytes.
