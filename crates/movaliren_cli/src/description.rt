@@ -7,7 +7,7 @@ use time_plan::{InvalidDescription, InvalidStrftime, Plan};
 
 /// A format that has a name.
 #[derive(Clone, Copy)]
-pub enum Format {
+pub enum NamedFormat {
     Rfc3339,
     Rfc2822,
     Iso8601,
@@ -17,15 +17,15 @@ pub enum Format {
     Unix,
 }
 
-impl Format {
+impl NamedFormat {
     /// The format of this name, if there is one.
-    pub fn of_name(name: &str) -> Option<Format> {
+    pub fn of_name(name: &str) -> Option<NamedFormat> {
         match name {
-            "rfc3339" => Some(Format::Rfc3339),
-            "rfc2822" => Some(Format::Rfc2822),
-            "iso8601" => Some(Format::Iso8601),
-            "stamp" => Some(Format::Stamp),
-            "unix" => Some(Format::Unix),
+            "rfc3339" => Some(NamedFormat::Rfc3339),
+            "rfc2822" => Some(NamedFormat::Rfc2822),
+            "iso8601" => Some(NamedFormat::Iso8601),
+            "stamp" => Some(NamedFormat::Stamp),
+            "unix" => Some(NamedFormat::Unix),
             _ => None,
         }
     }
@@ -34,7 +34,7 @@ impl Format {
 /// Whether the word is a description: the name of a format, or a text with a bracket or a percent sign.
 pub fn is_description(word: &str) -> bool {
     let bytes = word.as_bytes();
-    Format::of_name(word).is_some() || bytes.contains(&b'%') || bytes.contains(&b'[')
+    NamedFormat::of_name(word).is_some() || bytes.contains(&b'%') || bytes.contains(&b'[')
 }
 
 /// Whether the bytes can stand in a string of JSON as they are: no quote, no backslash, no control character.

@@ -18,7 +18,7 @@ mod zone;
 
 use arguments::{Asked, Job, Task};
 use clock::FoundClock;
-use description::Format;
+use description::NamedFormat;
 use line_streams::{FilterError, LineJob, StandardStreams};
 use memchr::memmem::Finder;
 use place::{InZone, LocalIn};
@@ -220,15 +220,15 @@ fn run_text(rt: &HostRuntime, asked: &Asked) -> ExitCode {
 
 /// Runs by the description that is asked for.
 fn run_described(rt: &HostRuntime, asked: &Asked) -> ExitCode {
-    match Format::of_name(asked.description) {
-        Some(Format::Rfc3339) => run_rfc3339(rt, asked),
-        Some(Format::Rfc2822) => run_by(rt, asked, Rfc2822),
-        Some(Format::Iso8601) => run_by(rt, asked, Iso8601::default()),
-        Some(Format::Stamp) => {
+    match NamedFormat::of_name(asked.description) {
+        Some(NamedFormat::Rfc3339) => run_rfc3339(rt, asked),
+        Some(NamedFormat::Rfc2822) => run_by(rt, asked, Rfc2822),
+        Some(NamedFormat::Iso8601) => run_by(rt, asked, Iso8601::default()),
+        Some(NamedFormat::Stamp) => {
             let description = Iso8601::default();
             run(rt, &asked.task, InUtc { description })
         }
-        Some(Format::Unix) => {
+        Some(NamedFormat::Unix) => {
             let description = UNIX_TIMESTAMP;
             run(rt, &asked.task, InUtc { description })
         }
