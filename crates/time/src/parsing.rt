@@ -4,5 +4,7 @@ pub use time_read::{Expected, LenientReader, Names, NotRead, Profile, rfc2822, r
 
 /// Texts of plans.
 pub mod plan {
-    pub use time_plan_read::{NoReader, NotRead, ReadPlan, Readable, Reader, Reason};
+    pub use time_plan_read::{
+        LenientReader, NoReader, NotRead, ReadPlan, Readable, Reader, Reason,
+    };
 }
