@@ -7,5 +7,7 @@ pub use time_read::{
 
 /// Texts of plans.
 pub mod plan {
-    pub use time_plan_read::{NoReader, NotRead, ReadPlan, Readable, Reader, Reason};
+    pub use time_plan_read::{
+        LenientReader, NoReader, NotRead, ReadPlan, Readable, Reader, Reason,
+    };
 }
