@@ -43,6 +43,11 @@ STAMPS = [
     "2026-11-22T09:55:06.123456789Z",
     "2026-11-22T09:55:06.12Z",
 ]
+ISO = [
+    "2026-11-22T09:55:06.123456789Z",
+    "2026-11-22T09:55:06.123456789+05:30",
+    "2026-11-22T09:55:66.123456789Z",
+]
 # Texts by a description of `strftime`: the letters by which the program knows its reader and the kit's, and the name by
 # which `read/described.rs` knows it.
 DESCRIBED = {
@@ -133,6 +138,8 @@ def main():
         table([("`rfc2822::read`", lambda text: ours(own, "m", text)),
                ("kit's `jiff_fmt`", lambda text: ours(own, "k", text))], MAIL)
         table([("`stamp::read`", lambda text: ours(own, "t", text)), ("`read`", lambda text: ours(own, "s", text))], STAMPS)
+        table([("`iso8601::read`", lambda text: ours(own, "i", text)), ("`read`", lambda text: ours(own, "s", text)),
+               ("kit's `jiff_fmt`", lambda text: ours(own, "j", text))], ISO)
         table(described(folder, own, others), DESCRIBED)
         print(f"{run.Bench.commit()}.")
 

@@ -120,6 +120,10 @@ SECTIONS = [
         "Sortable timestamps (*stamps*).",
     ),
     Section(
+        "|Text|`iso8601::read`|", "",
+        "The default configuration of ISO 8601. `iso8601::read` also writes the value, and compares.",
+    ),
+    Section(
         "|Text|`Reader::read`|", "",
         "By `%Y-%m-%d %H:%M:%S` as a `PlainDateTime`, and by `%d/%b/%Y:%H:%M:%S %z` as an "
         "`OffsetDateTime`. The plan and its reader are made before. The kit's `jiff_strtime` reads "
