@@ -1,8 +1,9 @@
 //! What follows a component: how many digits of a run of digits are not its own.
+use crate::any_step::{LiteralRef, ReadStep};
 use crate::digits::{digits, sign};
 use time_below::format_description::Component;
 use time_below::format_description::modifier::{Padding, SubsecondDigits};
-use time_plan::{Literal, Run, Shown, Step};
+use time_plan::{Run, Shown};
 
 /// How the texts of a component begin.
 #[derive(Clone, Copy)]
@@ -158,38 +159,37 @@ fn is_open(component: Component) -> bool {
 }
 
 /// The first byte of a literal.
-fn first_byte(literal: &Literal) -> Option<u8> {
+fn first_byte(literal: LiteralRef<'_>) -> Option<u8> {
     match literal {
-        Literal::Byte(byte) => Some(*byte),
-        Literal::Bytes(bytes) => match bytes.as_slice() {
-            [byte, ..] => Some(*byte),
-            [] => None,
-        },
+        LiteralRef::Byte(byte) => Some(byte),
+        LiteralRef::Bytes([byte, ..]) => Some(*byte),
+        LiteralRef::Bytes([]) => None,
     }
 }
 
 /// How many digits follow what a step shows at once, unless that depends on the value.
 #[inline]
-fn digits_behind(step: &Step, others: &[Step]) -> Option<usize> {
-    match first_byte(&step.literal) {
+fn digits_behind<T: ReadStep>(step: &T, others: &[T], texts: &[u8]) -> Option<usize> {
+    match first_byte(step.parts(texts).literal) {
         Some(byte) if byte.is_ascii_digit() => None,
         Some(_) => Some(0),
-        None => digits_of(others),
+        None => digits_of(others, texts),
     }
 }
 
 /// How many digits of a run of digits belong to what follows the text of a step.
 #[inline]
-pub(crate) fn digits_left(step: &Step, others: &[Step]) -> usize {
-    digits_behind(step, others).unwrap_or(0)
+pub(crate) fn digits_left<T: ReadStep>(step: &T, others: &[T], texts: &[u8]) -> usize {
+    digits_behind(step, others, texts).unwrap_or(0)
 }
 
 /// How many digits the steps begin with, unless that depends on the value.
 #[cold]
-fn digits_of(steps: &[Step]) -> Option<usize> {
+fn digits_of<T: ReadStep>(steps: &[T], texts: &[u8]) -> Option<usize> {
     let mut sum = 0usize;
     for step in steps {
-        let front = match &step.shown {
+        let parts = step.parts(texts);
+        let front = match parts.shown {
             Shown::Component(component) => front_of(component.current()),
             Shown::Run(Run::Empty) => Front::Nothing,
             Shown::Run(Run::Date(_)) => Front::Open,
@@ -207,7 +207,7 @@ fn digits_of(steps: &[Step]) -> Option<usize> {
             Front::Open => return None,
             Front::Nothing => {}
         }
-        if let Some(byte) = first_byte(&step.literal) {
+        if let Some(byte) = first_byte(parts.literal) {
             return if byte.is_ascii_digit() {
                 None
             } else {
@@ -220,10 +220,10 @@ fn digits_of(steps: &[Step]) -> Option<usize> {
 
 /// Whether a step ends by digits whose number depends on the value, and it is not told where they
 /// end.
-pub(crate) fn is_ambiguous(step: &Step, others: &[Step]) -> bool {
-    match &step.shown {
+pub(crate) fn is_ambiguous<T: ReadStep>(step: &T, others: &[T], texts: &[u8]) -> bool {
+    match step.parts(texts).shown {
         Shown::Component(component) => {
-            is_open(component.current()) && digits_behind(step, others).is_none()
+            is_open(component.current()) && digits_behind(step, others, texts).is_none()
         }
         Shown::Run(Run::Date(between)) => { between.first.is_ascii_digit() }
         _ => false,

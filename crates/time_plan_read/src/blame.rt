@@ -1,30 +1,36 @@
 //! Which number of a text is that of no value.
 ghost use Rattle.std.specs.Prelude.{◌≤◌, length};
 
+use crate::any_step::ReadStep;
 use crate::fault::{NotRead, Reason, Stop, not_read};
 use crate::fields::Fields;
 use crate::kinds::{Kinds, kind_of, shown_by};
 use crate::runs::place_in_run;
 use crate::steps::checked_step;
 use std::default::Default;
-use time_plan::{Shown, Step};
+use time_plan::Shown;
 
 /// The fault of a text whose numbers no value has: the first number that is out of its own range, or the one that
 /// picks no date of its year.
 #[cold]
 #[inline(never)]
-pub(crate) fn no_value(steps: &[Step], text: &[u8], fields: &Fields) -> NotRead
+pub(crate) fn no_value<T: ReadStep>(
+    steps: &[T],
+    texts: &[u8],
+    text: &[u8],
+    fields: &Fields,
+) -> NotRead
     ensures { result.at ≤ length text.now }
 {
-    let kind = blamed(fields, shown_by(steps));
+    let kind = blamed(fields, shown_by(steps, texts));
     let mut unused = Fields::default();
     let mut left = text;
     let mut steps_left = steps;
     'steps: while let [step, others @ ..] = steps_left {
-        if let Some(stop) = place_in(&step.shown, left, kind) {
+        if let Some(stop) = place_in(&step.parts(texts).shown, left, kind) {
             return not_read(text, stop);
         }
-        match checked_step(step, others, left, &mut unused) {
+        match checked_step(step, others, texts, left, &mut unused) {
             Ok(rest) => left = rest,
             Err(_) => break 'steps,
         }

@@ -1,12 +1,13 @@
 //! The text of a value by the steps of a plan, compared with another one.
-ghost use Rattle.std.specs.Prelude.{◌≡◌, ◌≤◌, ℕ, List, ◌++◌, IfSome, IfNone, length, take};
-ghost use Rattle.time_below.specs.Tree.{Tree, Trees, more};
+ghost use Rattle.std.specs.Prelude.{◌≡◌, ◌≤◌, ℕ, List, ◌++◌, IfSome, IfNone, length, map, take};
+ghost use Rattle.time_below.specs.Tree.{Tree, Trees, more, trees};
 ghost use Rattle.time_below.specs.Width.{tree_width, trees_width};
 ghost use Rattle.time_fmt.specs.Description.{tree_outcome, trees_outcome};
 ghost use Rattle.time_fmt.specs.Outcome.{done};
 ghost use Rattle.time_plan.specs.Shown.{shown_tree};
-ghost use Rattle.time_plan.specs.Steps.{step_tree, step_trees};
+ghost use Rattle.time_plan.specs.Steps.{step_trees};
 
+use crate::any_step::{ReadStep, StepParts};
 use crate::names::{after_all, after_literal};
 use std::default::Default;
 use std::marker::Brand;
@@ -27,7 +28,7 @@ where
     if plan.fits_plainly(ROOM) {
         whole_difference(plan.steps(), text, value)
     } else {
-        stepwise_difference(plan.steps(), text, value)
+        stepwise_difference(plan.steps(), &[], text, value)
     }
 }
 
@@ -79,19 +80,21 @@ const SHOWN_ROOM: usize = 32;
 
 /// The same for steps of any width, one by one. Literals are compared where they lie.
 #[inline(never)]
-fn stepwise_difference<V: ComponentProvider>(
-    steps: &[Step],
+pub(crate) fn stepwise_difference<T: ReadStep, V: ComponentProvider>(
+    steps: &[T],
+    texts: &[u8],
     text: &[u8],
     value: &V,
 ) -> Option<usize>
 where
     V::State: Drop,
-    ensures same { IfNone result (trees_outcome (step_trees steps.now) (V.facts value.now) ≡ done text.now) }
+    ensures same { IfNone result (trees_outcome (trees (map (T.tree_of texts.now) steps.now)) (V.facts value.now)
+        ≡ done text.now) }
 {
     let mut state = V::State::default();
     let mut left = text;
     for step in steps {
-        match behind_step(step, left, value, &mut state) {
+        match behind_step(step, texts, left, value, &mut state) {
             Some(rest) => left = rest,
             None => return Some(text.len().saturating_sub(left.len())),
         }
@@ -104,8 +107,9 @@ where
 }
 
 /// What follows the text of a step, if the text begins with it.
-fn behind_step<'a, V: ComponentProvider>(
-    step: &Step,
+fn behind_step<'a, T: ReadStep, V: ComponentProvider>(
+    step: &T,
+    texts: &[u8],
     text: &'a [u8],
     value: &V,
     state: &mut V::State,
@@ -113,12 +117,13 @@ fn behind_step<'a, V: ComponentProvider>(
     requires agrees { V.agrees state.old value.now }
     ensures agrees { V.agrees state.new value.now }
     ensures behind { IfSome result (λ rest. (others : Trees) → trees_outcome others (V.facts value.now) ≡ done rest.now
-        → trees_outcome (more (step_tree step.now) others) (V.facts value.now) ≡ done text.now) }
+        → trees_outcome (more (T.tree_of texts.now step.now) others) (V.facts value.now) ≡ done text.now) }
 {
     let mut room = [0u8; SHOWN_ROOM];
-    let count = shown_in_room::<Brand, V>(&step.shown, &mut room, value, state)?;
+    let StepParts { shown, literal } = step.parts(texts);
+    let count = shown_in_room::<Brand, V>(&shown, &mut room, value, state)?;
     let rest = after_all(text, &room[..count])?;
-    after_literal(rest, &step.literal)
+    after_literal(rest, literal)
 }
 
 /// Writes what a step shows to the start of a buffer, and returns the number of its bytes, or nothing if the value is

@@ -1,6 +1,7 @@
 //! The components of a text, one by one.
 ghost use Rattle.std.specs.Prelude.{◌<◌, IfSome};
 
+use crate::any_step::ReadStep;
 use crate::behind::{digits_left, fixed_decimals};
 use crate::digits::{digits, four, padded, sign, some_digits, two};
 use crate::fields::Fields;
@@ -8,18 +9,18 @@ use crate::names::{half_day, month_long, month_short, weekday_long, weekday_shor
 use crate::years::{century, signed_year};
 use time_below::format_description::modifier::{Padding, SubsecondDigits};
 use time_below::format_description::{Component, modifier};
-use time_plan::Step;
 
 /// Reads a number in two places, and returns how many bytes it has, as each reader of a component
 /// does.
 ///
 /// Whether two bytes are digits is seen when the text of the value is compared.
 #[inline(always)]
-fn pair(
+fn pair<T: ReadStep>(
     text: &[u8],
     padding: Padding,
-    step: &Step,
-    others: &[Step],
+    step: &T,
+    others: &[T],
+    texts: &[u8],
     number: &mut u8,
 ) -> Option<usize> {
     match (padding, text) {
@@ -28,7 +29,7 @@ fn pair(
             Some(2)
         }
         (Padding::Zero, _) => None,
-        _ => padded_pair(text, padding, digits_left(step, others), number),
+        _ => padded_pair(text, padding, digits_left(step, others, texts), number),
     }
 }
 
@@ -56,16 +57,17 @@ const SCALES: [u64; 10] = [
 
 /// Reads decimals of the second.
 #[inline(never)]
-fn decimals(
+fn decimals<T: ReadStep>(
     text: &[u8],
     wanted: SubsecondDigits,
-    step: &Step,
-    others: &[Step],
+    step: &T,
+    others: &[T],
+    texts: &[u8],
     nanosecond: &mut u32,
 ) -> Option<usize> {
     let (number, count) = match fixed_decimals(wanted) {
         Some(count) => (digits(text, count)?, count),
-        None => some_digits(text, 1, 9, digits_left(step, others))?,
+        None => some_digits(text, 1, 9, digits_left(step, others, texts))?,
     };
     let scale = SCALES.get(count).copied().unwrap_or(1);
     *nanosecond = (number.wrapping_mul(scale) % 1_000_000_000) as u32;
@@ -73,9 +75,15 @@ fn decimals(
 }
 
 /// Reads a count since 1970.
-fn timestamp(text: &[u8], step: &Step, others: &[Step], since: &mut i64) -> Option<usize> {
+fn timestamp<T: ReadStep>(
+    text: &[u8],
+    step: &T,
+    others: &[T],
+    texts: &[u8],
+    since: &mut i64,
+) -> Option<usize> {
     let (is_negative, width) = sign(text);
-    let (number, count) = some_digits(text.get(width..)?, 1, 17, digits_left(step, others))?;
+    let (number, count) = some_digits(text.get(width..)?, 1, 17, digits_left(step, others, texts))?;
     let found = (number % 100_000_000_000_000_000) as i64;
     *since = if is_negative == Some(true) {
         -found
@@ -87,40 +95,50 @@ fn timestamp(text: &[u8], step: &Step, others: &[Step], since: &mut i64) -> Opti
 
 /// Reads a component into the fields, and returns how many bytes it has.
 #[inline(always)]
-pub(crate) fn read_component(
+pub(crate) fn read_component<T: ReadStep>(
     component: &Component,
-    step: &Step,
-    others: &[Step],
+    step: &T,
+    others: &[T],
+    texts: &[u8],
     text: &[u8],
     fields: &mut Fields,
 ) -> Option<usize> {
     match component {
-        Component::Day(m) => pair(text, m.padding, step, others, &mut fields.day),
+        Component::Day(m) => pair(text, m.padding, step, others, texts, &mut fields.day),
         Component::MonthShort(_) => month_short(text, &mut fields.month),
         Component::WeekdayShort(_) => weekday_short(text, &mut fields.weekday),
         Component::CalendarYearFullExtendedRange(m) => {
-            extended_year(text, *m, step, others, &mut fields.year)
+            extended_year(text, *m, step, others, texts, &mut fields.year)
         }
-        Component::OffsetHour(m) => offset_hour(text, m.padding, step, others, fields),
+        Component::OffsetHour(m) => offset_hour(text, m.padding, step, others, texts, fields),
         Component::OffsetMinute(m) => pair(
             text,
             m.padding,
             step,
             others,
+            texts,
             &mut fields.offset_minute,
         ),
-        Component::Subsecond(m) => decimals(text, m.digits, step, others, &mut fields.nanosecond),
-        _ => read_seldom(component, step, others, text, fields),
+        Component::Subsecond(m) => decimals(
+            text,
+            m.digits,
+            step,
+            others,
+            texts,
+            &mut fields.nanosecond,
+        ),
+        _ => read_seldom(component, step, others, texts, text, fields),
     }
 }
 
 /// Reads the hour of an offset, and its sign.
 #[inline(always)]
-fn offset_hour(
+fn offset_hour<T: ReadStep>(
     text: &[u8],
     padding: Padding,
-    step: &Step,
-    others: &[Step],
+    step: &T,
+    others: &[T],
+    texts: &[u8],
     fields: &mut Fields,
 ) -> Option<usize> {
     match (padding, text) {
@@ -129,7 +147,7 @@ fn offset_hour(
             fields.offset_hour = two(*tens, *units);
             Some(3)
         }
-        _ => padded_offset_hour(text, padding, digits_left(step, others), fields),
+        _ => padded_offset_hour(text, padding, digits_left(step, others, texts), fields),
     }
 }
 
@@ -150,11 +168,12 @@ fn padded_offset_hour(
 
 /// Reads a year.
 #[inline(always)]
-fn extended_year(
+fn extended_year<T: ReadStep>(
     text: &[u8],
     choices: modifier::CalendarYearFullExtendedRange,
-    step: &Step,
-    others: &[Step],
+    step: &T,
+    others: &[T],
+    texts: &[u8],
     year: &mut i32,
 ) -> Option<usize> {
     match (choices.padding, text) {
@@ -162,25 +181,39 @@ fn extended_year(
             *year = four(*a, *b, *c, *d);
             Some(4)
         }
-        _ => signed_year(text, choices.padding, 6, digits_left(step, others), year),
+        _ => signed_year(
+            text,
+            choices.padding,
+            6,
+            digits_left(step, others, texts),
+            year,
+        ),
     }
 }
 
 /// Reads a number of the date, in places of which the component tells how many.
 #[inline(never)]
-fn read_seldom(
+fn read_seldom<T: ReadStep>(
     component: &Component,
-    step: &Step,
-    others: &[Step],
+    step: &T,
+    others: &[T],
+    texts: &[u8],
     text: &[u8],
     fields: &mut Fields,
 ) -> Option<usize> {
     let component = component.current();
     match component {
-        Component::MonthNumerical(m) => pair(text, m.padding, step, others, &mut fields.month),
+        Component::MonthNumerical(m) => pair(
+            text,
+            m.padding,
+            step,
+            others,
+            texts,
+            &mut fields.month,
+        ),
         Component::MonthLong(_) => month_long(text, &mut fields.month),
         Component::Ordinal(m) => {
-            let (ordinal, count) = padded(text, m.padding, 3, 3, digits_left(step, others))?;
+            let (ordinal, count) = padded(text, m.padding, 3, 3, digits_left(step, others, texts))?;
             fields.ordinal = (ordinal % 1_000) as u16;
             Some(count)
         }
@@ -193,12 +226,20 @@ fn read_seldom(
             fields.weekday = weekday_digit(text, m.one_indexed)?;
             Some(1)
         }
-        Component::WeekNumberIso(m) => pair(text, m.padding, step, others, &mut fields.iso_week),
+        Component::WeekNumberIso(m) => pair(
+            text,
+            m.padding,
+            step,
+            others,
+            texts,
+            &mut fields.iso_week,
+        ),
         Component::WeekNumberSunday(m) => pair(
             text,
             m.padding,
             step,
             others,
+            texts,
             &mut fields.sunday_week,
         ),
         Component::WeekNumberMonday(m) => pair(
@@ -206,9 +247,10 @@ fn read_seldom(
             m.padding,
             step,
             others,
+            texts,
             &mut fields.monday_week,
         ),
-        _ => read_year(component, step, others, text, fields),
+        _ => read_year(component, step, others, texts, text, fields),
     }
 }
 
@@ -231,14 +273,15 @@ fn weekday_digit(text: &[u8], one_indexed: bool) -> Option<u8>
 }
 
 /// Reads a year or a part of it.
-fn read_year(
+fn read_year<T: ReadStep>(
     component: Component,
-    step: &Step,
-    others: &[Step],
+    step: &T,
+    others: &[T],
+    texts: &[u8],
     text: &[u8],
     fields: &mut Fields,
 ) -> Option<usize> {
-    let count = digits_left(step, others);
+    let count = digits_left(step, others, texts);
     match component {
         Component::CalendarYearFullStandardRange(m) => {
             signed_year(text, m.padding, 4, count, &mut fields.year)
@@ -268,6 +311,7 @@ fn read_year(
             m.padding,
             step,
             others,
+            texts,
             &mut fields.last_two,
         ),
         Component::IsoYearFullExtendedRange(m) => {
@@ -301,36 +345,45 @@ fn read_year(
             m.padding,
             step,
             others,
+            texts,
             &mut fields.iso_last_two,
         ),
-        _ => read_time_part(component, step, others, text, fields),
+        _ => read_time_part(component, step, others, texts, text, fields),
     }
 }
 
 /// Reads a part of the time of day, of the offset or of the moment.
-fn read_time_part(
+fn read_time_part<T: ReadStep>(
     component: Component,
-    step: &Step,
-    others: &[Step],
+    step: &T,
+    others: &[T],
+    texts: &[u8],
     text: &[u8],
     fields: &mut Fields,
 ) -> Option<usize> {
     match component {
-        Component::Hour12(m) => pair(text, m.padding, step, others, &mut fields.hour_12),
-        Component::Hour24(m) => pair(text, m.padding, step, others, &mut fields.hour_24),
-        Component::Minute(m) => pair(text, m.padding, step, others, &mut fields.minute),
-        Component::Second(m) => pair(text, m.padding, step, others, &mut fields.second),
+        Component::Hour12(m) => pair(text, m.padding, step, others, texts, &mut fields.hour_12),
+        Component::Hour24(m) => pair(text, m.padding, step, others, texts, &mut fields.hour_24),
+        Component::Minute(m) => pair(text, m.padding, step, others, texts, &mut fields.minute),
+        Component::Second(m) => pair(text, m.padding, step, others, texts, &mut fields.second),
         Component::Period(m) => half_day(text, m.is_uppercase, &mut fields.is_pm),
         Component::OffsetSecond(m) => pair(
             text,
             m.padding,
             step,
             others,
+            texts,
             &mut fields.offset_second,
         ),
-        Component::UnixTimestampSecond(_) => timestamp(text, step, others, &mut fields.unix_second),
+        Component::UnixTimestampSecond(_) => timestamp(
+            text,
+            step,
+            others,
+            texts,
+            &mut fields.unix_second,
+        ),
         Component::UnixTimestampMillisecond(_) => {
-            timestamp(text, step, others, &mut fields.unix_millisecond)
+            timestamp(text, step, others, texts, &mut fields.unix_millisecond)
         }
         _ => Some(0),
     }

@@ -1,6 +1,7 @@
 //! What the steps of a plan show, and whether their texts determine a value.
+use crate::any_step::ReadStep;
 use time_below::format_description::Component;
-use time_plan::{Run, Shown, Step};
+use time_plan::{Run, Shown};
 
 /// Which components are shown, one bit for each.
 #[derive(Clone, Copy, Debug, PartialEq, Eq)]
@@ -251,10 +252,10 @@ pub(crate) fn kinds_of(shown: &Shown) -> Kinds {
 }
 
 /// The kinds of components that the steps show.
-pub(crate) fn shown_by(steps: &[Step]) -> Kinds {
+pub(crate) fn shown_by<T: ReadStep>(steps: &[T], texts: &[u8]) -> Kinds {
     let mut kinds = Kinds::NONE;
     for step in steps {
-        kinds = kinds.and(kinds_of(&step.shown));
+        kinds = kinds.and(kinds_of(&step.parts(texts).shown));
     }
     kinds
 }

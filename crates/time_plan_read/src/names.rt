@@ -1,8 +1,8 @@
 //! Names and literals at the front of a text.
 ghost use Rattle.std.specs.Prelude.{◌≡◌, ◌∷◌, ◌++◌, IfSome};
-ghost use Rattle.time_plan.specs.Literal.{literal_bytes};
+ghost use Rattle.time_plan_read.specs.Parts.{ref_bytes};
 
-use time_plan::Literal;
+use crate::any_step::LiteralRef;
 
 /// What follows a byte.
 #[inline(always)]
@@ -41,16 +41,16 @@ pub(crate) fn after_all<'a>(text: &'a [u8], bytes: &[u8]) -> Option<&'a [u8]>
 
 /// What follows a literal.
 #[inline(always)]
-pub(crate) fn after_literal<'a>(text: &'a [u8], literal: &Literal) -> Option<&'a [u8]>
-    ensures { IfSome result (λ rest. text.now ≡ literal_bytes literal.now ++ rest.now) }
+pub(crate) fn after_literal<'a>(text: &'a [u8], literal: LiteralRef<'_>) -> Option<&'a [u8]>
+    ensures { IfSome result (λ rest. text.now ≡ ref_bytes literal.entry ++ rest.now) }
 {
     match literal {
-        Literal::Byte(byte) => after(text, *byte),
-        Literal::Bytes(bytes) => {
+        LiteralRef::Byte(byte) => after(text, byte),
+        LiteralRef::Bytes(bytes) => {
             if bytes.is_empty() {
                 return Some(text);
             }
-            after_all(text, bytes.as_slice())
+            after_all(text, bytes)
         }
     }
 }

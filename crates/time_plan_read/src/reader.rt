@@ -1,17 +1,19 @@
-//! Readers of the texts of a plan.
-ghost use Rattle.std.specs.Prelude.{◌≡◌, ◌≤◌, ◌++◌, IfErr, IfOk, IfSome, length};
+//! Readers of the texts of a plan, and of steps of any kind.
+ghost use Rattle.std.specs.Prelude.{◌≡◌, ◌≤◌, ◌++◌, IfErr, IfOk, length, map};
+ghost use Rattle.time_below.specs.Tree.{trees};
+ghost use Rattle.time_fmt.specs.Description.{trees_outcome};
 ghost use Rattle.time_fmt.specs.Outcome.{done};
 ghost use Rattle.time_plan_read.specs.Front.{BeginsWith};
 
+use crate::any_step::ReadStep;
 use crate::behind::is_ambiguous;
-use crate::blame::no_value;
 use crate::clock::clear_finer_time;
-use crate::compare::difference;
-use crate::fault::{NoReader, NotRead, Reason, Stop, not_read};
+use crate::described::Described;
+use crate::fault::{NoReader, NotRead};
 use crate::fields::Fields;
 use crate::kinds::{Kinds, shown_by};
 use crate::moments::clear_finer_offset;
-use crate::steps::{checked_steps, read_steps};
+use crate::reading::Reading;
 use crate::values::Readable;
 use std::default::Default;
 use std::marker::PhantomData;
@@ -28,9 +30,17 @@ use time_plan::{Plan, Run, Shown, Step};
 pub struct Reader<'a, V> {
     /// The plan.
     pub plan: &'a Plan,
-    kinds: Kinds,
-    base: Fields,
-    value: PhantomData<V>,
+    reading: Reading<V>,
+}
+
+/// Reads the texts of steps of any kind as values of a type, as a `Reader` those of a plan.
+#[derive(Drop)]
+pub struct StepsReader<'a, T, V> {
+    /// The steps.
+    pub steps: &'a [T],
+    /// What their literals lie in.
+    pub texts: &'a [u8],
+    reading: Reading<V>,
 }
 
 /// The readers of a plan.
@@ -53,7 +63,7 @@ impl ReadPlan for Plan {
     fn reader<V: Readable>(&self) -> Result<Reader<'_, V>, NoReader>
         ensures plan { IfOk result (λ reader. reader.plan.now ≡ self.now) }
     {
-        let kinds = shown_by(self.steps());
+        let kinds = shown_by(self.steps(), &[]);
         if !V::is_determined(kinds) {
             return Err(NoReader::Undetermined);
         }
@@ -63,7 +73,7 @@ impl ReadPlan for Plan {
     fn reader_from<V: Readable>(&self, base: &V) -> Result<Reader<'_, V>, NoReader>
         ensures plan { IfOk result (λ reader. reader.plan.now ≡ self.now) }
     {
-        let shown = shown_by(self.steps());
+        let shown = shown_by(self.steps(), &[]);
         let mut fields = base.fields();
         clear_finer_time(&mut fields, shown);
         clear_finer_offset(&mut fields, shown);
@@ -79,26 +89,49 @@ fn reader_of<V: Readable>(
 ) -> Result<Reader<'_, V>, NoReader>
     ensures plan { IfOk result (λ reader. reader.plan.now ≡ plan.now) }
 {
-    match refusal_of::<V>(plan.steps()) {
+    match refusal_of::<Step, V>(plan.steps(), &[]) {
         Some(refused) => Err(refused),
         None => Ok(Reader {
             plan,
-            kinds,
-            base,
-            value: PhantomData,
+            reading: Reading::new(kinds, base),
+        }),
+    }
+}
+
+/// The reader of texts of these steps, whose literals may lie in other bytes, as values of a type.
+/// What no text shows is zero.
+///
+/// Refused are steps as the plans of which `ReadPlan::reader` has no reader.
+pub fn reader_of_steps<'a, T: ReadStep, V: Readable>(
+    steps: &'a [T],
+    texts: &'a [u8],
+) -> Result<StepsReader<'a, T, V>, NoReader>
+    ensures steps { IfOk result (λ reader. reader.steps.now ≡ steps.now) }
+    ensures texts { IfOk result (λ reader. reader.texts.now ≡ texts.now) }
+{
+    let kinds = shown_by(steps, texts);
+    if !V::is_determined(kinds) {
+        return Err(NoReader::Undetermined);
+    }
+    match refusal_of::<T, V>(steps, texts) {
+        Some(refused) => Err(refused),
+        None => Ok(StepsReader {
+            steps,
+            texts,
+            reading: Reading::new(kinds, Fields::default()),
         }),
     }
 }
 
 /// The first step by which texts are not read.
-fn refusal_of<V: Readable>(steps: &[Step]) -> Option<NoReader> {
+fn refusal_of<T: ReadStep, V: Readable>(steps: &[T], texts: &[u8]) -> Option<NoReader> {
     let mut left = steps;
     let mut index = 0usize;
     'steps: while let [step, others @ ..] = left {
-        if !supplies::<V>(&step.shown) {
+        if !supplies::<V>(&step.parts(texts).shown) {
             return Some(NoReader::Unsupplied(index));
         }
-        if is_ambiguous(step, others) {
+        if is_ambiguous(step, others, texts) {
             return Some(NoReader::Ambiguous(index));
         }
         index = index.saturating_add(1);
@@ -133,14 +166,7 @@ impl<V: Readable> Reader<'_, V> {
             ⟦<Plan as Formattable>⟧.outcome_of self.now.plan.now (V.facts value) ≡ done text.now) }
         ensures inside { IfErr result (λ fault. fault.at ≤ length text.now) }
     {
-        let mut fields = self.base;
-        match read_steps(self.plan.steps(), text, &mut fields) {
-            Some([]) => match self.value_of(text, &fields) {
-                Some(value) => Ok(value),
-                None => Err(self.fault_of(text, true)),
-            },
-            _ => Err(self.fault_of(text, true)),
-        }
+        self.reading.read(self.plan, text)
     }
 
     /// The value that the plan writes as the front of this text, and the rest of the text, or the
@@ -155,63 +181,21 @@ impl<V: Readable> Reader<'_, V> {
             (⟦<Plan as Formattable>⟧.outcome_of self.now.plan.now (V.facts read.0)) text.now read.1.now) }
         ensures inside { IfErr result (λ fault. fault.at ≤ length text.now) }
     {
-        let mut fields = self.base;
-        let Some(left) = read_steps(self.plan.steps(), text, &mut fields) else {
-            return Err(self.fault_of(text, false));
-        };
-        let (front, rest) = text.split_at(text.len().saturating_sub(left.len()));
-        match self.value_of(front, &fields) {
-            Some(value) => Ok((value, rest)),
-            None => Err(self.fault_of(text, false)),
-        }
+        self.reading.read_front(self.plan, text)
     }
+}
 
-    /// The value of the numbers that were read of a text, if the plan writes it so.
-    #[inline(always)]
-    fn value_of(&self, text: &[u8], fields: &Fields) -> Option<V>
+impl<T: ReadStep, V: Readable> StepsReader<'_, T, V> {
+    /// The value that the steps write as this text, or the first fault of the text.
+    pub fn read(&self, text: &[u8]) -> Result<V, NotRead>
     where
         V::State: Drop,
         V: Drop,
-        ensures written { IfSome result (λ value.
-            ⟦<Plan as Formattable>⟧.outcome_of self.now.plan.now (V.facts value) ≡ done text.now) }
+        ensures written { IfOk result (λ value.
+            trees_outcome (trees (map (T.tree_of self.now.texts.now) self.now.steps.now)) (V.facts value)
+            ≡ done text.now) }
+        ensures inside { IfErr result (λ fault. fault.at ≤ length text.now) }
     {
-        let value = V::of_fields(fields, self.kinds)?;
-        match difference(self.plan, text, &value) {
-            None => Some(value),
-            Some(_) => None,
-        }
-    }
-
-    /// The first fault of a text that is not read, which is to be read to its end or at its front.
-    #[cold]
-    #[inline(never)]
-    fn fault_of(&self, text: &[u8], is_whole: bool) -> NotRead
-    where
-        V::State: Drop,
-        V: Drop,
-        ensures inside { result.at ≤ length text.now }
-    {
-        let mut fields = self.base;
-        let left = match checked_steps(self.plan.steps(), text, &mut fields) {
-            Ok(left) => left,
-            Err(fault) => return fault,
-        };
-        if is_whole && 0 < left {
-            let reason = Reason::End;
-            return not_read(text, Stop { left, reason });
-        }
-        let Some(value) = V::of_fields(&fields, self.kinds) else {
-            return no_value(self.plan.steps(), text, &fields);
-        };
-        let (front, _) = text.split_at(text.len().saturating_sub(left));
-        let at = difference(self.plan, front, &value).unwrap_or(front.len());
-        let reason = Reason::Otherwise;
-        not_read(
-            text,
-            Stop {
-                left: text.len().saturating_sub(at),
-                reason,
-            },
-        )
+        self.reading.read(self, text)
     }
 }

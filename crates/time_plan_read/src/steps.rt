@@ -1,28 +1,30 @@
 //! The steps of a text, one by one.
 ghost use Rattle.std.specs.Prelude.{◌≤◌, IfErr, length};
 
+use crate::any_step::{LiteralRef, ReadStep, StepParts};
 use crate::behind::has_digits;
 use crate::components::read_component;
 use crate::fault::{NotRead, Reason, Stop, not_read};
 use crate::fields::Fields;
 use crate::names::{after_literal, behind};
 use crate::runs::{read_date, read_time, stop_of_run};
-use time_plan::{Literal, Run, Shown, Step};
+use time_plan::{Run, Shown};
 
 /// Reads the steps in order into the fields, and returns what follows them.
 ///
 /// No step tells what is wrong with a text, and numbers of so many digits take any bytes:
 /// `checked_steps` tells what is wrong, once the text of the value was another one.
 #[inline(always)]
-pub(crate) fn read_steps<'a>(
-    steps: &[Step],
+pub(crate) fn read_steps<'a, T: ReadStep>(
+    steps: &[T],
+    texts: &[u8],
     text: &'a [u8],
     fields: &mut Fields,
 ) -> Option<&'a [u8]> {
     let mut left = text;
     let mut steps_left = steps;
     'steps: while let [step, others @ ..] = steps_left {
-        left = read_step(step, others, left, fields)?;
+        left = read_step(step, others, texts, left, fields)?;
         steps_left = others;
     }
     Some(left)
@@ -31,8 +33,9 @@ pub(crate) fn read_steps<'a>(
 /// The same, and how many bytes are left, or the first place where the text is none of the steps.
 #[cold]
 #[inline(never)]
-pub(crate) fn checked_steps(
-    steps: &[Step],
+pub(crate) fn checked_steps<T: ReadStep>(
+    steps: &[T],
+    texts: &[u8],
     text: &[u8],
     fields: &mut Fields,
 ) -> Result<usize, NotRead>
@@ -41,7 +44,7 @@ pub(crate) fn checked_steps(
     let mut left = text;
     let mut steps_left = steps;
     'steps: while let [step, others @ ..] = steps_left {
-        match checked_step(step, others, left, fields) {
+        match checked_step(step, others, texts, left, fields) {
             Ok(rest) => left = rest,
             Err(stop) => return Err(not_read(text, stop)),
         }
@@ -52,21 +55,30 @@ pub(crate) fn checked_steps(
 
 /// Reads what a step shows into the fields, and its literal, and returns what follows them.
 #[inline(always)]
-fn read_step<'a>(
-    step: &Step,
-    others: &[Step],
+fn read_step<'a, T: ReadStep>(
+    step: &T,
+    others: &[T],
+    texts: &[u8],
     text: &'a [u8],
     fields: &mut Fields,
 ) -> Option<&'a [u8]> {
-    let count = read_shown(step, others, text, fields)?;
-    after_literal(behind(text, count)?, &step.literal)
+    let parts = step.parts(texts);
+    let count = read_shown(&parts.shown, step, others, texts, text, fields)?;
+    after_literal(behind(text, count)?, parts.literal)
 }
 
 /// Reads what a step shows into the fields, and returns how many bytes that has.
 #[inline(always)]
-fn read_shown(step: &Step, others: &[Step], text: &[u8], fields: &mut Fields) -> Option<usize> {
-    match &step.shown {
-        Shown::Component(component) => read_component(component, step, others, text, fields),
+fn read_shown<T: ReadStep>(
+    shown: &Shown,
+    step: &T,
+    others: &[T],
+    texts: &[u8],
+    text: &[u8],
+    fields: &mut Fields,
+) -> Option<usize> {
+    match shown {
+        Shown::Component(component) => read_component(component, step, others, texts, text, fields),
         Shown::Run(Run::Empty) => Some(0),
         Shown::Run(Run::Time(_)) => read_time(text, fields),
         Shown::Run(Run::Date(_)) => read_date(text, fields),
@@ -75,22 +87,24 @@ fn read_shown(step: &Step, others: &[Step], text: &[u8], fields: &mut Fields) ->
 
 /// Reads a step as `read_step` does, or tells where the text is none of it.
 #[inline(never)]
-pub(crate) fn checked_step<'a>(
-    step: &Step,
-    others: &[Step],
+pub(crate) fn checked_step<'a, T: ReadStep>(
+    step: &T,
+    others: &[T],
+    texts: &[u8],
     text: &'a [u8],
     fields: &mut Fields,
 ) -> Result<&'a [u8], Stop> {
-    if let Some(stop) = stop_of_digits(&step.shown, text) {
+    let StepParts { shown, literal } = step.parts(texts);
+    if let Some(stop) = stop_of_digits(&shown, text) {
         return Err(stop);
     }
-    let read = read_shown(step, others, text, fields);
+    let read = read_shown(&shown, step, others, texts, text, fields);
     let Some(rest) = read.and_then(|count| behind(text, count)) else {
-        return Err(stop_of_shown(&step.shown, text));
+        return Err(stop_of_shown(&shown, text));
     };
-    match after_literal(rest, &step.literal) {
+    match after_literal(rest, literal) {
         Some(rest) => Ok(rest),
-        None => Err(stop_of_literal(&step.literal, rest)),
+        None => Err(stop_of_literal(literal, rest)),
     }
 }
 
@@ -116,15 +130,15 @@ fn stop_of_shown(shown: &Shown, text: &[u8]) -> Stop {
 }
 
 /// Where a text does not go on by a literal.
-fn stop_of_literal(literal: &Literal, text: &[u8]) -> Stop {
+fn stop_of_literal(literal: LiteralRef<'_>, text: &[u8]) -> Stop {
     let bytes = match literal {
-        Literal::Byte(byte) => {
+        LiteralRef::Byte(byte) => {
             return Stop {
                 left: text.len(),
-                reason: Reason::Literal(*byte),
+                reason: Reason::Literal(byte),
             };
         }
-        Literal::Bytes(bytes) => bytes.as_slice(),
+        LiteralRef::Bytes(bytes) => bytes,
     };
     let mut left = text;
     for byte in bytes {

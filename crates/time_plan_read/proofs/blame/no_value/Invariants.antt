@@ -2,4 +2,4 @@ use Rattle.std.proofs.Common.{length}
 use Rattle.time_plan_read.proofs.blame.no_value.Given as goal
 
 abbrev pub decreases-steps : goal.decreases-steps
-decreases-steps l = length l.steps_left
+decreases-steps g l = length l.steps_left

@@ -1,0 +1,129 @@
+//! Reading the texts of a description.
+ghost use Rattle.std.specs.Prelude.{◌≡◌, ◌≤◌, ◌++◌, IfErr, IfOk, IfSome, length};
+ghost use Rattle.time_fmt.specs.Outcome.{done};
+ghost use Rattle.time_plan_read.specs.Front.{BeginsWith};
+
+use crate::blame::no_value;
+use crate::described::Described;
+use crate::fault::{NotRead, Reason, Stop, not_read};
+use crate::fields::Fields;
+use crate::kinds::Kinds;
+use crate::steps::{checked_steps, read_steps};
+use crate::values::Readable;
+use std::marker::PhantomData;
+use time_fmt::ComponentProvider;
+
+/// Which components of a type's values are read, and the numbers that complete them.
+#[derive(Drop)]
+pub(crate) struct Reading<V> {
+    kinds: Kinds,
+    base: Fields,
+    value: PhantomData<V>,
+}
+
+impl<V: Readable> Reading<V> {
+    /// The reading of these components, which are completed by these numbers.
+    pub(crate) fn new(kinds: Kinds, base: Fields) -> Reading<V> {
+        Reading {
+            kinds,
+            base,
+            value: PhantomData,
+        }
+    }
+
+    /// The value that is written as this text, or the first fault of the text.
+    #[inline(always)]
+    pub(crate) fn read<D: Described>(&self, described: &D, text: &[u8]) -> Result<V, NotRead>
+    where
+        V::State: Drop,
+        V: Drop,
+        ensures written { IfOk result (λ value.
+            D.outcome_of described.now (V.facts value) ≡ done text.now) }
+        ensures inside { IfErr result (λ fault. fault.at ≤ length text.now) }
+    {
+        let mut fields = self.base;
+        match read_steps(described.steps(), described.texts(), text, &mut fields) {
+            Some([]) => match self.value_of(described, text, &fields) {
+                Some(value) => Ok(value),
+                None => Err(self.fault_of(described, text, true)),
+            },
+            _ => Err(self.fault_of(described, text, true)),
+        }
+    }
+
+    /// The value that is written as the front of this text, and the rest of the text, or the
+    /// first fault.
+    ///
+    /// A number takes all digits that stand there and that it can have.
+    pub(crate) fn read_front<'t, D: Described>(
+        &self,
+        described: &D,
+        text: &'t [u8],
+    ) -> Result<(V, &'t [u8]), NotRead>
+    where
+        V::State: Drop,
+        V: Drop,
+        ensures written { IfOk result (λ read. BeginsWith
+            (D.outcome_of described.now (V.facts read.0)) text.now read.1.now) }
+        ensures inside { IfErr result (λ fault. fault.at ≤ length text.now) }
+    {
+        let mut fields = self.base;
+        let Some(left) = read_steps(described.steps(), described.texts(), text, &mut fields) else {
+            return Err(self.fault_of(described, text, false));
+        };
+        let (front, rest) = text.split_at(text.len().saturating_sub(left.len()));
+        match self.value_of(described, front, &fields) {
+            Some(value) => Ok((value, rest)),
+            None => Err(self.fault_of(described, text, false)),
+        }
+    }
+
+    /// The value of the numbers that were read of a text, if the plan writes it so.
+    #[inline(always)]
+    fn value_of<D: Described>(&self, described: &D, text: &[u8], fields: &Fields) -> Option<V>
+    where
+        V::State: Drop,
+        V: Drop,
+        ensures written { IfSome result (λ value.
+            D.outcome_of described.now (V.facts value) ≡ done text.now) }
+    {
+        let value = V::of_fields(fields, self.kinds)?;
+        match described.difference(text, &value) {
+            None => Some(value),
+            Some(_) => None,
+        }
+    }
+
+    /// The first fault of a text that is not read, which is to be read to its end or at its front.
+    #[cold]
+    #[inline(never)]
+    fn fault_of<D: Described>(&self, described: &D, text: &[u8], is_whole: bool) -> NotRead
+    where
+        V::State: Drop,
+        V: Drop,
+        ensures inside { result.at ≤ length text.now }
+    {
+        let mut fields = self.base;
+        let left = match checked_steps(described.steps(), described.texts(), text, &mut fields) {
+            Ok(left) => left,
+            Err(fault) => return fault,
+        };
+        if is_whole && 0 < left {
+            let reason = Reason::End;
+            return not_read(text, Stop { left, reason });
+        }
+        let Some(value) = V::of_fields(&fields, self.kinds) else {
+            return no_value(described.steps(), described.texts(), text, &fields);
+        };
+        let (front, _) = text.split_at(text.len().saturating_sub(left));
+        let at = described.difference(front, &value).unwrap_or(front.len());
+        let reason = Reason::Otherwise;
+        not_read(
+            text,
+            Stop {
+                left: text.len().saturating_sub(at),
+                reason,
+            },
+        )
+    }
+}
