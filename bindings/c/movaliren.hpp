@@ -349,6 +349,24 @@ inline reading<movaliren_moment> read_rfc3339_local(std::string_view text, profi
     });
 }
 
+// Reads a text of RFC 2822, or leniently a date of mail or of a feed, as a moment in UTC.
+inline reading<movaliren_utc_moment> read_rfc2822(std::string_view text, profile by = profile::strict)
+{
+    return reading<movaliren_utc_moment>([text, by](movaliren_utc_moment *moment, movaliren_read_error *error) {
+        return by == profile::strict ? movaliren_read_rfc2822_utc(text.data(), text.size(), moment, error)
+                                     : movaliren_read_rfc2822_lenient_utc(text.data(), text.size(), moment, error);
+    });
+}
+
+// Reads a text of RFC 2822, or leniently a date of mail or of a feed, as a local date and time with its offset.
+inline reading<movaliren_moment> read_rfc2822_local(std::string_view text, profile by = profile::strict)
+{
+    return reading<movaliren_moment>([text, by](movaliren_moment *moment, movaliren_read_error *error) {
+        return by == profile::strict ? movaliren_read_rfc2822(text.data(), text.size(), moment, error)
+                                     : movaliren_read_rfc2822_lenient(text.data(), text.size(), moment, error);
+    });
+}
+
 // A text is no description: what is wrong, and at which byte. what() says both.
 class invalid_description : public std::system_error {
 public:

@@ -460,6 +460,8 @@ static void try_nothing(void)
     expect_true(movaliren_parse_strerror_r(1, NULL, 0) == too_small, "parse_strerror_r", "written");
     expect_true(movaliren_read_rfc3339(NULL, 0, &moment, &read_error) == MOVALIREN_ERROR_NOT_READ && read_error.at == 0, "read_rfc3339", "read");
     expect_true(movaliren_read_rfc3339_lenient_utc(NULL, 0, &utc, &read_error) == MOVALIREN_ERROR_NOT_READ, "read_rfc3339_lenient_utc", "read");
+    expect_true(movaliren_read_rfc2822(NULL, 0, &moment, &read_error) == MOVALIREN_ERROR_NOT_READ && read_error.at == 0, "read_rfc2822", "read");
+    expect_true(movaliren_read_rfc2822_lenient_utc(NULL, 0, &utc, &read_error) == MOVALIREN_ERROR_NOT_READ && read_error.at == 0, "read_rfc2822_lenient_utc", "read");
     expect_true(movaliren_rfc3339_batch(NULL, 0, '\n', NULL, 0).error == 0, "rfc3339_batch", "refused");
     expect_true(movaliren_rfc3339_batch(&mail, 1, '\n', NULL, 0).error == too_small, "rfc3339_batch", "written");
     expect_true(movaliren_stamp_utc_batch(NULL, 0, '\n', NULL, 0).error == 0, "stamp_utc_batch", "refused");

@@ -465,7 +465,7 @@ static PyObject *raise_not_read(const struct movaliren_read_error *error)
 static PyObject *zone_of(const struct movaliren_moment *m)
 {
     PyObject *delta, *zone;
-    const int seconds = m->offset_hours * 3600 + m->offset_minutes * 60;
+    const int seconds = m->offset_hours * 3600 + m->offset_minutes * 60 + m->offset_seconds;
     if (seconds == 0)
         return Py_NewRef(utc);
     if (!(delta = PyObject_CallFunction(timedelta_type, "ii", 0, seconds)))
@@ -483,46 +483,87 @@ static int take_text(PyObject *args, PyObject *named, const char **text, Py_ssiz
     return PyArg_ParseTupleAndKeywords(args, named, "s#|p", names, text, len, is_lenient) ? 0 : -1;
 }
 
-static PyObject *read_rfc3339(PyObject *module, PyObject *args, PyObject *named)
+/* The calls that read a text strictly and leniently, into the parts of a moment and into seconds. */
+struct reader {
+    ptrdiff_t (*by_parts[2])(const void *, size_t, struct movaliren_moment *, struct movaliren_read_error *);
+    ptrdiff_t (*in_utc[2])(const void *, size_t, struct movaliren_utc_moment *, struct movaliren_read_error *);
+    const char *name_at;
+};
+
+static const struct reader of_rfc3339 = { { movaliren_read_rfc3339, movaliren_read_rfc3339_lenient },
+    { movaliren_read_rfc3339_utc, movaliren_read_rfc3339_lenient_utc }, "read_rfc3339_at" };
+static const struct reader of_rfc2822 = { { movaliren_read_rfc2822, movaliren_read_rfc2822_lenient },
+    { movaliren_read_rfc2822_utc, movaliren_read_rfc2822_lenient_utc }, "read_rfc2822_at" };
+
+/* The datetime of these parts. The call of this name returns the nanosecond. */
+static PyObject *datetime_of(const struct movaliren_moment *m, const char *name_at)
+{
+    PyObject *zone, *moment;
+    if (m->nanosecond % 1000 != 0)
+        return PyErr_Format(PyExc_ValueError, "a datetime has microseconds alone: %s returns the nanosecond", name_at);
+    if (!(zone = zone_of(m)))
+        return NULL;
+    moment = PyObject_CallFunction(datetime_type, "iiiiiiiO", (int)m->year, m->month, m->day, m->hour, m->minute,
+        m->second, (int)(m->nanosecond / 1000), zone);
+    Py_DECREF(zone);
+    return moment;
+}
+
+static PyObject *pair_of(const struct movaliren_utc_moment *m)
+{
+    return Py_BuildValue("(LI)", (long long)m->seconds, (unsigned)m->nanosecond);
+}
+
+static PyObject *read_by(const struct reader *reader, PyObject *args, PyObject *named)
 {
     const char *text;
     Py_ssize_t len;
     int is_lenient;
     struct movaliren_moment m;
     struct movaliren_read_error error;
-    PyObject *zone, *moment;
-    (void)module;
     if (take_text(args, named, &text, &len, &is_lenient) != 0)
         return NULL;
-    if ((is_lenient ? movaliren_read_rfc3339_lenient(text, (size_t)len, &m, &error)
-                    : movaliren_read_rfc3339(text, (size_t)len, &m, &error)) < 0)
+    if (reader->by_parts[is_lenient](text, (size_t)len, &m, &error) < 0)
         return raise_not_read(&error);
-    if (m.nanosecond % 1000 != 0) {
-        PyErr_SetString(PyExc_ValueError, "a datetime has microseconds alone: read_rfc3339_at returns the nanosecond");
-        return NULL;
-    }
-    if (!(zone = zone_of(&m)))
-        return NULL;
-    moment = PyObject_CallFunction(datetime_type, "iiiiiiiO", (int)m.year, m.month, m.day, m.hour, m.minute, m.second,
-        (int)(m.nanosecond / 1000), zone);
-    Py_DECREF(zone);
-    return moment;
+    return datetime_of(&m, reader->name_at);
 }
 
-static PyObject *read_rfc3339_at(PyObject *module, PyObject *args, PyObject *named)
+static PyObject *read_at_by(const struct reader *reader, PyObject *args, PyObject *named)
 {
     const char *text;
     Py_ssize_t len;
     int is_lenient;
     struct movaliren_utc_moment m;
     struct movaliren_read_error error;
-    (void)module;
     if (take_text(args, named, &text, &len, &is_lenient) != 0)
         return NULL;
-    if ((is_lenient ? movaliren_read_rfc3339_lenient_utc(text, (size_t)len, &m, &error)
-                    : movaliren_read_rfc3339_utc(text, (size_t)len, &m, &error)) < 0)
+    if (reader->in_utc[is_lenient](text, (size_t)len, &m, &error) < 0)
         return raise_not_read(&error);
-    return Py_BuildValue("(LI)", (long long)m.seconds, (unsigned)m.nanosecond);
+    return pair_of(&m);
+}
+
+static PyObject *read_rfc3339(PyObject *module, PyObject *args, PyObject *named)
+{
+    (void)module;
+    return read_by(&of_rfc3339, args, named);
+}
+
+static PyObject *read_rfc3339_at(PyObject *module, PyObject *args, PyObject *named)
+{
+    (void)module;
+    return read_at_by(&of_rfc3339, args, named);
+}
+
+static PyObject *read_rfc2822(PyObject *module, PyObject *args, PyObject *named)
+{
+    (void)module;
+    return read_by(&of_rfc2822, args, named);
+}
+
+static PyObject *read_rfc2822_at(PyObject *module, PyObject *args, PyObject *named)
+{
+    (void)module;
+    return read_at_by(&of_rfc2822, args, named);
 }
 
 /* ---- descriptions */
@@ -695,6 +736,8 @@ static PyMethodDef functions[] = {
     { "iso8601_lines", WITH_NAMES(iso8601_lines), "The lines of a column of moments." },
     { "read_rfc3339", WITH_NAMES(read_rfc3339), "The datetime that a text of RFC 3339 means." },
     { "read_rfc3339_at", WITH_NAMES(read_rfc3339_at), "Its seconds since 1970 and its nanosecond." },
+    { "read_rfc2822", WITH_NAMES(read_rfc2822), "The datetime that a text of RFC 2822 means, or leniently one of mail or a feed." },
+    { "read_rfc2822_at", WITH_NAMES(read_rfc2822_at), "Its seconds since 1970, and the nanosecond 0." },
     { "library_version", library_version, METH_NOARGS, "The version of the library, as 100 for 0.1.0." },
     { NULL, NULL, 0, NULL },
 };

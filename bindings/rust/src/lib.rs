@@ -1,5 +1,5 @@
 //! Dates and times as text, by Movaliren's proved formatter: RFC 3339, RFC 2822, ISO 8601, stamps that
-//! sort, and descriptions.
+//! sort, and descriptions; and texts, read back.
 //!
 //! ```
 //! use movaliren::{Format, Moment, Rfc3339, UtcMoment};
