@@ -39,7 +39,8 @@ PLACES = [
     ("config.rt", r".*", r"\d+(?= => Ok)|(?<=Ok\()(?:\w+::\w+|true|false)"),
     ("*.rt", STRUCT, rf"\w+(?=: )|{TYPE}"),
     ("place.rt", r"let \(expected,.*?\};", r"(?<=Expected::)\w+|(?<=MailPart::)\w+|(?<==> \()\d+"),
-    ("raw.rs", r"^fn expected.*?^\}", r"\d+(?= => )|(?<=Expected::)\w+"),
+    ("items.rt", r"let \(expected,.*?\};", r"(?<=Fault::)\w+|(?<==> \()\d+"),
+    ("raw.rs", r"^fn expected.*?^\}", r"\d+(?= => )|(?<=Expected::)(?!End, )\w+"),
 ]
 
 

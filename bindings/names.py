@@ -259,11 +259,11 @@ class Interfaces:
         """What could have come in a text, by its number. The end stands in the Rust crate for any other number, and the name
         of a month or a weekday has two numbers. In mail a mark is a byte."""
         header = self.header_numbers("expected")
-        rust = {words(name): int(number) for number, name in findall(r"(\d+) => Expected::(\w+)", *self.rust)}
+        rust = {words(name): int(number) for number, name in findall(r"(\d+) => (?:kind_of\(.*?, )?Expected::(\w+)", *self.rust)}
         rust[words(only(r"_ => Expected::(\w+)", *self.rust))] = header["end"]
         self.same("what could have come", header, rust)
-        told = findall(r"(?:Expected|MailPart)::(\w+)(?:\((?:Names::(\w+))?[^=\n]*\))? => \((\d+)", *self.rattle)
-        names = {"nameweekday": "weekdayname", "namemonthwith": "monthname", "comma": "byte", "colon": "byte"}
+        told = findall(r"(?:Expected|MailPart|Fault)::(\w+)(?:\((?:Names::(\w+))?[^=\n]*\))? => \((\d+)", *self.rattle)
+        names = {"nameweekday": "weekdayname", "namemonthwith": "monthname", "comma": "byte", "colon": "byte", "literal": "byte"}
         rattle = [(words(name + kind), int(number)) for name, kind, number in told]
         found = {names.get(name, name): number for name, number in rattle}
         self.same("what could have come, in the code", sorted(header.items()), sorted(found.items()))

@@ -1,8 +1,9 @@
 /* Holds a reader to a file of conformance/: the format's name and the file are the arguments. Each text ends where its
  * memory ends, and then begins where it begins. Each value, and how many bytes are right of each other text, are those of
- * the file. Prints what is wrong, and then ends with status 1. */
+ * the file. By a description the place of a fault is that of its component, and is not compared. Prints what is wrong, and
+ * then ends with status 1. */
 #define _GNU_SOURCE
-#include "movaliren.h"
+#include "movaliren_items.h"
 
 #include <stdio.h>
 #include <stdlib.h>
@@ -16,15 +17,38 @@ typedef ptrdiff_t part_reader(
 typedef ptrdiff_t utc_reader(
     const void *text, size_t text_len, struct movaliren_utc_moment *moment, struct movaliren_read_error *error);
 
+typedef ptrdiff_t parser(const void *text, size_t text_len, struct movaliren_item *items, size_t items_capacity,
+    struct movaliren_parse_error *error);
+
+/* The description of the line that is read. */
+static struct movaliren_item items[64];
+static size_t items_len, texts_len;
+static const char *texts;
+
+static ptrdiff_t by_items(
+    const void *text, size_t text_len, struct movaliren_moment *moment, struct movaliren_read_error *error)
+{
+    return movaliren_items_read(items, items_len, texts, texts_len, text, text_len, moment, error);
+}
+
+static ptrdiff_t by_items_in_utc(
+    const void *text, size_t text_len, struct movaliren_utc_moment *moment, struct movaliren_read_error *error)
+{
+    return movaliren_items_read_utc(items, items_len, texts, texts_len, text, text_len, moment, error);
+}
+
 static const struct {
     const char *name;
     part_reader *by_parts;
     utc_reader *in_utc;
+    parser *parse; /* of the descriptions in the first column, if there are any */
 } readers[] = {
-    { "rfc3339", movaliren_read_rfc3339, movaliren_read_rfc3339_utc },
-    { "rfc3339-lenient", movaliren_read_rfc3339_lenient, movaliren_read_rfc3339_lenient_utc },
-    { "rfc2822", movaliren_read_rfc2822, movaliren_read_rfc2822_utc },
-    { "mail", movaliren_read_rfc2822_lenient, movaliren_read_rfc2822_lenient_utc },
+    { "rfc3339", movaliren_read_rfc3339, movaliren_read_rfc3339_utc, NULL },
+    { "rfc3339-lenient", movaliren_read_rfc3339_lenient, movaliren_read_rfc3339_lenient_utc, NULL },
+    { "rfc2822", movaliren_read_rfc2822, movaliren_read_rfc2822_utc, NULL },
+    { "mail", movaliren_read_rfc2822_lenient, movaliren_read_rfc2822_lenient_utc, NULL },
+    { "strftime", by_items, by_items_in_utc, movaliren_items_parse_strftime },
+    { "brackets", by_items, by_items_in_utc, movaliren_items_parse },
 };
 
 /* Memory between two pages that nothing may touch. */
@@ -63,31 +87,46 @@ static long offset_of(const struct movaliren_moment *m)
     return m->offset_hours * 3600L + m->offset_minutes * 60L + m->offset_seconds;
 }
 
-/* Whether a text of this place is read as the value, or refused there. */
+/* Whether a text of this place is read as the value, or refused there. Texts without an offset are in UTC. */
 static int is_held(size_t reader, const char *text, size_t len, const char *wanted)
 {
     char answer[100];
-    struct movaliren_moment moment;
+    struct movaliren_moment moment = { 0, 0, 0, 0, 0, 0, 0, 0, 0, 0 };
     struct movaliren_utc_moment utc = { 0, 0 };
     struct movaliren_read_error error = { 0, 0, 0, 0, 0, 0 }, same = error;
     const ptrdiff_t by_parts = readers[reader].by_parts(text, len, &moment, &error);
     const ptrdiff_t in_utc = readers[reader].in_utc(text, len, &utc, &same);
-    if (by_parts == 0)
+    const int is_alone = readers[reader].parse && by_parts == MOVALIREN_ERROR_UNDETERMINED;
+    if (in_utc == 0)
         snprintf(answer, sizeof answer, "%lld %lu %ld", (long long)utc.seconds, (unsigned long)utc.nanosecond, offset_of(&moment));
     else
-        snprintf(answer, sizeof answer, "%zu", error.at);
-    if (by_parts == in_utc && error.at == same.at && (by_parts == 0 || by_parts == MOVALIREN_ERROR_NOT_READ)
-        && strcmp(answer, wanted) == 0)
+        snprintf(answer, sizeof answer, "%zu", same.at);
+    if ((is_alone || (by_parts == in_utc && error.at == same.at)) && (in_utc == 0 || in_utc == MOVALIREN_ERROR_NOT_READ)
+        && (strcmp(answer, wanted) == 0 || (readers[reader].parse && in_utc < 0 && same.at <= len && !strchr(wanted, ' '))))
         return 1;
     printf("%s: %.*s: %s, not %s\n", readers[reader].name, (int)len, text, answer, wanted);
     return 0;
+}
+
+/* Reads the description that stands in front of a line, and returns what follows it. */
+static const char *after_description(size_t reader, const char *line)
+{
+    struct movaliren_parse_error error;
+    ptrdiff_t count;
+    if (!readers[reader].parse)
+        return line;
+    texts = line;
+    texts_len = strcspn(line, "\t");
+    count = readers[reader].parse(texts, texts_len, items, 64, &error);
+    items_len = count < 0 ? 0 : (size_t)count;
+    return line + texts_len + 1;
 }
 
 /* Whether a line of the file is held at both ends of the memory. */
 static int is_line_held(size_t reader, const char *line)
 {
     static char text[LINE];
-    const char *from = strchr(line, '\t') + 1, *end = strchr(from, '\t'), *rule = strchr(end + 1, '\t');
+    const char *from = strchr(after_description(reader, line), '\t') + 1, *end = strchr(from, '\t'), *rule = strchr(end + 1, '\t');
     const size_t len = text_of(from, end, text);
     char wanted[100];
     snprintf(wanted, sizeof wanted, "%.*s", (int)(rule - end - 1), end + 1);
@@ -111,7 +150,7 @@ int main(int argc, char **argv)
 {
     static char line[LINE];
     size_t reader = 0;
-    long texts = 0, wrong = 0;
+    long count = 0, wrong = 0;
     FILE *file = argc == 3 ? fopen(argv[2], "r") : NULL;
     while (reader < sizeof readers / sizeof *readers && argc == 3 && strcmp(readers[reader].name, argv[1]) != 0)
         reader++;
@@ -119,10 +158,10 @@ int main(int argc, char **argv)
         return 2;
     while (fgets(line, sizeof line, file))
         if (strncmp(line, "# ", 2) != 0) {
-            texts++;
+            count++;
             wrong += !is_line_held(reader, line);
         }
     fclose(file);
-    printf("%s: %ld texts, %ld wrong\n", argv[1], texts, wrong);
-    return wrong != 0 || texts == 0;
+    printf("%s: %ld texts, %ld wrong\n", argv[1], count, wrong);
+    return wrong != 0 || count == 0;
 }

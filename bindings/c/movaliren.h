@@ -26,7 +26,8 @@
  *
  * A call takes at most so many bytes of the stack, as the program stack.c measures: 512 for RFC 3339 and RFC 2822; 1,024 for
  * ISO 8601, a stamp, the time of a log line, and reading; 2,048 for reading a description, and a text by it; 4,096 for a text
- * by a description that is read for it. The messages of errors take what sprintf does.
+ * by a description that is read for it, and for reading a text by a description. The messages of errors take what sprintf
+ * does.
  *
  * A pointer to a buffer, a text or an array may be null where its length is 0. Other pointers must not be null, as the
  * compiler is told. No length may be more than its array has, and no array may have more than PTRDIFF_MAX bytes. What
@@ -119,7 +120,8 @@ enum movaliren_error {
     MOVALIREN_ERROR_BUFFER_TOO_SMALL = -20,
     MOVALIREN_ERROR_NOT_READ = -23,
     MOVALIREN_ERROR_BAD_DESCRIPTION = -24,
-    MOVALIREN_ERROR_MANY_ITEMS = -25
+    MOVALIREN_ERROR_MANY_ITEMS = -25,
+    MOVALIREN_ERROR_UNDETERMINED = -26
 };
 
 /* The version of the library that the program runs with, as a number like MOVALIREN_VERSION_NUMBER. */
@@ -180,6 +182,8 @@ MOVALIREN_INLINE_ const char *movaliren_strerror(ptrdiff_t error)
         return "the text is not a description";
     case MOVALIREN_ERROR_MANY_ITEMS:
         return "the description has more items than there is room for";
+    case MOVALIREN_ERROR_UNDETERMINED:
+        return "the texts do not determine a moment";
     default:
         return error < 0 ? "unknown error" : "no error";
     }
@@ -402,12 +406,15 @@ enum movaliren_expected {
     MOVALIREN_EXPECTED_SECOND = 20,         /* a second from 00 to 60 */
     MOVALIREN_EXPECTED_ZONE = 21,           /* a zone that has a meaning */
     MOVALIREN_EXPECTED_SPACE = 22,          /* white space or a comment */
-    MOVALIREN_EXPECTED_COMMENT_END = 23     /* the end of a comment */
+    MOVALIREN_EXPECTED_COMMENT_END = 23,    /* the end of a comment */
+    MOVALIREN_EXPECTED_COMPONENT = 24,      /* the text of a component, of the movaliren_kind `first` */
+    MOVALIREN_EXPECTED_NO_VALUE = 25,       /* another number of this component: no moment has that one, as February 31 */
+    MOVALIREN_EXPECTED_OTHERWISE = 26       /* what the description writes of the moment, as another weekday */
 };
 
 /* Where a text could not be read: the first byte with which no text of the format goes on, or the end of a
- * text that is too short. Each byte that could have come there is named. The calls whose names have rfc2822_lenient name
- * the part that could have come instead, and where it should begin. */
+ * text that is too short. Each byte that could have come there is named. The calls whose names have rfc2822_lenient, and
+ * those by a description, name the part that could have come instead, and where it should begin. */
 struct movaliren_read_error {
     size_t at;            /* the number of bytes that are right */
     uint8_t expected;     /* movaliren_expected: what could have come after them */
@@ -603,6 +610,14 @@ ptrdiff_t movaliren_items_parse(const void *text, size_t text_len, struct movali
 ptrdiff_t movaliren_items_parse_strftime(const void *text, size_t text_len,
     struct movaliren_item *items, size_t items_capacity, struct movaliren_parse_error *error)
     MOVALIREN_NONNULL_(5) MOVALIREN_CHECKED_;
+ptrdiff_t movaliren_items_read(const struct movaliren_item *items, size_t items_len,
+    const void *texts, size_t texts_len, const void *text, size_t text_len,
+    struct movaliren_moment *moment, struct movaliren_read_error *error) MOVALIREN_NONNULL_(7)
+    MOVALIREN_NONNULL_(8) MOVALIREN_CHECKED_;
+ptrdiff_t movaliren_items_read_utc(const struct movaliren_item *items, size_t items_len,
+    const void *texts, size_t texts_len, const void *text, size_t text_len,
+    struct movaliren_utc_moment *moment, struct movaliren_read_error *error) MOVALIREN_NONNULL_(7)
+    MOVALIREN_NONNULL_(8) MOVALIREN_CHECKED_;
 ptrdiff_t movaliren_parse_strerror_r(uint8_t kind, void *buffer, size_t buffer_size);
 
 /* ---- calls of a description */
@@ -772,6 +787,30 @@ MOVALIREN_INLINE_ ptrdiff_t movaliren_description_format_date_length(
             description->texts, description->texts_len, year, month, day);
 }
 
+/* Reads a text that the description writes of a moment. Nothing else is read: a text with another weekday than that of its
+ * date, or with zeros or spaces that the description does not write, is MOVALIREN_ERROR_NOT_READ, and the error says where.
+ * What no text shows of a time of day or of an offset behind the last part that is shown is zero. movaliren_description_read
+ * takes a description of a date or of Unix time, with a time of day and an offset. The call that ends in _utc also takes
+ * one without an offset, whose texts are then in UTC. Any other description is MOVALIREN_ERROR_UNDETERMINED, and so is one
+ * with a number of no certain width before another one, as %-d%-m. The error is unchanged then, as where a text is read. */
+MOVALIREN_INLINE_ MOVALIREN_CHECKED_ ptrdiff_t movaliren_description_read(
+    const struct movaliren_description *description, const void *text, size_t text_len,
+    struct movaliren_moment *moment, struct movaliren_read_error *error)
+{
+    return description->error ? description->error
+                               : movaliren_items_read(description->items, description->items_len,
+                                   description->texts, description->texts_len, text, text_len, moment, error);
+}
+
+MOVALIREN_INLINE_ MOVALIREN_CHECKED_ ptrdiff_t movaliren_description_read_utc(
+    const struct movaliren_description *description, const void *text, size_t text_len,
+    struct movaliren_utc_moment *moment, struct movaliren_read_error *error)
+{
+    return description->error ? description->error
+                               : movaliren_items_read_utc(description->items, description->items_len,
+                                   description->texts, description->texts_len, text, text_len, moment, error);
+}
+
 /* What movaliren_items_max_length returns of its items. */
 MOVALIREN_INLINE_ ptrdiff_t movaliren_description_max_length(const struct movaliren_description *description)
 {
@@ -866,11 +905,24 @@ MOVALIREN_INLINE_ int movaliren_said_name_(const struct movaliren_read_error *er
  * which has MOVALIREN_READ_MESSAGE_SIZE bytes. */
 MOVALIREN_INLINE_ const char *movaliren_read_error_message(const struct movaliren_read_error *error, char *buffer)
 {
+    static const char *const first[] = { "expected ", "no value has this ", "the value is written otherwise from here on" };
+    static const char *const kinds[] = {
+        "", "[day]", "[month repr:short]", "[month repr:long]", "[month]", "[ordinal]",
+        "[weekday repr:short]", "[weekday]", "[weekday repr:sunday]", "[weekday repr:monday]",
+        "[week_number]", "[week_number repr:sunday]", "[week_number repr:monday]", "[year]",
+        "[year]", "[year repr:century]", "[year repr:century]", "[year repr:last_two]",
+        "[year base:iso_week]", "[year base:iso_week]", "[year base:iso_week repr:century]",
+        "[year base:iso_week repr:century]", "[year base:iso_week repr:last_two]", "[hour repr:12]",
+        "[hour]", "[minute]", "[period]", "[second]", "[subsecond]", "[offset_hour]",
+        "[offset_minute]", "[offset_second]", "[unix_timestamp]",
+        "[unix_timestamp precision:millisecond]"
+    };
     static const char *const parts[] = { "the name of a weekday, or a day", "a day from 1 to 31",
         "the name of a month", "a year from 1900 on", "a day that this month has", "an hour from 00 to 23",
         "a minute from 00 to 59", "a second from 00 to 60", "a zone that has a meaning", "white space or a comment",
         "the end of a comment" };
-    char *rest = buffer + sprintf(buffer, "byte %lu: expected ", MOVALIREN_CAST_(unsigned long, error->at));
+    const int how = error->expected <= MOVALIREN_EXPECTED_COMPONENT ? 0 : error->expected - MOVALIREN_EXPECTED_COMPONENT;
+    char *rest = buffer + sprintf(buffer, "byte %lu: %s", MOVALIREN_CAST_(unsigned long, error->at), first[how % 3]);
     switch (error->expected) {
     case MOVALIREN_EXPECTED_DIGIT:
     case MOVALIREN_EXPECTED_EACH_FOURTH:
@@ -892,6 +944,12 @@ MOVALIREN_INLINE_ const char *movaliren_read_error_message(const struct movalire
     case MOVALIREN_EXPECTED_MONTH_NAME:
     case MOVALIREN_EXPECTED_WEEKDAY:
         rest += movaliren_said_name_(error, rest);
+        break;
+    case MOVALIREN_EXPECTED_COMPONENT:
+    case MOVALIREN_EXPECTED_NO_VALUE:
+        rest += sprintf(rest, "%s", kinds[error->first % (sizeof kinds / sizeof *kinds)]);
+        break;
+    case MOVALIREN_EXPECTED_OTHERWISE:
         break;
     default:
         if (MOVALIREN_EXPECTED_WEEKDAY_OR_DAY <= error->expected && error->expected <= MOVALIREN_EXPECTED_COMMENT_END)

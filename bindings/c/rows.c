@@ -610,8 +610,8 @@ static ptrdiff_t error_words(
 /* The words of the library are those of the header. */
 static void try_words(void)
 {
-    const ptrdiff_t others[] = { PTRDIFF_MIN, MOVALIREN_ERROR_MANY_ITEMS - 1, 0, 1, PTRDIFF_MAX };
-    for (ptrdiff_t reason = MOVALIREN_ERROR_MANY_ITEMS; reason < 0; reason++) {
+    const ptrdiff_t others[] = { PTRDIFF_MIN, MOVALIREN_ERROR_UNDETERMINED - 1, 0, 1, PTRDIFF_MAX };
+    for (ptrdiff_t reason = MOVALIREN_ERROR_UNDETERMINED; reason < 0; reason++) {
         expect_text(error_words, 0, &reason, movaliren_strerror(reason));
         expect_true(strlen(movaliren_strerror(reason)) <= 200, movaliren_strerror(reason), "longer than is said");
     }

@@ -101,6 +101,28 @@ func TestReading(t *testing.T) {
 	}
 }
 
+func TestReadingByADescription(t *testing.T) {
+	for form, text := range map[string]string{
+		"%d/%b/%Y:%H:%M:%S %z": "10/Oct/2000:13:55:36 -0700", "%s": "971211336", "%Y-%m-%d %H:%M:%S": "2000-10-10 20:55:36",
+	} {
+		line, err := ParseStrftime(form)
+		if err != nil {
+			t.Fatal(err)
+		}
+		if moment, err := line.Read(text); err != nil || moment.Unix() != 971211336 {
+			t.Error(form, moment, err)
+		}
+		var wrong *ReadError
+		if _, err := line.Read("Okt"); !errors.As(err, &wrong) || wrong.At != 0 {
+			t.Error(form, err)
+		}
+	}
+	day, _ := ParseDescription("[year]-[month]-[day]")
+	if _, err := day.Read("2000-10-10"); !errors.Is(err, ErrUndetermined) {
+		t.Error(err)
+	}
+}
+
 func TestReadingMail(t *testing.T) {
 	for text, read := range map[string]func(string) (time.Time, error){
 		"Fri, 21 Nov 1997 09:55:06 -0600": ReadRFC2822, "Fri, 21 Nov 1997 09(comment):   55  :  06 -0600": ReadRFC2822Lenient,

@@ -58,14 +58,27 @@ func read(text string, call func(unsafe.Pointer, C.size_t, *C.struct_movaliren_m
 	if len(bytes) > 0 {
 		first = unsafe.Pointer(&bytes[0])
 	}
-	if call(first, C.size_t(len(bytes)), &m, &wrong) < 0 {
-		var said [C.MOVALIREN_READ_MESSAGE_SIZE]C.char
-		C.movaliren_read_error_message(&wrong, &said[0])
-		return time.Time{}, &ReadError{int(wrong.at), C.GoString(&said[0])}
+	if number := call(first, C.size_t(len(bytes)), &m, &wrong); number < 0 {
+		return time.Time{}, unread(number, &wrong)
 	}
+	return timeOf(&m), nil
+}
+
+// The error of a text that is not read.
+func unread(number C.ptrdiff_t, wrong *C.struct_movaliren_read_error) error {
+	if Error(number) != ErrNotRead {
+		return Error(number)
+	}
+	var said [C.MOVALIREN_READ_MESSAGE_SIZE]C.char
+	C.movaliren_read_error_message(wrong, &said[0])
+	return &ReadError{int(wrong.at), C.GoString(&said[0])}
+}
+
+// The time of a moment by its parts, at its offset.
+func timeOf(m *C.struct_movaliren_moment) time.Time {
 	zone := time.UTC
 	if offset := int(m.offset_hours)*3600 + int(m.offset_minutes)*60 + int(m.offset_seconds); offset != 0 {
 		zone = time.FixedZone("", offset)
 	}
-	return time.Date(int(m.year), time.Month(m.month), int(m.day), int(m.hour), int(m.minute), int(m.second), int(m.nanosecond), zone), nil
+	return time.Date(int(m.year), time.Month(m.month), int(m.day), int(m.hour), int(m.minute), int(m.second), int(m.nanosecond), zone)
 }

@@ -12,6 +12,8 @@
     '12 November'
     >>> movaliren.read_rfc3339("1985-04-12T23:20:50.52Z")
     datetime.datetime(1985, 4, 12, 23, 20, 50, 520000, tzinfo=datetime.timezone.utc)
+    >>> movaliren.Description.strftime("%d/%b/%Y:%H:%M:%S %z").read_at("10/Oct/2000:13:55:36 -0700")
+    (971211336, 0)
     >>> movaliren.read_rfc2822("21 Nov 97 09:55:06 GMT", lenient=True)
     datetime.datetime(1997, 11, 21, 9, 55, 6, tzinfo=datetime.timezone.utc)
 

@@ -475,6 +475,12 @@ static PyObject *zone_of(const struct movaliren_moment *m)
     return zone;
 }
 
+/* Raises the error of a text that a description does not read. */
+static PyObject *raise_unread(ptrdiff_t number, const struct movaliren_read_error *error)
+{
+    return number == MOVALIREN_ERROR_NOT_READ ? raise_not_read(error) : raise_number(number);
+}
+
 /* Takes (text, lenient=False). */
 static int take_text(PyObject *args, PyObject *named, const char **text, Py_ssize_t *len, int *is_lenient)
 {
@@ -668,6 +674,59 @@ static PyObject *format_date(PyObject *self, PyObject *date)
     return take_date(date, &v.parts) == 0 ? text_of(&form, &v) : NULL;
 }
 
+/* The datetime in UTC of a moment. */
+static PyObject *datetime_in_utc(const struct movaliren_utc_moment *m)
+{
+    PyObject *epoch, *delta, *moment = NULL;
+    if (m->nanosecond % 1000 != 0)
+        return PyErr_Format(PyExc_ValueError, "a datetime has microseconds alone: read_at returns the nanosecond");
+    epoch = PyObject_CallFunction(datetime_type, "iiiiiiiO", 1970, 1, 1, 0, 0, 0, 0, utc);
+    delta = PyObject_CallFunction(timedelta_type, "iLI", 0, (long long)m->seconds, (unsigned)(m->nanosecond / 1000));
+    if (epoch && delta)
+        moment = PyNumber_Add(epoch, delta);
+    Py_XDECREF(delta);
+    Py_XDECREF(epoch);
+    return moment;
+}
+
+/* Reads a text that has Unix time, or is in UTC. */
+static PyObject *read_in_utc(const struct movaliren_description *own, const char *text, Py_ssize_t len)
+{
+    struct movaliren_utc_moment m;
+    struct movaliren_read_error error;
+    const ptrdiff_t number = movaliren_description_read_utc(own, text, (size_t)len, &m, &error);
+    return number < 0 ? raise_unread(number, &error) : datetime_in_utc(&m);
+}
+
+static PyObject *read_text(PyObject *self, PyObject *given)
+{
+    const struct movaliren_description *own = &((struct description *)self)->own;
+    struct movaliren_moment m;
+    struct movaliren_read_error error;
+    Py_ssize_t len;
+    ptrdiff_t number;
+    const char *text = PyUnicode_AsUTF8AndSize(given, &len);
+    if (!text)
+        return NULL;
+    number = movaliren_description_read(own, text, (size_t)len, &m, &error);
+    if (number == MOVALIREN_ERROR_UNDETERMINED)
+        return read_in_utc(own, text, len);
+    return number < 0 ? raise_unread(number, &error) : datetime_of(&m, "read_at");
+}
+
+static PyObject *read_text_at(PyObject *self, PyObject *given)
+{
+    struct movaliren_utc_moment m;
+    struct movaliren_read_error error;
+    Py_ssize_t len;
+    ptrdiff_t number;
+    const char *text = PyUnicode_AsUTF8AndSize(given, &len);
+    if (!text)
+        return NULL;
+    number = movaliren_description_read_utc(&((struct description *)self)->own, text, (size_t)len, &m, &error);
+    return number < 0 ? raise_unread(number, &error) : pair_of(&m);
+}
+
 static PyObject *lines(PyObject *self, PyObject *args, PyObject *named)
 {
     struct movaliren_lines form = form_of(self);
@@ -693,6 +752,8 @@ static PyMethodDef description_methods[] = {
     { "format", format, METH_O, "The text of a datetime." },
     { "format_at", WITH_NAMES(format_at), "The text of a moment by its seconds since 1970." },
     { "format_date", format_date, METH_O, "The text of a date." },
+    { "read", read_text, METH_O, "The datetime that the description writes as this text. Without an offset it is in UTC." },
+    { "read_at", read_text_at, METH_O, "Its seconds since 1970 and its nanosecond." },
     { "lines", WITH_NAMES(lines), "The lines of a column of moments." },
     { NULL, NULL, 0, NULL },
 };

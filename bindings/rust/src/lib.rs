@@ -71,7 +71,7 @@ pub use log::LogTime;
 pub use moment::{LocalMoment, Moment, UtcMoment};
 pub use parse::{FaultReason, InvalidDescription};
 pub use raw::Read;
-pub use read::{Expected, NotRead};
+pub use read::{Expected, NotRead, Unread};
 pub use text::Text;
 
 /// Returns the version of the library that the program runs with: 10,000 for its first part, 100 for the second,

@@ -5,9 +5,9 @@
 //! `#[repr(C)]`, with the fields of the header in its order. The library keeps no pointer. It writes
 //! bytes of a buffer or leaves them as they were, so none becomes uninitialized.
 use crate::known::{Iso8601, Rfc2822, Rfc2822Local, Rfc3339, Rfc3339Local, Stamp};
-use crate::library::{self, error_of, LogCache, ParseError};
+use crate::library::{self, error_of, kind_of, LogCache, ParseError};
 pub(crate) use crate::library::{Iso8601Config, Item};
-use crate::read::{Expected, NotRead};
+use crate::read::{Expected, NotRead, Unread};
 use crate::{
     Date, Description, Error, Iso8601By, LocalMoment, LogTime, Moment, Progress, UtcMoment,
 };
@@ -395,11 +395,37 @@ pub enum Texts {
 pub trait Read: Default {
     #[doc(hidden)]
     fn read(text: &[u8], texts: Texts, _: Inside) -> Result<Self, NotRead>;
+
+    #[doc(hidden)]
+    fn read_by(description: &Description, text: &[u8], _: Inside) -> Result<Self, Unread>;
 }
 
 macro_rules! reads {
-    ($($moment:ty: $($texts:ident $function:ident),*;)*) => { $(
+    ($($moment:ty: $items_read:ident, $($texts:ident $function:ident),*;)*) => { $(
         impl Read for $moment {
+            fn read_by(description: &Description, text: &[u8], _: Inside) -> Result<Self, Unread> {
+                let (items, texts) = description.parts();
+                let mut moment = <$moment>::default();
+                let mut place = NO_PLACE;
+                // SAFETY: each pointer comes with the length of its slice, and the structs have the header's layout.
+                let answer = unsafe {
+                    library::$items_read(
+                        items.as_ptr(),
+                        items.len(),
+                        texts.as_ptr(),
+                        texts.len(),
+                        text.as_ptr(),
+                        text.len(),
+                        &mut moment,
+                        &mut place,
+                    )
+                };
+                match answer {
+                    0 => Ok(moment),
+                    number => Err(unread(number, &place)),
+                }
+            }
+
             fn read(text: &[u8], texts: Texts, _: Inside) -> Result<Self, NotRead> {
                 let function = match texts {
                     $(Texts::$texts => library::$function,)*
@@ -420,12 +446,12 @@ macro_rules! reads {
 }
 
 reads! {
-    Moment:
+    Moment: movaliren_items_read,
         Rfc3339 movaliren_read_rfc3339,
         Rfc3339Lenient movaliren_read_rfc3339_lenient,
         Rfc2822 movaliren_read_rfc2822,
         Rfc2822Lenient movaliren_read_rfc2822_lenient;
-    UtcMoment:
+    UtcMoment: movaliren_items_read_utc,
         Rfc3339 movaliren_read_rfc3339_utc,
         Rfc3339Lenient movaliren_read_rfc3339_lenient_utc,
         Rfc2822 movaliren_read_rfc2822_utc,
@@ -458,6 +484,13 @@ const NO_PLACE: library::ReadError = library::ReadError {
     is_lenient: 0,
     is_second_60: 0,
 };
+
+fn unread(number: isize, place: &library::ReadError) -> Unread {
+    match error_of(number) {
+        Error::NotRead => Unread::Text(not_read(place)),
+        error => Unread::Description(error),
+    }
+}
 
 fn not_read(place: &library::ReadError) -> NotRead {
     NotRead {
@@ -492,6 +525,9 @@ fn expected(place: &library::ReadError) -> Expected {
         21 => Expected::Zone,
         22 => Expected::Space,
         23 => Expected::CommentEnd,
+        24 => kind_of(place.first).map_or(Expected::End, Expected::Component),
+        25 => kind_of(place.first).map_or(Expected::End, Expected::NoValue),
+        26 => Expected::Otherwise,
         _ => Expected::End,
     }
 }

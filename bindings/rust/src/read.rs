@@ -1,6 +1,6 @@
 //! Texts, read back.
 use crate::raw::{Inside, Read, Texts};
-use crate::{Rfc2822, Rfc3339};
+use crate::{Description, Error, Kind, Rfc2822, Rfc3339};
 use core::fmt;
 
 impl Rfc3339 {
@@ -95,6 +95,34 @@ impl Rfc2822 {
     }
 }
 
+impl Description {
+    /// Reads a text that the description writes of a [`Moment`](crate::Moment) or a
+    /// [`UtcMoment`](crate::UtcMoment).
+    ///
+    /// What is read is written as this very text. So a text is refused that no moment has, as one with another weekday
+    /// than that of its date, or with zeros or spaces that the description does not write. What no text shows of a
+    /// time of day or of an offset, behind the last part that is shown, is zero. Nothing is allocated.
+    ///
+    /// # Errors
+    ///
+    /// - [`Unread::Description`] with [`Error::Undetermined`]: the texts do not determine a moment, as those of a date
+    ///   alone, or have a number of no certain width before another one. For a `Moment` they show an offset; without one
+    ///   the texts of a `UtcMoment` are in UTC.
+    /// - [`Unread::Text`]: no moment has this text: the place, and what could have come there.
+    ///
+    /// ```
+    /// use movaliren::{Description, UtcMoment};
+    ///
+    /// let line = Description::parse_strftime("%d/%b/%Y:%H:%M:%S %z").unwrap();
+    /// let moment: UtcMoment = line.read("10/Oct/2000:13:55:36 -0700")?;
+    /// assert_eq!(moment, UtcMoment::new(971_211_336, 0));
+    /// # Ok::<(), movaliren::Unread>(())
+    /// ```
+    pub fn read<V: Read>(&self, text: impl AsRef<[u8]>) -> Result<V, Unread> {
+        V::read_by(self, text.as_ref(), Inside)
+    }
+}
+
 /// What could have come in a text.
 #[derive(Clone, Copy, Debug, PartialEq, Eq, Hash)]
 #[non_exhaustive]
@@ -147,10 +175,17 @@ pub enum Expected {
     Space,
     /// The end of a comment.
     CommentEnd,
+    /// The text of this component.
+    Component(Kind),
+    /// Another number of this component: no moment has the one that stands there, as February 31.
+    NoValue(Kind),
+    /// What the description writes of the moment, as the name of another weekday.
+    Otherwise,
 }
 
 /// Where a text could not be read: the first byte with which no text of the format goes on, or the end of a text
-/// that is too short. By [`Rfc2822::read_lenient`] it is where the part should begin that could have come.
+/// that is too short. By [`Rfc2822::read_lenient`] and [`Description::read`] it is where the part should
+/// begin that could have come.
 #[derive(Clone, Copy, Debug, PartialEq, Eq, Hash)]
 #[non_exhaustive]
 pub struct NotRead {
@@ -171,6 +206,28 @@ fn letters(letter: u8, is_lenient: bool) -> &'static str {
         (_, true) => "`Z`, `z`",
     }
 }
+
+/// Why no moment was read by a description.
+#[derive(Clone, Copy, Debug, PartialEq, Eq, Hash)]
+#[non_exhaustive]
+pub enum Unread {
+    /// No text is read by this description.
+    Description(Error),
+    /// This text is not read.
+    Text(NotRead),
+}
+
+impl fmt::Display for Unread {
+    fn fmt(&self, f: &mut fmt::Formatter<'_>) -> fmt::Result {
+        match self {
+            Unread::Description(error) => error.fmt(f),
+            Unread::Text(place) => place.fmt(f),
+        }
+    }
+}
+
+#[cfg(feature = "std")]
+impl std::error::Error for Unread {}
 
 /// The name of a weekday, of which so many letters are right, or of a month, in words.
 fn names(f: &mut fmt::Formatter<'_>, right: u8, name: &str) -> fmt::Result {
@@ -217,6 +274,9 @@ impl fmt::Display for Expected {
                 let name = WEEKDAYS[usize::from(number + 6) % 7];
                 return write!(f, "`{name}`, the weekday of this date");
             }
+            Expected::Component(kind) => return f.write_str(kind.name()),
+            Expected::NoValue(kind) => return write!(f, "another {}", kind.name()),
+            Expected::Otherwise => return f.write_str("what the description writes here"),
             Expected::Offset(is_lenient) => ("", is_lenient),
             Expected::PointOrOffset(is_lenient) => ("`.`, ", is_lenient),
             Expected::DigitOrOffset(is_lenient) => ("a digit, ", is_lenient),
@@ -228,7 +288,19 @@ impl fmt::Display for Expected {
 
 impl fmt::Display for NotRead {
     fn fmt(&self, f: &mut fmt::Formatter<'_>) -> fmt::Result {
-        write!(f, "byte {}: expected {}", self.at, self.expected)?;
+        match self.expected {
+            Expected::NoValue(kind) => {
+                write!(f, "byte {}: no value has this {}", self.at, kind.name())?
+            }
+            Expected::Otherwise => {
+                write!(
+                    f,
+                    "byte {}: the value is written otherwise from here on",
+                    self.at
+                )?;
+            }
+            expected => write!(f, "byte {}: expected {expected}", self.at)?,
+        }
         if self.is_second_60 {
             f.write_str(", since second 60 has no value")?;
         }

@@ -763,6 +763,46 @@ fn a_text_of_rfc_2822_is_read_back() {
 }
 
 #[test]
+fn a_text_of_a_description_is_read_back() {
+    let line = Description::parse_strftime("%d/%b/%Y:%H:%M:%S %z").unwrap();
+    let opened = Moment::new(2000, 10, 10).at(13, 55, 36, 0).offset(-7, 0, 0);
+    assert_eq!(line.read("10/Oct/2000:13:55:36 -0700"), Ok(opened));
+    let utc = line.read("10/Oct/2000:13:55:36 -0700");
+    assert_eq!(utc, Ok(UtcMoment::new(971_211_336, 0)));
+    for (text, words) in [
+        ("10/Okt/2000", "byte 3: expected [month repr:short]"),
+        (
+            "31/Feb/2000:13:55:36 -0700",
+            "byte 0: no value has this [day]",
+        ),
+        ("10/Oct/2000 13:55", "byte 11: expected `:`"),
+        ("10/Oct/2000:13:55:36 -0700.", "byte 26: expected the end"),
+    ] {
+        let error = line.read::<Moment>(text).unwrap_err();
+        assert_eq!(error.to_string(), words);
+        assert_eq!(line.read::<UtcMoment>(text), Err(error));
+    }
+    let mail = Description::parse_strftime("%a, %d %b %Y %H:%M:%S GMT").unwrap();
+    let utc = mail.read("Sun, 06 Nov 1994 08:49:37 GMT");
+    assert_eq!(utc, Ok(UtcMoment::new(784_111_777, 0)));
+    let undetermined = Err(Unread::Description(Error::Undetermined));
+    assert_eq!(
+        mail.read::<Moment>("Sun, 06 Nov 1994 08:49:37 GMT"),
+        undetermined
+    );
+    let error = mail.read::<UtcMoment>("Mon, 06 Nov 1994 08:49:37 GMT");
+    let words = "byte 0: the value is written otherwise from here on";
+    assert_eq!(error.unwrap_err().to_string(), words);
+    assert_eq!(
+        Description::new()
+            .read::<UtcMoment>("")
+            .unwrap_err()
+            .to_string(),
+        "the texts do not determine a moment"
+    );
+}
+
+#[test]
 fn each_part_of_mail_that_could_have_come_is_named() {
     for (text, words) in [
         ("", "byte 0: expected the name of a weekday, or a day"),

@@ -70,6 +70,11 @@ fn names() -> Description {
         .component(Kind::Year)
 }
 
+/// `%d/%b/%Y:%H:%M:%S %z`, as a web server's log has it.
+fn server() -> Description {
+    Description::parse_strftime("%d/%b/%Y:%H:%M:%S %z").unwrap_or_default()
+}
+
 /// So many items, of which each second one is a literal.
 fn long(count: usize) -> Description {
     (0..count / 2).fold(Description::new(), |description, _| {
@@ -121,6 +126,16 @@ fn reading(is_read: impl Fn(&[u8]) -> bool + 'static) -> Call {
 /// The same by RFC 2822.
 fn reading_mail(is_read: impl Fn(&[u8]) -> bool + 'static) -> Call {
     reading_texts_by(Rfc2822, is_read)
+}
+
+/// The same by a description, of moments in UTC to the second.
+fn reading_by(line: Description, is_read: impl Fn(&Description, &[u8]) -> bool + 'static) -> Call {
+    let whole = |m: &UtcMoment| UtcMoment::new(m.seconds, 0).local(0);
+    let texts: Vec<_> = moments().iter().map(|m| line.text(&whole(m))).collect();
+    Box::new(move |moments, _| {
+        let texts = texts[..moments.len()].iter().flatten();
+        texts.filter(|text| is_read(&line, text.as_bytes())).count()
+    })
 }
 
 fn reading_texts_by(
