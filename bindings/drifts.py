@@ -38,8 +38,9 @@ PLACES = [
     ("item.rt", r".*", r"\d+(?= => Ok)|(?<=Ok\()(?:Padding|SubsecondDigits)::\w+|(?<=component!\()\w+"),
     ("config.rt", r".*", r"\d+(?= => Ok)|(?<=Ok\()(?:\w+::\w+|true|false)"),
     ("*.rt", STRUCT, rf"\w+(?=: )|{TYPE}"),
-    ("read.rt", r"let \(expected,.*?\};", r"(?<=Expected::)\w+(?=(?:\([\w, ]+\))? => \([1-9])|(?<==> \()[1-9]"),
-    ("raw.rs", r"expected: match.*?\}", r"\d(?= => )|(?<=Expected::)\w+"),
+    ("place.rt", r"let \(expected,.*?\};", r"(?<=Expected::)\w+|(?<=MailPart::)\w+|(?<==> \()\d+"),
+    ("items.rt", r"let \(expected,.*?\};", r"(?<=Fault::)\w+|(?<==> \()\d+"),
+    ("raw.rs", r"^fn expected.*?^\}", r"\d+(?= => )|(?<=Expected::)(?!End, )\w+"),
 ]
 
 

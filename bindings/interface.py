@@ -3,7 +3,7 @@
 
 The exports of movaliren_c give the prototypes of movaliren.h, each in its place, and the functions and structs of
 `library.rs`; `answers/reason.rt` the reasons, also of C++, and `answers/library.rt` their words; `described/item.rt` the kinds of items
-and their choices, which `component.rt` of time_below documents; `described/syntax.rt` the faults of descriptions, which time_describe
+and their choices, which `component.rt` of time_below documents and `fault.rt` of time_plan_read names; `described/syntax.rt` the faults of descriptions, which time_describe
 documents.
 
     bindings/interface.py           writes the three headers, `description.rs`, `parse.rs` and `library.rs`
@@ -19,6 +19,7 @@ HERE = pathlib.Path(__file__).resolve().parent
 CRATES = HERE.parent / "crates"
 SOURCES = CRATES / "movaliren_c/src"
 COMPONENT = CRATES / "time_below/src/format_description/component.rt"
+READ_FAULT = CRATES / "time_plan_read/src/fault.rt"
 FAULTS = [CRATES / "time_describe/src" / name for name in ("brackets/reason.rt", "strftime/reason.rt")]
 HEADER = HERE / "c/movaliren.h"
 HEADER_OF_ITEMS = HERE / "c/movaliren_items.h"
@@ -37,6 +38,7 @@ ERRORS = r"enum movaliren_error \{.*?\n\};"
 ERRORS_OF_CPP = r"enum class errc : int \{.*?\n\};"
 CASES = r"(?<=switch \(error\) \{\n)(?:    case MOVALIREN_ERROR_\w+:\n        return [^\n]*\n)+"
 KINDS = r"enum movaliren_kind \{.*?\n\};"
+KIND_NAMES = r"static const char \*const kinds\[\] = \{.*?\};"
 KINDS_OF_RUST = r"pub enum Kind \{.*?\n\}"
 FAULTS_OF_C = r"enum movaliren_parse_error_kind \{.*?\n\};"
 FAULTS_OF_RUST = r"pub enum FaultReason \{.*?\n\}"
@@ -112,7 +114,7 @@ def attributes(name, parameters):
     alone = lambda parameter: not sizes & {f"{parameter}_{size}" for size in ("len", "size", "capacity")}
     words = [f"MOVALIREN_NONNULL_({place})" for place, (parameter, kind) in enumerate(parameters, 1)
              if " " in kind and alone(parameter)]
-    is_read = name.startswith(("movaliren_read_", "movaliren_items_parse"))
+    is_read = name.startswith(("movaliren_read_", "movaliren_items_parse", "movaliren_items_read"))
     return words + ["MOVALIREN_CHECKED_"] * is_read
 
 
@@ -226,6 +228,21 @@ def kinds_of_rust():
     return "pub enum Kind {\n" + "".join(rows) + "}"
 
 
+def names_of_kinds():
+    """Each kind by its number with its name in brackets, as the errors of readers have it."""
+    named = {}
+    for heads, name in re.findall(r'((?:Component::\w+\(_\)\s*\|?\s*)+)=>\s*\{?\s*"(\[[^"]*\])"', READ_FAULT.read_text()):
+        named |= {component: name for component in re.findall(r"Component::(\w+)", heads)}
+    return [(number, short(name), named[name]) for number, name, _ in kinds()]
+
+
+def kind_names():
+    """The table of the names, from the kind 0 on, which is none."""
+    names = ", ".join(f'"{name}"'.replace(" ", "\0") for _, _, name in [(0, "", ""), *names_of_kinds()])
+    lines = textwrap.fill(names, 100, initial_indent="        ", subsequent_indent="        ").replace("\0", " ")
+    return "static const char *const kinds[] = {\n" + lines + "\n    };"
+
+
 # ---- faults
 
 
@@ -294,7 +311,11 @@ def library(declared):
     for choice in ("padding", "sign_is_mandatory"):
         having = " | ".join(f"Kind::{short(name)}" for _, name, choices in kinds() if choice in choices)
         lines += [f"    pub(crate) const fn has_{choice.partition('_')[0]}(self) -> bool {{", f"        matches!(self, {having})", "    }"]
-    lines.append("}")
+    lines += ["    pub(crate) const fn name(self) -> &'static str {", "        match self {"]
+    lines += [f'            Kind::{kind} => "{name}",' for _, kind, name in names_of_kinds()]
+    lines += ["        }", "    }", "}", "", "pub(crate) fn kind_of(number: u8) -> Option<Kind> {", "    Some(match number {"]
+    lines += [f"        {number} => Kind::{kind}," for number, kind, _ in names_of_kinds()]
+    lines += ["        _ => return None,", "    })", "}"]
     return "\n".join(lines) + "\n"
 
 
@@ -311,6 +332,7 @@ def written():
     header, declared = with_prototypes(HEADER.read_text())
     header = replaced(header, ERRORS, error_enum())
     header = replaced(header, CASES, error_cases())
+    header = replaced(header, KIND_NAMES, kind_names())
     of_items = replaced(HEADER_OF_ITEMS.read_text(), KINDS, kinds_of_header())
     of_items = replaced(of_items, FAULTS_OF_C, faults_of_header())
     of_cpp = replaced(HEADER_OF_CPP.read_text(), ERRORS_OF_CPP, errors_of_cpp())

@@ -256,19 +256,23 @@ class Interfaces:
         self.same("the first parse error without a percent sign", border("WITHOUT_PERCENT"), [faults["secondflag"]])
 
     def places(self):
-        """What could have come in a text, by its number; and the words of a place."""
+        """What could have come in a text, by its number. The end stands in the Rust crate for any other number, and the name
+        of a month or a weekday has two numbers. In mail a mark is a byte."""
         header = self.header_numbers("expected")
-        rust = {words(name): int(number) for number, name in findall(r"(\d+|_) => Expected::(\w+)", *self.rust) if number != "_"}
-        rust[words(only(r"_ => Expected::(\w+)", *self.rust))] = len(header)
-        # What has the number 0 stands in no text that C reads.
-        told = findall(r"Expected::(\w+)(?:\([\w, ]+\))? => \(([1-9]\d*)", *self.rattle)
-        rattle = {words(name): int(number) for name, number in told}
-        self.same("what could have come", header, rust, rattle)
+        rust = {words(name): int(number) for number, name in findall(r"(\d+) => (?:kind_of\(.*?, )?Expected::(\w+)", *self.rust)}
+        rust[words(only(r"_ => Expected::(\w+)", *self.rust))] = header["end"]
+        self.same("what could have come", header, rust)
+        told = findall(r"(?:Expected|MailPart|Fault)::(\w+)(?:\((?:Names::(\w+))?[^=\n]*\))? => \((\d+)", *self.rattle)
+        names = {"nameweekday": "weekdayname", "namemonthwith": "monthname", "comma": "byte", "colon": "byte", "literal": "byte"}
+        rattle = [(words(name + kind), int(number)) for name, kind, number in told]
+        found = {names.get(name, name): number for name, number in rattle}
+        self.same("what could have come, in the code", sorted(header.items()), sorted(found.items()))
+        self.same("a number of what could have come", [], [row for row in rattle if header.get(names.get(row[0], row[0])) != row[1]])
 
     def tests(self):
         functions = sorted(functions_of(self.c))
         self.same("what the test of memory calls", functions, sorted(set(findall(r"(movaliren_\w+)\(", self.memory))))
-        called = set(findall(r"(movaliren_\w+)\(", *self.rows))
+        called = set(findall(r"\b(movaliren_\w+)\b(?=[(,)])", *self.rows))
         for name in findall(r"^ALONE_AND_AS_BATCH\((\w+),", *self.rows):
             called |= {f"movaliren_{name}", f"movaliren_{name}_batch"}
         self.same("what has no row", set(), set(functions) - called)

@@ -33,8 +33,13 @@ static const movaliren_iso8601_config date_and_time = { 4, 0, 2, 3, 1, 1, 0, 0 }
 static const movaliren_iso8601_config time_and_offset = { 6, 0, 2, 3, 1, 1, 0, 0 };
 static const movaliren_iso8601_config offset_alone = { 3, 0, 2, 3, 1, 1, 0, 0 };
 
-// Texts of RFC 3339 of the moments, what they are read into, and where one could not be read.
-static char read_texts[VALUES][MOVALIREN_RFC3339_SIZE];
+// Texts of RFC 3339 and RFC 2822 of the moments, what they are read into, and where one could not be read.
+static char read_texts[VALUES][MOVALIREN_RFC3339_SIZE], mail_texts[VALUES][MOVALIREN_RFC2822_SIZE];
+// Times of a web server's log, by its description, and texts of the eleven items.
+static const char log_form[] = "%d/%b/%Y:%H:%M:%S %z";
+static char log_texts[VALUES][27], line_texts[VALUES][20];
+static movaliren_item log_items[16];
+static size_t log_count;
 static movaliren_moment read_moment;
 static movaliren_utc_moment read_utc;
 static movaliren_read_error read_place;
@@ -79,8 +84,16 @@ static void fill()
         moment.nanosecond = uint32_t(next() % 100000000 * 10 + 1 + next() % 9);
         movaliren_rfc3339_utc(
             moment.seconds, moment.nanosecond, read_texts[&moment - moments], MOVALIREN_RFC3339_SIZE);
+        movaliren_rfc2822_utc(moment.seconds, 0, mail_texts[&moment - moments], MOVALIREN_RFC2822_SIZE);
     }
     build(line);
+    movaliren_parse_error none;
+    log_count = size_t(movaliren_items_parse_strftime(log_form, sizeof log_form - 1, log_items, 16, &none));
+    for (auto &moment : moments) {
+        movaliren_items_format_local(log_items, log_count, log_form, sizeof log_form - 1, moment.seconds, 0, 0,
+            log_texts[&moment - moments], 26);
+        movaliren_items_format_utc(items, 11, texts, 5, moment.seconds, 0, line_texts[&moment - moments], 19);
+    }
     // Sunday, 22 November 2026
     movaliren_description_add_with(&day, MOVALIREN_KIND_WEEKDAY_LONG, MOVALIREN_PAD_ZERO, 0, 0);
     movaliren_description_add_text(&day, ", ");
@@ -196,6 +209,9 @@ typedef movaliren_progress many();
 
 // The text of a moment in UTC with nine decimals.
 #define READ_TEXT read_texts[&moment - moments], MOVALIREN_STAMP_SIZE - 1
+#define LOG_TEXT log_texts[&moment - moments], 26
+#define LINE_TEXT line_texts[&moment - moments], 19
+#define MAIL_TEXT mail_texts[&moment - moments], MOVALIREN_RFC2822_SIZE - 1
 
 // By the parts that gmtime_r gives.
 #define BY_PARTS(call)                                                                                                 \
@@ -359,6 +375,12 @@ static const struct {
     { "read_rfc3339_utc", ONE(movaliren_read_rfc3339_utc(READ_TEXT, &read_utc, &read_place)), 0 },
     { "read_rfc3339_lenient", ONE(movaliren_read_rfc3339_lenient(READ_TEXT, &read_moment, &read_place)), 0 },
     { "read_rfc3339_lenient_utc", ONE(movaliren_read_rfc3339_lenient_utc(READ_TEXT, &read_utc, &read_place)), 0 },
+    { "read_rfc2822", ONE(movaliren_read_rfc2822(MAIL_TEXT, &read_moment, &read_place)), 0 },
+    { "read_rfc2822_utc", ONE(movaliren_read_rfc2822_utc(MAIL_TEXT, &read_utc, &read_place)), 0 },
+    { "read_rfc2822_lenient", ONE(movaliren_read_rfc2822_lenient(MAIL_TEXT, &read_moment, &read_place)), 0 },
+    { "read_rfc2822_lenient_utc", ONE(movaliren_read_rfc2822_lenient_utc(MAIL_TEXT, &read_utc, &read_place)), 0 },
+    { "items_read:nginx", ONE(movaliren_items_read(log_items, log_count, log_form, sizeof log_form - 1, LOG_TEXT, &read_moment, &read_place)), 0 },
+    { "items_read_utc:11-items", ONE(movaliren_items_read_utc(items, 11, texts, 5, LINE_TEXT, &read_utc, &read_place)), 0 },
     { "building:11-items", ONE((build(line), moment.nanosecond)), 0 },
     { "building:8000-items", ONE(build_long(8000)), 0 },
     { "building:16000-items", ONE(build_long(16000)), 0 },

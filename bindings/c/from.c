@@ -79,6 +79,20 @@ static void texts_read(void)
     }
     if (!strptime(text, "%Y-%m-%dT%H:%M:%SZ", &parts) || timegm(&parts) != seconds)
         wrong = 1;
+
+    const char *mail = "Sun, 22 Nov 2026 09:55:06 -0600";
+    if (movaliren_read_rfc2822_utc(mail, strlen(mail), &moment, &place) != 0 || moment.seconds != seconds)
+        wrong = 1;
+    const char *entry = "22/Nov/2026:09:55:06 -0600";
+    struct movaliren_item items[16];
+    char form[32];
+    struct movaliren_description server = MOVALIREN_DESCRIPTION_INIT(items, form);
+    if (movaliren_description_parse_strftime(&server, "%d/%b/%Y:%H:%M:%S %z") < 0)
+        puts("%d/%b/%Y:%H:%M:%S %z is not read");
+    if (movaliren_description_read_utc(&server, entry, strlen(entry), &moment, &place) != 0 || moment.seconds != seconds)
+        wrong = 1;
+    if (!strptime(mail, "%a, %d %b %Y %H:%M:%S %z", &parts) || timegm(&parts) + 21600 != seconds)
+        wrong = 1;
 }
 
 int main(void)

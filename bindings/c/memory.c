@@ -30,7 +30,7 @@ void *__wrap_calloc(size_t count, size_t size)
     return __real_calloc(count, size);
 }
 
-enum { ROOM = 300, CALLS = 56 };
+enum { ROOM = 300, CALLS = 62 };
 
 static const struct movaliren_moment moment = { .year = 1997, .month = 11, .day = 12, .hour = 9,
     .minute = 55, .second = 6, .nanosecond = 120000000, .offset_hours = -6 },
@@ -52,7 +52,9 @@ static const struct movaliren_item twenty[20] = { { .kind = MOVALIREN_KIND_MONTH
     { .kind = MOVALIREN_KIND_OFFSET_HOUR, .flag = 1 }, TEXT(3, 1),
     { .kind = MOVALIREN_KIND_OFFSET_MINUTE } };
 
-static const char leap_day[] = "2028-02-29T00:00:00Z";
+static const char leap_day[] = "2028-02-29T00:00:00Z", mail[] = "Tue, 29 Feb 2028 00:00:00 +0000";
+/* by the twenty items */
+static const char line_text[] = "Nov 12 1997-11-12T09:55:06.120-06:00";
 static struct movaliren_moment read;
 static struct movaliren_utc_moment read_utc;
 static struct movaliren_read_error place;
@@ -124,6 +126,12 @@ static ptrdiff_t call(int which, uint8_t *room)
     case 52: return movaliren_items_format_utc_length(twenty, 20, " -T:.", 5, 0, 0);
     case 53: return movaliren_items_format_local_length(twenty, 20, " -T:.", 5, 0, 0, 60);
     case 54: return movaliren_items_format_date_length(usual, 3, dash, 1, 2026, 1, 1);
+    case 55: return 1 + movaliren_read_rfc2822(mail, 31, &read, &place);
+    case 56: return 1 + movaliren_read_rfc2822_utc(mail, 31, &read_utc, &place);
+    case 57: return 1 + movaliren_read_rfc2822_lenient(mail, 31, &read, &place);
+    case 58: return 1 + movaliren_read_rfc2822_lenient_utc(mail, 31, &read_utc, &place);
+    case 59: return 1 + movaliren_items_read(twenty, 20, " -T:.", 5, line_text, 36, &read, &place);
+    case 60: return 1 + movaliren_items_read_utc(twenty, 20, " -T:.", 5, line_text, 36, &read_utc, &place);
     default: return movaliren_items_format_date(usual, 3, dash, 1, 0, 1, 1, room, ROOM);
     }
 }

@@ -26,7 +26,8 @@
  *
  * A call takes at most so many bytes of the stack, as the program stack.c measures: 512 for RFC 3339 and RFC 2822; 1,024 for
  * ISO 8601, a stamp, the time of a log line, and reading; 2,048 for reading a description, and a text by it; 4,096 for a text
- * by a description that is read for it. The messages of errors take what sprintf does.
+ * by a description that is read for it, and for reading a text by a description. The messages of errors take what sprintf
+ * does.
  *
  * A pointer to a buffer, a text or an array may be null where its length is 0. Other pointers must not be null, as the
  * compiler is told. No length may be more than its array has, and no array may have more than PTRDIFF_MAX bytes. What
@@ -119,7 +120,8 @@ enum movaliren_error {
     MOVALIREN_ERROR_BUFFER_TOO_SMALL = -20,
     MOVALIREN_ERROR_NOT_READ = -23,
     MOVALIREN_ERROR_BAD_DESCRIPTION = -24,
-    MOVALIREN_ERROR_MANY_ITEMS = -25
+    MOVALIREN_ERROR_MANY_ITEMS = -25,
+    MOVALIREN_ERROR_UNDETERMINED = -26
 };
 
 /* The version of the library that the program runs with, as a number like MOVALIREN_VERSION_NUMBER. */
@@ -180,6 +182,8 @@ MOVALIREN_INLINE_ const char *movaliren_strerror(ptrdiff_t error)
         return "the text is not a description";
     case MOVALIREN_ERROR_MANY_ITEMS:
         return "the description has more items than there is room for";
+    case MOVALIREN_ERROR_UNDETERMINED:
+        return "the texts do not determine a moment";
     default:
         return error < 0 ? "unknown error" : "no error";
     }
@@ -386,16 +390,36 @@ enum movaliren_expected {
     MOVALIREN_EXPECTED_OFFSET = 4,          /* Z, + or - */
     MOVALIREN_EXPECTED_POINT_OR_OFFSET = 5, /* a point, Z, + or - */
     MOVALIREN_EXPECTED_DIGIT_OR_OFFSET = 6, /* a digit, Z, + or - */
-    MOVALIREN_EXPECTED_END = 7              /* no more bytes */
+    MOVALIREN_EXPECTED_END = 7,             /* no more bytes */
+    MOVALIREN_EXPECTED_SIGN = 8,            /* + or - */
+    MOVALIREN_EXPECTED_EACH_FOURTH = 9,     /* a digit from `first` to `last` in steps of four, the last one of a leap year */
+    MOVALIREN_EXPECTED_WEEKDAY_NAME = 10,   /* the next letter of a weekday's name, of which `first` are right, 0 to 2 */
+    MOVALIREN_EXPECTED_MONTH_NAME = 11,     /* that of a month which has the day `last` in some year */
+    MOVALIREN_EXPECTED_WEEKDAY = 12,        /* the name of the weekday `first`, 1 for Monday to 7, which is that of the date */
+    MOVALIREN_EXPECTED_WEEKDAY_OR_DAY = 13, /* the name of a weekday, or a day */
+    MOVALIREN_EXPECTED_DAY = 14,            /* a day from 1 to 31 */
+    MOVALIREN_EXPECTED_MONTH = 15,          /* the name of a month */
+    MOVALIREN_EXPECTED_YEAR = 16,           /* a year from 1900 on */
+    MOVALIREN_EXPECTED_DAY_OF_MONTH = 17,   /* a day that the month has */
+    MOVALIREN_EXPECTED_HOUR = 18,           /* an hour from 00 to 23 */
+    MOVALIREN_EXPECTED_MINUTE = 19,         /* a minute from 00 to 59 */
+    MOVALIREN_EXPECTED_SECOND = 20,         /* a second from 00 to 60 */
+    MOVALIREN_EXPECTED_ZONE = 21,           /* a zone that has a meaning */
+    MOVALIREN_EXPECTED_SPACE = 22,          /* white space or a comment */
+    MOVALIREN_EXPECTED_COMMENT_END = 23,    /* the end of a comment */
+    MOVALIREN_EXPECTED_COMPONENT = 24,      /* the text of a component, of the movaliren_kind `first` */
+    MOVALIREN_EXPECTED_NO_VALUE = 25,       /* another number of this component: no moment has that one, as February 31 */
+    MOVALIREN_EXPECTED_OTHERWISE = 26       /* what the description writes of the moment, as another weekday */
 };
 
 /* Where a text could not be read: the first byte with which no text of the format goes on, or the end of a
- * text that is too short. Each byte that could have come there is named. */
+ * text that is too short. Each byte that could have come there is named. The calls whose names have rfc2822_lenient, and
+ * those by a description, name the part that could have come instead, and where it should begin. */
 struct movaliren_read_error {
     size_t at;            /* the number of bytes that are right */
     uint8_t expected;     /* movaliren_expected: what could have come after them */
-    uint8_t first;        /* the first digit, 0 to 9; or the byte or the capital letter; or 0 */
-    uint8_t last;         /* the last digit, 0 to 9; or the same as first */
+    uint8_t first;        /* the first digit, 0 to 9; the byte or the capital letter; what `expected` says; or 0 */
+    uint8_t last;         /* the last digit, 0 to 9; the same as first; what `expected` says; or 0 */
     uint8_t is_lenient;   /* 1 where the small form of a letter could have come too, else 0 */
     uint8_t is_second_60; /* 1 where second 60 stands there, which a leap second has and no moment, else 0 */
 };
@@ -422,6 +446,33 @@ ptrdiff_t movaliren_read_rfc3339_lenient(const void *text, size_t text_len,
     struct movaliren_moment *moment, struct movaliren_read_error *error) MOVALIREN_NONNULL_(3)
     MOVALIREN_NONNULL_(4) MOVALIREN_CHECKED_;
 ptrdiff_t movaliren_read_rfc3339_lenient_utc(const void *text, size_t text_len,
+    struct movaliren_utc_moment *moment, struct movaliren_read_error *error) MOVALIREN_NONNULL_(3)
+    MOVALIREN_NONNULL_(4) MOVALIREN_CHECKED_;
+
+/* Reads a text of RFC 2822, section 3.3, in the form that movaliren_rfc2822 writes: 31 bytes, with the weekday of the date,
+ * single spaces, a year from 1900 on, an offset by its hours 00 to 25 and its minutes, no second 60, and not the offset
+ * -0000. Where the name of the weekday alone is wrong, the error is at byte 0.
+ *
+ *     struct movaliren_utc_moment sent;
+ *     struct movaliren_read_error error;
+ *     if (movaliren_read_rfc2822_utc(text, strlen(text), &sent, &error) < 0)
+ *         fprintf(stderr, "wrong at byte %lu\n", (unsigned long)error.at); */
+ptrdiff_t movaliren_read_rfc2822(const void *text, size_t text_len, struct movaliren_moment *moment,
+    struct movaliren_read_error *error) MOVALIREN_NONNULL_(3) MOVALIREN_NONNULL_(4)
+    MOVALIREN_CHECKED_;
+ptrdiff_t movaliren_read_rfc2822_utc(const void *text, size_t text_len,
+    struct movaliren_utc_moment *moment, struct movaliren_read_error *error) MOVALIREN_NONNULL_(3)
+    MOVALIREN_NONNULL_(4) MOVALIREN_CHECKED_;
+
+/* Reads a date of mail or of a feed. Beside what movaliren_read_rfc2822 takes these are the obsolete forms of RFC 5322,
+ * section 4.3, and what mailers write: white space and comments, which may nest, between the parts; letters in either
+ * case; a day of one digit; a year of three digits, which are added to 1900, or of two, of 1950 to 2049; no weekday; no
+ * seconds; zones by name and by letter, where each letter but J is UTC; and -0000, which is UTC too. Second 60 is read as
+ * second 59. A weekday that is not the date's is refused, and so is a zone without a meaning, as CET. */
+ptrdiff_t movaliren_read_rfc2822_lenient(const void *text, size_t text_len,
+    struct movaliren_moment *moment, struct movaliren_read_error *error) MOVALIREN_NONNULL_(3)
+    MOVALIREN_NONNULL_(4) MOVALIREN_CHECKED_;
+ptrdiff_t movaliren_read_rfc2822_lenient_utc(const void *text, size_t text_len,
     struct movaliren_utc_moment *moment, struct movaliren_read_error *error) MOVALIREN_NONNULL_(3)
     MOVALIREN_NONNULL_(4) MOVALIREN_CHECKED_;
 
@@ -559,6 +610,14 @@ ptrdiff_t movaliren_items_parse(const void *text, size_t text_len, struct movali
 ptrdiff_t movaliren_items_parse_strftime(const void *text, size_t text_len,
     struct movaliren_item *items, size_t items_capacity, struct movaliren_parse_error *error)
     MOVALIREN_NONNULL_(5) MOVALIREN_CHECKED_;
+ptrdiff_t movaliren_items_read(const struct movaliren_item *items, size_t items_len,
+    const void *texts, size_t texts_len, const void *text, size_t text_len,
+    struct movaliren_moment *moment, struct movaliren_read_error *error) MOVALIREN_NONNULL_(7)
+    MOVALIREN_NONNULL_(8) MOVALIREN_CHECKED_;
+ptrdiff_t movaliren_items_read_utc(const struct movaliren_item *items, size_t items_len,
+    const void *texts, size_t texts_len, const void *text, size_t text_len,
+    struct movaliren_utc_moment *moment, struct movaliren_read_error *error) MOVALIREN_NONNULL_(7)
+    MOVALIREN_NONNULL_(8) MOVALIREN_CHECKED_;
 ptrdiff_t movaliren_parse_strerror_r(uint8_t kind, void *buffer, size_t buffer_size);
 
 /* ---- calls of a description */
@@ -728,6 +787,30 @@ MOVALIREN_INLINE_ ptrdiff_t movaliren_description_format_date_length(
             description->texts, description->texts_len, year, month, day);
 }
 
+/* Reads a text that the description writes of a moment. Nothing else is read: a text with another weekday than that of its
+ * date, or with zeros or spaces that the description does not write, is MOVALIREN_ERROR_NOT_READ, and the error says where.
+ * What no text shows of a time of day or of an offset behind the last part that is shown is zero. movaliren_description_read
+ * takes a description of a date or of Unix time, with a time of day and an offset. The call that ends in _utc also takes
+ * one without an offset, whose texts are then in UTC. Any other description is MOVALIREN_ERROR_UNDETERMINED, and so is one
+ * with a number of no certain width before another one, as %-d%-m. The error is unchanged then, as where a text is read. */
+MOVALIREN_INLINE_ MOVALIREN_CHECKED_ ptrdiff_t movaliren_description_read(
+    const struct movaliren_description *description, const void *text, size_t text_len,
+    struct movaliren_moment *moment, struct movaliren_read_error *error)
+{
+    return description->error ? description->error
+                               : movaliren_items_read(description->items, description->items_len,
+                                   description->texts, description->texts_len, text, text_len, moment, error);
+}
+
+MOVALIREN_INLINE_ MOVALIREN_CHECKED_ ptrdiff_t movaliren_description_read_utc(
+    const struct movaliren_description *description, const void *text, size_t text_len,
+    struct movaliren_utc_moment *moment, struct movaliren_read_error *error)
+{
+    return description->error ? description->error
+                               : movaliren_items_read_utc(description->items, description->items_len,
+                                   description->texts, description->texts_len, text, text_len, moment, error);
+}
+
 /* What movaliren_items_max_length returns of its items. */
 MOVALIREN_INLINE_ ptrdiff_t movaliren_description_max_length(const struct movaliren_description *description)
 {
@@ -785,39 +868,94 @@ movaliren_parse_error_message(const struct movaliren_parse_error *error, char *b
 /* A buffer of this many bytes holds the message of any read error. */
 #define MOVALIREN_READ_MESSAGE_SIZE 100
 
+/* Writes a letter in words, or what begins an offset, and returns the number of characters. */
+MOVALIREN_INLINE_ int movaliren_said_letter_(const struct movaliren_read_error *error, char *buffer)
+{
+    static const char *const times[] = { "`T`", "`T` or `t`" }, *const zones[] = { "`Z`", "`Z`, `z`" };
+    static const char *const before[] = { "", "", "`.`, ", "a digit, " };
+    const int is_lenient = error->is_lenient != 0;
+    if (error->expected != MOVALIREN_EXPECTED_LETTER)
+        return sprintf(buffer, "%s%s, `+` or `-`", before[error->expected - MOVALIREN_EXPECTED_LETTER], zones[is_lenient]);
+    return sprintf(buffer, "%s", error->first == 'T' ? times[is_lenient] : zones[is_lenient]);
+}
+
+/* Writes a digit in words. */
+MOVALIREN_INLINE_ int movaliren_said_digit_(const struct movaliren_read_error *error, char *buffer)
+{
+    static const char *const steps[] = { "", " in steps of four, of a leap year" };
+    if (error->first == error->last)
+        return sprintf(buffer, "the digit %d", error->first);
+    return sprintf(buffer, "a digit from %d to %d%s", error->first, error->last,
+        steps[error->expected == MOVALIREN_EXPECTED_EACH_FOURTH]);
+}
+
+/* Writes a name in words. */
+MOVALIREN_INLINE_ int movaliren_said_name_(const struct movaliren_read_error *error, char *buffer)
+{
+    static const char weekdays[] = "MonTueWedThuFriSatSun";
+    static const char *const rest[] = { "", "the rest of " };
+    if (error->expected == MOVALIREN_EXPECTED_WEEKDAY)
+        return sprintf(buffer, "`%.3s`, the weekday of this date", &weekdays[(error->first + 6) % 7 * 3]);
+    if (error->expected == MOVALIREN_EXPECTED_WEEKDAY_NAME)
+        return sprintf(buffer, "%sthe name of a weekday", rest[error->first > 0]);
+    return sprintf(buffer, "%sthe name of a month that has this day", rest[error->first > 0]);
+}
+
 /* The error in words, as "byte 9: expected a digit from 0 to 8", and a zero after them. Returns the buffer,
  * which has MOVALIREN_READ_MESSAGE_SIZE bytes. */
 MOVALIREN_INLINE_ const char *movaliren_read_error_message(const struct movaliren_read_error *error, char *buffer)
 {
-    static const char *const before[] = { "", "", "", "", "", "`.`, ", "a digit, " };
-    const char *letters = "`Z`", *small = "";
-    char *rest = buffer + sprintf(buffer, "byte %lu: expected ", MOVALIREN_CAST_(unsigned long, error->at));
-    if (error->first == 'T')
-        letters = "`T`";
-    if (error->is_lenient)
-        small = ", `z`";
-    if (error->is_lenient && error->first == 'T')
-        small = " or `t`";
+    static const char *const first[] = { "expected ", "no value has this ", "the value is written otherwise from here on" };
+    static const char *const kinds[] = {
+        "", "[day]", "[month repr:short]", "[month repr:long]", "[month]", "[ordinal]",
+        "[weekday repr:short]", "[weekday]", "[weekday repr:sunday]", "[weekday repr:monday]",
+        "[week_number]", "[week_number repr:sunday]", "[week_number repr:monday]", "[year]",
+        "[year]", "[year repr:century]", "[year repr:century]", "[year repr:last_two]",
+        "[year base:iso_week]", "[year base:iso_week]", "[year base:iso_week repr:century]",
+        "[year base:iso_week repr:century]", "[year base:iso_week repr:last_two]", "[hour repr:12]",
+        "[hour]", "[minute]", "[period]", "[second]", "[subsecond]", "[offset_hour]",
+        "[offset_minute]", "[offset_second]", "[unix_timestamp]",
+        "[unix_timestamp precision:millisecond]"
+    };
+    static const char *const parts[] = { "the name of a weekday, or a day", "a day from 1 to 31",
+        "the name of a month", "a year from 1900 on", "a day that this month has", "an hour from 00 to 23",
+        "a minute from 00 to 59", "a second from 00 to 60", "a zone that has a meaning", "white space or a comment",
+        "the end of a comment" };
+    const int how = error->expected <= MOVALIREN_EXPECTED_COMPONENT ? 0 : error->expected - MOVALIREN_EXPECTED_COMPONENT;
+    char *rest = buffer + sprintf(buffer, "byte %lu: %s", MOVALIREN_CAST_(unsigned long, error->at), first[how % 3]);
     switch (error->expected) {
     case MOVALIREN_EXPECTED_DIGIT:
-        if (error->first == error->last)
-            rest += sprintf(rest, "the digit %d", error->first);
-        else
-            rest += sprintf(rest, "a digit from %d to %d", error->first, error->last);
+    case MOVALIREN_EXPECTED_EACH_FOURTH:
+        rest += movaliren_said_digit_(error, rest);
         break;
     case MOVALIREN_EXPECTED_BYTE:
         rest += sprintf(rest, "`%c`", error->first);
         break;
     case MOVALIREN_EXPECTED_LETTER:
-        rest += sprintf(rest, "%s%s", letters, small);
-        break;
     case MOVALIREN_EXPECTED_OFFSET:
     case MOVALIREN_EXPECTED_POINT_OR_OFFSET:
     case MOVALIREN_EXPECTED_DIGIT_OR_OFFSET:
-        rest += sprintf(rest, "%s%s%s, `+` or `-`", before[error->expected], letters, small);
+        rest += movaliren_said_letter_(error, rest);
+        break;
+    case MOVALIREN_EXPECTED_SIGN:
+        rest += sprintf(rest, "`+` or `-`");
+        break;
+    case MOVALIREN_EXPECTED_WEEKDAY_NAME:
+    case MOVALIREN_EXPECTED_MONTH_NAME:
+    case MOVALIREN_EXPECTED_WEEKDAY:
+        rest += movaliren_said_name_(error, rest);
+        break;
+    case MOVALIREN_EXPECTED_COMPONENT:
+    case MOVALIREN_EXPECTED_NO_VALUE:
+        rest += sprintf(rest, "%s", kinds[error->first % (sizeof kinds / sizeof *kinds)]);
+        break;
+    case MOVALIREN_EXPECTED_OTHERWISE:
         break;
     default:
-        rest += sprintf(rest, "the end");
+        if (MOVALIREN_EXPECTED_WEEKDAY_OR_DAY <= error->expected && error->expected <= MOVALIREN_EXPECTED_COMMENT_END)
+            rest += sprintf(rest, "%s", parts[error->expected - MOVALIREN_EXPECTED_WEEKDAY_OR_DAY]);
+        else
+            rest += sprintf(rest, "the end");
     }
     if (error->is_second_60)
         sprintf(rest, ", since second 60 has no value");

@@ -55,7 +55,8 @@ enum class errc : int {
     buffer_too_small = MOVALIREN_ERROR_BUFFER_TOO_SMALL,
     not_read = MOVALIREN_ERROR_NOT_READ,
     bad_description = MOVALIREN_ERROR_BAD_DESCRIPTION,
-    many_items = MOVALIREN_ERROR_MANY_ITEMS
+    many_items = MOVALIREN_ERROR_MANY_ITEMS,
+    undetermined = MOVALIREN_ERROR_UNDETERMINED
 };
 
 // The category of these errors, whose messages are those of movaliren_strerror.
@@ -300,7 +301,9 @@ public:
     std::string message() const
     {
         char buffer[MOVALIREN_READ_MESSAGE_SIZE];
-        return answer_ < 0 ? movaliren_read_error_message(&read_error_, buffer) : "";
+        if (answer_ == MOVALIREN_ERROR_NOT_READ)
+            return movaliren_read_error_message(&read_error_, buffer);
+        return answer_ < 0 ? movaliren_strerror(answer_) : "";
     }
 
     // The moment. Where the text was not read throws std::system_error.
@@ -349,6 +352,24 @@ inline reading<movaliren_moment> read_rfc3339_local(std::string_view text, profi
     });
 }
 
+// Reads a text of RFC 2822, or leniently a date of mail or of a feed, as a moment in UTC.
+inline reading<movaliren_utc_moment> read_rfc2822(std::string_view text, profile by = profile::strict)
+{
+    return reading<movaliren_utc_moment>([text, by](movaliren_utc_moment *moment, movaliren_read_error *error) {
+        return by == profile::strict ? movaliren_read_rfc2822_utc(text.data(), text.size(), moment, error)
+                                     : movaliren_read_rfc2822_lenient_utc(text.data(), text.size(), moment, error);
+    });
+}
+
+// Reads a text of RFC 2822, or leniently a date of mail or of a feed, as a local date and time with its offset.
+inline reading<movaliren_moment> read_rfc2822_local(std::string_view text, profile by = profile::strict)
+{
+    return reading<movaliren_moment>([text, by](movaliren_moment *moment, movaliren_read_error *error) {
+        return by == profile::strict ? movaliren_read_rfc2822(text.data(), text.size(), moment, error)
+                                     : movaliren_read_rfc2822_lenient(text.data(), text.size(), moment, error);
+    });
+}
+
 // A text is no description: what is wrong, and at which byte. what() says both.
 class invalid_description : public std::system_error {
 public:
@@ -376,10 +397,10 @@ private:
 class description {
 public:
     // The description in brackets, as [year]-[month]-[day]. Throws invalid_description.
-    static description parse(std::string_view text) { return read(text, movaliren_items_parse); }
+    static description parse(std::string_view text) { return parsed(text, movaliren_items_parse); }
 
     // The description in the syntax of strftime. Throws invalid_description.
-    static description parse_strftime(std::string_view text) { return read(text, movaliren_items_parse_strftime); }
+    static description parse_strftime(std::string_view text) { return parsed(text, movaliren_items_parse_strftime); }
 
     // Adds a component by its usual choices, as movaliren_description_add does.
     description &add(movaliren_kind kind)
@@ -454,6 +475,24 @@ public:
         });
     }
 
+    // Reads a text of the description as a moment in UTC, as movaliren_description_read_utc does.
+    reading<movaliren_utc_moment> read(std::string_view text) const
+    {
+        return reading<movaliren_utc_moment>([&](movaliren_utc_moment *moment, movaliren_read_error *error) {
+            return movaliren_items_read_utc(items_.data(), items_.size(), texts_.data(), texts_.size(), text.data(),
+                text.size(), moment, error);
+        });
+    }
+
+    // Reads a text of the description as a local date and time with its offset.
+    reading<movaliren_moment> read_local(std::string_view text) const
+    {
+        return reading<movaliren_moment>([&](movaliren_moment *moment, movaliren_read_error *error) {
+            return movaliren_items_read(items_.data(), items_.size(), texts_.data(), texts_.size(), text.data(),
+                text.size(), moment, error);
+        });
+    }
+
     // Writes the text of what `format` takes to an output iterator, and returns the place after it.
     template <class Out, class... Value> Out format_to(Out out, const Value &...value) const
     {
@@ -485,7 +524,7 @@ public:
     }
 
 private:
-    template <class Describe> static description read(std::string_view text, Describe describe)
+    template <class Describe> static description parsed(std::string_view text, Describe describe)
     {
         description made;
         made.texts_ = text;

@@ -132,6 +132,10 @@ enum movaliren_padding { MOVALIREN_PAD_ZERO = 0, MOVALIREN_PAD_SPACE = 1, MOVALI
  * with both is MOVALIREN_ERROR_BAD_DESCRIPTION. After an error the first item of the array is invalid: each call that is
  * given it returns MOVALIREN_ERROR_BAD_ITEM.
  *
+ * movaliren_items_read and movaliren_items_read_utc read a text that the items write of a moment, as
+ * movaliren_description_read says. The items are tested first. They return 0, or the error: after MOVALIREN_ERROR_NOT_READ
+ * the read error is set, and the moment is unchanged after any.
+ *
  * movaliren_parse_strerror_r writes the kind of a parse error in words, without the byte. Of a number that is no
  * movaliren_parse_error_kind these are "unknown reason". A buffer of MOVALIREN_PARSE_MESSAGE_SIZE bytes holds any of
  * them. */

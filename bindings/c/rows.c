@@ -466,12 +466,14 @@ static int is_same_moment(const struct movaliren_moment *a, const struct movalir
         && a->offset_seconds == b->offset_seconds;
 }
 
-static const struct {
+struct read_row {
     const char *text;
     struct movaliren_moment moment;
     struct movaliren_utc_moment utc;
     const char *strict, *lenient; /* the words of the place, or none where it is read */
-} read_rows[] = {
+};
+
+static const struct read_row rfc3339_rows[] = {
     { "1985-04-12T23:20:50.52Z", MOMENT(1985, 4, 12, 23, 20, 50, 520000000, 0, 0, 0),
         { 482196050, 520000000 }, 0, 0 },
     { "1996-12-19T16:39:57-08:00", MOMENT(1996, 12, 19, 16, 39, 57, 0, -8, 0, 0), { 851042397, 0 }, 0, 0 },
@@ -507,40 +509,93 @@ static const struct {
         "byte 0: expected a digit from 0 to 9" },
 };
 
+/* RFC 5322, appendix A, with the seconds that email.utils of Python gives, and the first place at which a text is none. */
+static const struct read_row rfc2822_rows[] = {
+    { "Fri, 21 Nov 1997 09:55:06 -0600", MOMENT(1997, 11, 21, 9, 55, 6, 0, -6, 0, 0), { 880127706, 0 }, 0, 0 },
+    { "Thu, 13 Feb 1969 23:32:54 -0330", MOMENT(1969, 2, 13, 23, 32, 54, 0, -3, -30, 0), { -27723426, 0 }, 0, 0 },
+    { "Fri, 31 Dec 9999 23:59:59 +0000", MOMENT(9999, 12, 31, 23, 59, 59, 0, 0, 0, 0), { 253402300799, 0 }, 0, 0 },
+    { "Mon, 01 Jan 1900 00:00:00 +2359", MOMENT(1900, 1, 1, 0, 0, 0, 0, 23, 59, 0), { -2209075140, 0 }, 0, 0 },
+    { "Tue, 1 Jul 2003 10:52:37 +0200", MOMENT(2003, 7, 1, 10, 52, 37, 0, 2, 0, 0), { 1057049557, 0 },
+        "byte 6: expected a digit from 0 to 9", 0 },
+    { "Thu,\r\n      13\r\n        Feb\r\n          1969\r\n      23:32\r\n               -0330 (Newfoundland Time)",
+        MOMENT(1969, 2, 13, 23, 32, 0, 0, -3, -30, 0), { -27723480, 0 }, "byte 4: expected ` `", 0 },
+    { "21 Nov 97 09:55:06 GMT", MOMENT(1997, 11, 21, 9, 55, 6, 0, 0, 0, 0), { 880106106, 0 },
+        "byte 0: expected the name of a weekday", 0 },
+    { "Fri, 21 Nov 1997 09(comment):   55  :  06 -0600", MOMENT(1997, 11, 21, 9, 55, 6, 0, -6, 0, 0),
+        { 880127706, 0 }, "byte 19: expected `:`", 0 },
+    { "fri, 21 NOV 1997 09:55 est", MOMENT(1997, 11, 21, 9, 55, 0, 0, -5, 0, 0), { 880124100, 0 },
+        "byte 0: expected the name of a weekday", 0 },
+    { "Fri, 21 Nov 1997 09:55:06 -0000", MOMENT(1997, 11, 21, 9, 55, 6, 0, 0, 0, 0), { 880106106, 0 },
+        "byte 30: expected a digit from 1 to 9", 0 },
+    { "Sat, 31 Dec 2016 23:59:60 +0000", MOMENT(2016, 12, 31, 23, 59, 59, 0, 0, 0, 0), { 1483228799, 0 },
+        "byte 23: expected a digit from 0 to 5, since second 60 has no value", 0 },
+    { "Sat, 21 Nov 1997 09:55:06 -0600", MOMENT(0, 0, 0, 0, 0, 0, 0, 0, 0, 0), { 0, 0 }, "byte 0: expected `Fri`, the weekday of this date",
+        "byte 0: expected `Fri`, the weekday of this date" },
+    { "Fro, 21 Nov 1997 09:55:06 -0600", MOMENT(0, 0, 0, 0, 0, 0, 0, 0, 0, 0), { 0, 0 }, "byte 2: expected the rest of the name of a weekday",
+        "byte 0: expected the name of a weekday, or a day" },
+    { "Fri; 21 Nov 1997 09:55:06 -0600", MOMENT(0, 0, 0, 0, 0, 0, 0, 0, 0, 0), { 0, 0 }, "byte 3: expected `,`", "byte 3: expected `,`" },
+    { "Fri, 32 Nov 1997 09:55:06 -0600", MOMENT(0, 0, 0, 0, 0, 0, 0, 0, 0, 0), { 0, 0 }, "byte 6: expected a digit from 0 to 1",
+        "byte 5: expected a day from 1 to 31" },
+    { "Fri, 31 Nov 1997 09:55:06 -0600", MOMENT(0, 0, 0, 0, 0, 0, 0, 0, 0, 0), { 0, 0 }, "byte 8: expected the name of a month that has this day",
+        "byte 5: expected a day that this month has" },
+    { "Fri, 21 Nox 1997 09:55:06 -0600", MOMENT(0, 0, 0, 0, 0, 0, 0, 0, 0, 0), { 0, 0 }, "byte 10: expected the rest of the name of a month that has this day",
+        "byte 8: expected the name of a month" },
+    { "Thu, 21 Nov 1899 09:55:06 -0600", MOMENT(0, 0, 0, 0, 0, 0, 0, 0, 0, 0), { 0, 0 }, "byte 13: expected the digit 9", "byte 12: expected a year from 1900 on" },
+    { "Thu, 29 Feb 1900 09:55:06 -0600", MOMENT(0, 0, 0, 0, 0, 0, 0, 0, 0, 0), { 0, 0 },
+        "byte 15: expected a digit from 4 to 8 in steps of four, of a leap year", "byte 5: expected a day that this month has" },
+    { "Fri, 21 Nov 1997 24:55:06 -0600", MOMENT(0, 0, 0, 0, 0, 0, 0, 0, 0, 0), { 0, 0 }, "byte 18: expected a digit from 0 to 3",
+        "byte 17: expected an hour from 00 to 23" },
+    { "Fri, 21 Nov 1997 09.55:06 -0600", MOMENT(0, 0, 0, 0, 0, 0, 0, 0, 0, 0), { 0, 0 }, "byte 19: expected `:`", "byte 19: expected `:`" },
+    { "Fri, 21 Nov 1997 09:60:06 -0600", MOMENT(0, 0, 0, 0, 0, 0, 0, 0, 0, 0), { 0, 0 }, "byte 20: expected a digit from 0 to 5",
+        "byte 20: expected a minute from 00 to 59" },
+    { "Fri, 21 Nov 1997 09:55:61 -0600", MOMENT(0, 0, 0, 0, 0, 0, 0, 0, 0, 0), { 0, 0 }, "byte 23: expected a digit from 0 to 5",
+        "byte 23: expected a second from 00 to 60" },
+    { "Fri, 21 Nov 1997 09:55:06-0600", MOMENT(0, 0, 0, 0, 0, 0, 0, 0, 0, 0), { 0, 0 }, "byte 25: expected ` `", "byte 25: expected white space or a comment" },
+    { "Fri, 21 Nov 1997 09:55:06 CET", MOMENT(0, 0, 0, 0, 0, 0, 0, 0, 0, 0), { 0, 0 }, "byte 26: expected `+` or `-`", "byte 26: expected a zone that has a meaning" },
+    { "Fri, 21 Nov 1997 09:55:06 -0600 (CST", MOMENT(0, 0, 0, 0, 0, 0, 0, 0, 0, 0), { 0, 0 }, "byte 31: expected the end", "byte 36: expected the end of a comment" },
+    { "Fri, 21 Nov 1997 09:55:06 -0600.", MOMENT(0, 0, 0, 0, 0, 0, 0, 0, 0, 0), { 0, 0 }, "byte 31: expected the end", "byte 31: expected the end" },
+    { "", MOMENT(0, 0, 0, 0, 0, 0, 0, 0, 0, 0), { 0, 0 }, "byte 0: expected the name of a weekday", "byte 0: expected the name of a weekday, or a day" },
+};
+
+typedef ptrdiff_t part_reader(
+    const void *text, size_t text_len, struct movaliren_moment *moment, struct movaliren_read_error *error);
+typedef ptrdiff_t utc_reader(
+    const void *text, size_t text_len, struct movaliren_utc_moment *moment, struct movaliren_read_error *error);
+
 /* Reads the text into a moment by its parts and into one in UTC. Where it is read the place is unchanged, and
  * else both moments are. */
-static void try_reading(size_t i, int is_lenient)
+static void try_reading(const struct read_row *row, const char *words, part_reader *by_parts, utc_reader *in_utc)
 {
-    const char *text = read_rows[i].text, *words = is_lenient ? read_rows[i].lenient : read_rows[i].strict;
     const struct movaliren_moment before = MOMENT(-7, 7, 7, 7, 7, 7, 7, 7, 7, 7);
     const struct movaliren_read_error no_place = { 77, 77, 77, 77, 77, 77 };
-    struct movaliren_moment moment = before, wanted = words ? before : read_rows[i].moment;
+    struct movaliren_moment moment = before, wanted = words ? before : row->moment;
     struct movaliren_utc_moment utc = { -7, 7 };
     struct movaliren_read_error place = no_place, place_of_utc = no_place;
-    const size_t len = strlen(text);
     char said[MOVALIREN_READ_MESSAGE_SIZE];
     const ptrdiff_t error = words ? MOVALIREN_ERROR_NOT_READ : 0;
-    ptrdiff_t answer, of_utc;
-    if (is_lenient) {
-        answer = movaliren_read_rfc3339_lenient(text, len, &moment, &place);
-        of_utc = movaliren_read_rfc3339_lenient_utc(text, len, &utc, &place_of_utc);
-    } else {
-        answer = movaliren_read_rfc3339(text, len, &moment, &place);
-        of_utc = movaliren_read_rfc3339_utc(text, len, &utc, &place_of_utc);
-    }
-    expect_true(answer == error && of_utc == error, text, "read or refused");
-    expect_true(is_same_moment(&moment, &wanted), text, "another moment");
-    expect_true(utc.seconds == (words ? -7 : read_rows[i].utc.seconds), text, "another second");
-    expect_true(utc.nanosecond == (words ? 7 : read_rows[i].utc.nanosecond), text, "another nanosecond");
-    expect_true(place.at == place_of_utc.at && (words || place.at == 77), text, "another place");
+    const ptrdiff_t answer = by_parts(row->text, strlen(row->text), &moment, &place);
+    const ptrdiff_t of_utc = in_utc(row->text, strlen(row->text), &utc, &place_of_utc);
+    expect_true(answer == error && of_utc == error, row->text, "read or refused");
+    expect_true(is_same_moment(&moment, &wanted), row->text, "another moment");
+    expect_true(utc.seconds == (words ? -7 : row->utc.seconds), row->text, "another second");
+    expect_true(utc.nanosecond == (words ? 7 : row->utc.nanosecond), row->text, "another nanosecond");
+    expect_true(place.at == place_of_utc.at && (words || place.at == 77), row->text, "another place");
     if (words)
         expect_true(!strcmp(movaliren_read_error_message(&place, said), words), words, said);
 }
 
 static void try_reading_all(void)
 {
-    for (size_t i = 0; i < sizeof read_rows / sizeof *read_rows; i++)
-        try_reading(i, 0), try_reading(i, 1);
+    for (size_t i = 0; i < sizeof rfc3339_rows / sizeof *rfc3339_rows; i++) {
+        const struct read_row *row = &rfc3339_rows[i];
+        try_reading(row, row->strict, movaliren_read_rfc3339, movaliren_read_rfc3339_utc);
+        try_reading(row, row->lenient, movaliren_read_rfc3339_lenient, movaliren_read_rfc3339_lenient_utc);
+    }
+    for (size_t i = 0; i < sizeof rfc2822_rows / sizeof *rfc2822_rows; i++) {
+        const struct read_row *row = &rfc2822_rows[i];
+        try_reading(row, row->strict, movaliren_read_rfc2822, movaliren_read_rfc2822_utc);
+        try_reading(row, row->lenient, movaliren_read_rfc2822_lenient, movaliren_read_rfc2822_lenient_utc);
+    }
 }
 
 /* ---- the library itself */
@@ -555,8 +610,8 @@ static ptrdiff_t error_words(
 /* The words of the library are those of the header. */
 static void try_words(void)
 {
-    const ptrdiff_t others[] = { PTRDIFF_MIN, MOVALIREN_ERROR_MANY_ITEMS - 1, 0, 1, PTRDIFF_MAX };
-    for (ptrdiff_t reason = MOVALIREN_ERROR_MANY_ITEMS; reason < 0; reason++) {
+    const ptrdiff_t others[] = { PTRDIFF_MIN, MOVALIREN_ERROR_UNDETERMINED - 1, 0, 1, PTRDIFF_MAX };
+    for (ptrdiff_t reason = MOVALIREN_ERROR_UNDETERMINED; reason < 0; reason++) {
         expect_text(error_words, 0, &reason, movaliren_strerror(reason));
         expect_true(strlen(movaliren_strerror(reason)) <= 200, movaliren_strerror(reason), "longer than is said");
     }

@@ -250,6 +250,22 @@ static void readings()
     expect("50 decimals", std::to_string(movaliren::read_rfc3339(decimals, movaliren::profile::lenient).value().nanosecond),
         "500000000");
     expect("50 decimals, locally", movaliren::read_rfc3339_local(decimals, movaliren::profile::lenient).message(), "");
+    const auto sent = movaliren::read_rfc2822("Fri, 21 Nov 1997 09:55:06 -0600");
+    expect("mail read", std::to_string(sent.value().seconds), "880127706");
+    const char *old_mail = "Fri, 21 Nov 1997 09(comment):   55  :  06 -0600";
+    expect("old mail", std::to_string(movaliren::read_rfc2822(old_mail, movaliren::profile::lenient).value().seconds), "880127706");
+    expect("old mail, strictly", movaliren::read_rfc2822_local(old_mail).message(), "byte 19: expected `:`");
+    const auto feed = movaliren::read_rfc2822_local("21 Nov 97 09:55:06 EST", movaliren::profile::lenient);
+    expect("a feed", std::to_string(feed.value().offset_hours), "-5");
+    expect("mail of another weekday", movaliren::read_rfc2822("Sat, 21 Nov 1997 09:55:06 -0600").message(),
+        "byte 0: expected `Fri`, the weekday of this date");
+    const auto server = movaliren::description::parse_strftime("%d/%b/%Y:%H:%M:%S %z");
+    expect("read by a description", std::to_string(server.read("10/Oct/2000:13:55:36 -0700").value().seconds), "971211336");
+    expect("read with its offset", std::to_string(server.read_local("10/Oct/2000:13:55:36 -0700").value().offset_hours), "-7");
+    expect("not read by it", server.read("10/Okt/2000").message(), "byte 3: expected [month repr:short]");
+    const auto date = movaliren::description::parse("[year]-[month]-[day]");
+    expect("a date alone", date.read("2026-01-01").message(), "the texts do not determine a moment");
+    expect_error("its error", date.read("2026-01-01").error(), errc::undetermined);
     const auto none = movaliren::read_rfc3339("1996-12-19t16:39:57-08:00");
     expect_error("not read", none.error(), errc::not_read);
     expect("its place", none.message(), "byte 10: expected `T`");

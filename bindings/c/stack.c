@@ -37,10 +37,31 @@ static void read_text(void)
     if (movaliren_read_rfc3339("1997-11-12T09:55:06.12-06:00", 28, &read, &error) < 0)
         abort();
 }
+static void read_mail(void)
+{
+    static const char text[] = "21 Nov 97 (a (nested) comment) 09:55:06 EST";
+    struct movaliren_moment read;
+    struct movaliren_read_error error;
+    if (movaliren_read_rfc2822("Fri, 21 Nov 1997 09:55:06 -0600", 31, &read, &error) < 0
+        || movaliren_read_rfc2822_lenient(text, sizeof text - 1, &read, &error) < 0)
+        abort();
+}
 static void items_parse(void)
 {
     const ptrdiff_t count = movaliren_items_parse(deep, strlen(deep), items, 64, &parse_error);
     items_len = count < 0 ? 0 : (size_t)count;
+}
+static void items_read(void)
+{
+    static const char text[] = "10/Oct/2000:13:55:36 -0700", conversions[] = "%d/%b/%Y:%H:%M:%S %z";
+    static struct movaliren_item own[16];
+    struct movaliren_utc_moment read;
+    struct movaliren_read_error error;
+    const ptrdiff_t count = movaliren_items_parse_strftime(conversions, sizeof conversions - 1, own, 16, &parse_error);
+    if (count < 0
+        || movaliren_items_read_utc(own, (size_t)count, conversions, sizeof conversions - 1, text, sizeof text - 1, &read, &error) < 0
+        || movaliren_items_read_utc(own, (size_t)count, conversions, sizeof conversions - 1, text, 20, &read, &error) == 0)
+        abort();
 }
 static void items_format(void)
 {
@@ -72,7 +93,9 @@ static const struct {
     { "iso8601_with, the longest text", iso8601_with, 1024 },
     { "log_time", log_time, 1024 },
     { "read_rfc3339", read_text, 1024 },
+    { "read_rfc2822 and read_rfc2822_lenient", read_mail, 1024 },
     { "items_parse, 32 lists in one another", items_parse, 2048 },
+    { "items_read_utc, of a text and of none", items_read, 4096 },
     { "items_format", items_format, 2048 },
     { "format_strftime_local", strftime_local, 4096 },
     { "format_brackets_utc, 30 items in 32 lists in one another", brackets_utc, 4096 },

@@ -322,6 +322,88 @@ static void expect_fault_of(const char *piece, size_t count, parser *parse, size
         piece, "a long text");
 }
 
+/* ---- texts read by a description: what strptime and timegm make of the first ones, and the first place where one is none */
+
+static const struct {
+    parser *parse;
+    const char *format, *text;
+    ptrdiff_t by_parts, in_utc; /* 0 or the error */
+    int64_t seconds;
+    uint32_t nanosecond;
+    long offset;
+    const char *words; /* of the place */
+} readings[] = {
+    { movaliren_description_parse_strftime, "%d/%b/%Y:%H:%M:%S %z", "10/Oct/2000:13:55:36 -0700", 0, 0, 971211336, 0, -25200, 0 },
+    { movaliren_description_parse_strftime, "%a, %d %b %Y %H:%M:%S GMT", "Sun, 06 Nov 1994 08:49:37 GMT",
+        MOVALIREN_ERROR_UNDETERMINED, 0, 784111777, 0, 0, 0 },
+    { movaliren_description_parse_strftime, "%s", "784111777", MOVALIREN_ERROR_UNDETERMINED, 0, 784111777, 0, 0, 0 },
+    { movaliren_description_parse_strftime, "%s.%3N", "-1.250", MOVALIREN_ERROR_UNDETERMINED, 0, -1, 250000000, 0, 0 },
+    { movaliren_description_parse_strftime, "%s %:z", "784111777 +05:30", 0, 0, 784111777, 0, 19800, 0 },
+    { movaliren_description_parse, "[year]-W[week_number]-[weekday repr:monday]", "1994-W44-7",
+        MOVALIREN_ERROR_UNDETERMINED, MOVALIREN_ERROR_UNDETERMINED, 0, 0, 0, 0 },
+    { movaliren_description_parse, "[year base:iso_week]-W[week_number]-[weekday repr:monday]T[hour]", "1994-W44-7T08",
+        MOVALIREN_ERROR_UNDETERMINED, 0, 784108800, 0, 0, 0 },
+    { movaliren_description_parse, "[month repr:long] [day padding:none], [year], [hour repr:12 padding:none]:[minute] [period] [offset_hour sign:mandatory]",
+        "November 6, 1994, 8:49 AM +00", 0, 0, 784111740, 0, 0, 0 },
+    { movaliren_description_parse_strftime, "%-d%-m%Y %H:%M %z", "1111994 08:49 +0000",
+        MOVALIREN_ERROR_UNDETERMINED, MOVALIREN_ERROR_UNDETERMINED, 0, 0, 0, 0 },
+    { movaliren_description_parse_strftime, "%Y-%m-%d", "1994-11-06", MOVALIREN_ERROR_UNDETERMINED,
+        MOVALIREN_ERROR_UNDETERMINED, 0, 0, 0, 0 },
+    { movaliren_description_parse_strftime, "%d/%b/%Y:%H:%M:%S %z", "10/Okt/2000:13:55:36 -0700",
+        MOVALIREN_ERROR_NOT_READ, MOVALIREN_ERROR_NOT_READ, 0, 0, 0, "byte 3: expected [month repr:short]" },
+    { movaliren_description_parse_strftime, "%d/%b/%Y:%H:%M:%S %z", "31/Feb/2000:13:55:36 -0700",
+        MOVALIREN_ERROR_NOT_READ, MOVALIREN_ERROR_NOT_READ, 0, 0, 0, "byte 0: no value has this [day]" },
+    { movaliren_description_parse_strftime, "%d/%b/%Y:%H:%M:%S %z", "10/Oct/2000 13:55:36 -0700",
+        MOVALIREN_ERROR_NOT_READ, MOVALIREN_ERROR_NOT_READ, 0, 0, 0, "byte 11: expected `:`" },
+    { movaliren_description_parse_strftime, "%d/%b/%Y:%H:%M:%S %z", "10/Oct/2000:13:55:36 -0700 ",
+        MOVALIREN_ERROR_NOT_READ, MOVALIREN_ERROR_NOT_READ, 0, 0, 0, "byte 26: expected the end" },
+    { movaliren_description_parse_strftime, "%a, %d %b %Y %H:%M:%S %z", "Mon, 06 Nov 1994 08:49:37 +0000",
+        MOVALIREN_ERROR_NOT_READ, MOVALIREN_ERROR_NOT_READ, 0, 0, 0, "byte 0: the value is written otherwise from here on" },
+};
+
+static long offset_of(const struct movaliren_moment *m)
+{
+    return m->offset_hours * 3600L + m->offset_minutes * 60L + m->offset_seconds;
+}
+
+static void try_reading(size_t i)
+{
+    struct movaliren_item items[32];
+    char copy_line[128], said[MOVALIREN_READ_MESSAGE_SIZE];
+    struct movaliren_description line = MOVALIREN_DESCRIPTION_INIT(items, copy_line);
+    struct movaliren_read_error error = { 77, 77, 77, 77, 77, 77 };
+    struct movaliren_moment moment = { 77, 1, 1, 0, 0, 0, 0, 0, 0, 0 };
+    struct movaliren_utc_moment utc = { 77, 77 };
+    const char *text = readings[i].text;
+    ptrdiff_t answer;
+    expect_true(movaliren_description_read(&line, text, strlen(text), &moment, &error) == MOVALIREN_ERROR_BAD_DESCRIPTION, text, "read");
+    expect_true(readings[i].parse(&line, readings[i].format) == 0, readings[i].format, "refused");
+    answer = movaliren_description_read(&line, text, strlen(text), &moment, &error);
+    expect_true(answer == readings[i].by_parts, text, "read or refused");
+    expect_true(answer == 0 ? offset_of(&moment) == readings[i].offset : moment.year == 77, text, "another offset");
+    expect_true((error.at == 77) == (answer != MOVALIREN_ERROR_NOT_READ), text, "another place");
+    answer = movaliren_description_read_utc(&line, text, strlen(text), &utc, &error);
+    expect_true(answer == readings[i].in_utc, text, "read or refused in UTC");
+    if (answer == 0)
+        expect_true(utc.seconds == readings[i].seconds && utc.nanosecond == readings[i].nanosecond, text, "another moment");
+    else
+        expect_true(utc.seconds == 77, text, "a moment after an error");
+    if (readings[i].words)
+        expect_true(!strcmp(movaliren_read_error_message(&error, said), readings[i].words), readings[i].words, said);
+}
+
+/* Invalid items come before the text. */
+static void try_reading_invalid_items(void)
+{
+    static const struct movaliren_item items[] = { { .kind = MOVALIREN_KIND_YEAR }, { .kind = 0 } };
+    struct movaliren_read_error error = { 77, 77, 77, 77, 77, 77 };
+    struct movaliren_moment moment = { 77, 1, 1, 0, 0, 0, 0, 0, 0, 0 };
+    struct movaliren_utc_moment utc = { 77, 77 };
+    expect_true(movaliren_items_read(items, 2, "", 0, "", 0, &moment, &error) == MOVALIREN_ERROR_BAD_ITEM, "items_read", "read");
+    expect_true(movaliren_items_read_utc(items, 2, "", 0, "", 0, &utc, &error) == MOVALIREN_ERROR_BAD_ITEM, "items_read_utc", "read");
+    expect_true(moment.year == 77 && utc.seconds == 77 && error.at == 77, "items_read", "something has changed");
+}
+
 /* Each prefix is read or has a fault within it. Its bytes end where its memory does. */
 static void try_prefixes(const char *text, int is_strftime)
 {
@@ -364,6 +446,12 @@ static void try_random_moments(void)
         expect_true(movaliren_description_parse_strftime(&line, format) == 0, format, "refused");
         MOVALIREN_TO_ARRAY(text, movaliren_description_format_utc, &line, second, 0);
         expect_true(!strcmp(text, wanted), wanted, text);
+        if (i % (sizeof formats / sizeof *formats) < 2) {
+            struct movaliren_utc_moment moment = { 0, 0 };
+            struct movaliren_read_error error;
+            expect_true(movaliren_description_read_utc(&line, wanted, strlen(wanted), &moment, &error) == 0
+                    && moment.seconds == second && moment.nanosecond == 0, wanted, "not read back");
+        }
     }
 }
 
@@ -460,6 +548,9 @@ static void try_nothing(void)
     expect_true(movaliren_parse_strerror_r(1, NULL, 0) == too_small, "parse_strerror_r", "written");
     expect_true(movaliren_read_rfc3339(NULL, 0, &moment, &read_error) == MOVALIREN_ERROR_NOT_READ && read_error.at == 0, "read_rfc3339", "read");
     expect_true(movaliren_read_rfc3339_lenient_utc(NULL, 0, &utc, &read_error) == MOVALIREN_ERROR_NOT_READ, "read_rfc3339_lenient_utc", "read");
+    expect_true(movaliren_read_rfc2822(NULL, 0, &moment, &read_error) == MOVALIREN_ERROR_NOT_READ && read_error.at == 0, "read_rfc2822", "read");
+    expect_true(movaliren_read_rfc2822_lenient_utc(NULL, 0, &utc, &read_error) == MOVALIREN_ERROR_NOT_READ && read_error.at == 0, "read_rfc2822_lenient_utc", "read");
+    expect_true(movaliren_items_read(NULL, 0, NULL, 0, NULL, 0, &moment, &read_error) == MOVALIREN_ERROR_UNDETERMINED, "items_read", "read");
     expect_true(movaliren_rfc3339_batch(NULL, 0, '\n', NULL, 0).error == 0, "rfc3339_batch", "refused");
     expect_true(movaliren_rfc3339_batch(&mail, 1, '\n', NULL, 0).error == too_small, "rfc3339_batch", "written");
     expect_true(movaliren_stamp_utc_batch(NULL, 0, '\n', NULL, 0).error == 0, "stamp_utc_batch", "refused");
@@ -494,6 +585,9 @@ int main(void)
     expect_fault_of("[first [", 33, movaliren_description_parse, 263, MOVALIREN_PARSE_ERROR_TOO_DEEP);
     expect_fault_of("\\[", 32769, movaliren_description_parse, 65536, MOVALIREN_PARSE_ERROR_TOO_MANY_ITEMS);
     expect_fault_of("%%", 65537, movaliren_description_parse_strftime, 131072, MOVALIREN_PARSE_ERROR_TOO_MANY_ITEMS);
+    for (size_t i = 0; i < sizeof readings / sizeof *readings; i++)
+        try_reading(i);
+    try_reading_invalid_items();
     try_random_moments();
     printf("texts: %d wrong\n", failures);
     return failures != 0;

@@ -100,3 +100,27 @@ func (d *Description) Format(t time.Time) (string, error) {
 	text, err := d.Append(nil, t)
 	return string(text), err
 }
+
+// Read reads a text that the description writes of a moment, and nothing else: the weekday is that of the date, and numbers have
+// the zeros or spaces of the description. The time is at the offset that the text shows. A text without one is in UTC. A description
+// whose texts do not determine a moment is ErrUndetermined. Of another text the error is a *ReadError.
+func (d *Description) Read(text string) (time.Time, error) {
+	moment, err := read(text, func(bytes unsafe.Pointer, size C.size_t, moment *C.struct_movaliren_moment, wrong *C.struct_movaliren_read_error) C.ptrdiff_t {
+		return C.movaliren_items_read(d.first(), C.size_t(len(d.items)), d.text(), C.size_t(len(d.texts)), bytes, size, moment, wrong)
+	})
+	if err != ErrUndetermined {
+		return moment, err
+	}
+	var utc C.struct_movaliren_utc_moment
+	var wrong C.struct_movaliren_read_error
+	bytes := []byte(text)
+	var first unsafe.Pointer
+	if len(bytes) > 0 {
+		first = unsafe.Pointer(&bytes[0])
+	}
+	number := C.movaliren_items_read_utc(d.first(), C.size_t(len(d.items)), d.text(), C.size_t(len(d.texts)), first, C.size_t(len(bytes)), &utc, &wrong)
+	if number < 0 {
+		return time.Time{}, unread(number, &wrong)
+	}
+	return time.Unix(int64(utc.seconds), int64(utc.nanosecond)).UTC(), nil
+}

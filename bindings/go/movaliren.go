@@ -29,6 +29,7 @@ const (
 	ErrOutOfRange         Error = C.MOVALIREN_ERROR_OUT_OF_RANGE
 	ErrNotRead            Error = C.MOVALIREN_ERROR_NOT_READ
 	ErrBadDescription     Error = C.MOVALIREN_ERROR_BAD_DESCRIPTION
+	ErrUndetermined       Error = C.MOVALIREN_ERROR_UNDETERMINED
 	errBufferTooSmall     Error = C.MOVALIREN_ERROR_BUFFER_TOO_SMALL
 	errManyItems          Error = C.MOVALIREN_ERROR_MANY_ITEMS
 	sizeOfRFC3339               = C.MOVALIREN_RFC3339_SIZE

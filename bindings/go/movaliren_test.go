@@ -101,6 +101,43 @@ func TestReading(t *testing.T) {
 	}
 }
 
+func TestReadingByADescription(t *testing.T) {
+	for form, text := range map[string]string{
+		"%d/%b/%Y:%H:%M:%S %z": "10/Oct/2000:13:55:36 -0700", "%s": "971211336", "%Y-%m-%d %H:%M:%S": "2000-10-10 20:55:36",
+	} {
+		line, err := ParseStrftime(form)
+		if err != nil {
+			t.Fatal(err)
+		}
+		if moment, err := line.Read(text); err != nil || moment.Unix() != 971211336 {
+			t.Error(form, moment, err)
+		}
+		var wrong *ReadError
+		if _, err := line.Read("Okt"); !errors.As(err, &wrong) || wrong.At != 0 {
+			t.Error(form, err)
+		}
+	}
+	day, _ := ParseDescription("[year]-[month]-[day]")
+	if _, err := day.Read("2000-10-10"); !errors.Is(err, ErrUndetermined) {
+		t.Error(err)
+	}
+}
+
+func TestReadingMail(t *testing.T) {
+	for text, read := range map[string]func(string) (time.Time, error){
+		"Fri, 21 Nov 1997 09:55:06 -0600": ReadRFC2822, "Fri, 21 Nov 1997 09(comment):   55  :  06 -0600": ReadRFC2822Lenient,
+		"21 nov 97 08:55:06 PDT": ReadRFC2822Lenient,
+	} {
+		if moment, err := read(text); err != nil || moment.Unix() != 880127706 {
+			t.Error(text, moment, err)
+		}
+	}
+	_, err := ReadRFC2822("Sat, 21 Nov 1997 09:55:06 -0600")
+	expect(t, err.Error(), "byte 0: expected `Fri`, the weekday of this date")
+	_, err = ReadRFC2822Lenient("21 Nov 1997 09:55 CET")
+	expect(t, err.Error(), "byte 18: expected a zone that has a meaning")
+}
+
 func TestLines(t *testing.T) {
 	column := []int64{0, -1, 1_000_000_000_000}
 	expect(t, must(AppendRFC3339Column([]byte("lines:\n"), column, time.Millisecond)),
@@ -135,6 +172,12 @@ func TestRandomMoments(t *testing.T) {
 		wanted = append(append(wanted, text...), '\n')
 		if read, err := ReadRFC3339(text); err != nil || !read.Equal(moments[index]) {
 			t.Error(text, err)
+		}
+		if moments[index].Year() >= 1900 {
+			mail := moments[index].Format(time.RFC1123Z)
+			if read, err := ReadRFC2822(mail); err != nil || !read.Equal(moments[index].Truncate(time.Second)) {
+				t.Error(mail, err)
+			}
 		}
 	}
 	expect(t, must(AppendRFC3339Lines(nil, moments)), string(wanted))

@@ -465,7 +465,7 @@ static PyObject *raise_not_read(const struct movaliren_read_error *error)
 static PyObject *zone_of(const struct movaliren_moment *m)
 {
     PyObject *delta, *zone;
-    const int seconds = m->offset_hours * 3600 + m->offset_minutes * 60;
+    const int seconds = m->offset_hours * 3600 + m->offset_minutes * 60 + m->offset_seconds;
     if (seconds == 0)
         return Py_NewRef(utc);
     if (!(delta = PyObject_CallFunction(timedelta_type, "ii", 0, seconds)))
@@ -473,6 +473,12 @@ static PyObject *zone_of(const struct movaliren_moment *m)
     zone = PyObject_CallFunctionObjArgs(timezone_type, delta, NULL);
     Py_DECREF(delta);
     return zone;
+}
+
+/* Raises the error of a text that a description does not read. */
+static PyObject *raise_unread(ptrdiff_t number, const struct movaliren_read_error *error)
+{
+    return number == MOVALIREN_ERROR_NOT_READ ? raise_not_read(error) : raise_number(number);
 }
 
 /* Takes (text, lenient=False). */
@@ -483,46 +489,87 @@ static int take_text(PyObject *args, PyObject *named, const char **text, Py_ssiz
     return PyArg_ParseTupleAndKeywords(args, named, "s#|p", names, text, len, is_lenient) ? 0 : -1;
 }
 
-static PyObject *read_rfc3339(PyObject *module, PyObject *args, PyObject *named)
+/* The calls that read a text strictly and leniently, into the parts of a moment and into seconds. */
+struct reader {
+    ptrdiff_t (*by_parts[2])(const void *, size_t, struct movaliren_moment *, struct movaliren_read_error *);
+    ptrdiff_t (*in_utc[2])(const void *, size_t, struct movaliren_utc_moment *, struct movaliren_read_error *);
+    const char *name_at;
+};
+
+static const struct reader of_rfc3339 = { { movaliren_read_rfc3339, movaliren_read_rfc3339_lenient },
+    { movaliren_read_rfc3339_utc, movaliren_read_rfc3339_lenient_utc }, "read_rfc3339_at" };
+static const struct reader of_rfc2822 = { { movaliren_read_rfc2822, movaliren_read_rfc2822_lenient },
+    { movaliren_read_rfc2822_utc, movaliren_read_rfc2822_lenient_utc }, "read_rfc2822_at" };
+
+/* The datetime of these parts. The call of this name returns the nanosecond. */
+static PyObject *datetime_of(const struct movaliren_moment *m, const char *name_at)
+{
+    PyObject *zone, *moment;
+    if (m->nanosecond % 1000 != 0)
+        return PyErr_Format(PyExc_ValueError, "a datetime has microseconds alone: %s returns the nanosecond", name_at);
+    if (!(zone = zone_of(m)))
+        return NULL;
+    moment = PyObject_CallFunction(datetime_type, "iiiiiiiO", (int)m->year, m->month, m->day, m->hour, m->minute,
+        m->second, (int)(m->nanosecond / 1000), zone);
+    Py_DECREF(zone);
+    return moment;
+}
+
+static PyObject *pair_of(const struct movaliren_utc_moment *m)
+{
+    return Py_BuildValue("(LI)", (long long)m->seconds, (unsigned)m->nanosecond);
+}
+
+static PyObject *read_by(const struct reader *reader, PyObject *args, PyObject *named)
 {
     const char *text;
     Py_ssize_t len;
     int is_lenient;
     struct movaliren_moment m;
     struct movaliren_read_error error;
-    PyObject *zone, *moment;
-    (void)module;
     if (take_text(args, named, &text, &len, &is_lenient) != 0)
         return NULL;
-    if ((is_lenient ? movaliren_read_rfc3339_lenient(text, (size_t)len, &m, &error)
-                    : movaliren_read_rfc3339(text, (size_t)len, &m, &error)) < 0)
+    if (reader->by_parts[is_lenient](text, (size_t)len, &m, &error) < 0)
         return raise_not_read(&error);
-    if (m.nanosecond % 1000 != 0) {
-        PyErr_SetString(PyExc_ValueError, "a datetime has microseconds alone: read_rfc3339_at returns the nanosecond");
-        return NULL;
-    }
-    if (!(zone = zone_of(&m)))
-        return NULL;
-    moment = PyObject_CallFunction(datetime_type, "iiiiiiiO", (int)m.year, m.month, m.day, m.hour, m.minute, m.second,
-        (int)(m.nanosecond / 1000), zone);
-    Py_DECREF(zone);
-    return moment;
+    return datetime_of(&m, reader->name_at);
 }
 
-static PyObject *read_rfc3339_at(PyObject *module, PyObject *args, PyObject *named)
+static PyObject *read_at_by(const struct reader *reader, PyObject *args, PyObject *named)
 {
     const char *text;
     Py_ssize_t len;
     int is_lenient;
     struct movaliren_utc_moment m;
     struct movaliren_read_error error;
-    (void)module;
     if (take_text(args, named, &text, &len, &is_lenient) != 0)
         return NULL;
-    if ((is_lenient ? movaliren_read_rfc3339_lenient_utc(text, (size_t)len, &m, &error)
-                    : movaliren_read_rfc3339_utc(text, (size_t)len, &m, &error)) < 0)
+    if (reader->in_utc[is_lenient](text, (size_t)len, &m, &error) < 0)
         return raise_not_read(&error);
-    return Py_BuildValue("(LI)", (long long)m.seconds, (unsigned)m.nanosecond);
+    return pair_of(&m);
+}
+
+static PyObject *read_rfc3339(PyObject *module, PyObject *args, PyObject *named)
+{
+    (void)module;
+    return read_by(&of_rfc3339, args, named);
+}
+
+static PyObject *read_rfc3339_at(PyObject *module, PyObject *args, PyObject *named)
+{
+    (void)module;
+    return read_at_by(&of_rfc3339, args, named);
+}
+
+static PyObject *read_rfc2822(PyObject *module, PyObject *args, PyObject *named)
+{
+    (void)module;
+    return read_by(&of_rfc2822, args, named);
+}
+
+static PyObject *read_rfc2822_at(PyObject *module, PyObject *args, PyObject *named)
+{
+    (void)module;
+    return read_at_by(&of_rfc2822, args, named);
 }
 
 /* ---- descriptions */
@@ -627,6 +674,59 @@ static PyObject *format_date(PyObject *self, PyObject *date)
     return take_date(date, &v.parts) == 0 ? text_of(&form, &v) : NULL;
 }
 
+/* The datetime in UTC of a moment. */
+static PyObject *datetime_in_utc(const struct movaliren_utc_moment *m)
+{
+    PyObject *epoch, *delta, *moment = NULL;
+    if (m->nanosecond % 1000 != 0)
+        return PyErr_Format(PyExc_ValueError, "a datetime has microseconds alone: read_at returns the nanosecond");
+    epoch = PyObject_CallFunction(datetime_type, "iiiiiiiO", 1970, 1, 1, 0, 0, 0, 0, utc);
+    delta = PyObject_CallFunction(timedelta_type, "iLI", 0, (long long)m->seconds, (unsigned)(m->nanosecond / 1000));
+    if (epoch && delta)
+        moment = PyNumber_Add(epoch, delta);
+    Py_XDECREF(delta);
+    Py_XDECREF(epoch);
+    return moment;
+}
+
+/* Reads a text that has Unix time, or is in UTC. */
+static PyObject *read_in_utc(const struct movaliren_description *own, const char *text, Py_ssize_t len)
+{
+    struct movaliren_utc_moment m;
+    struct movaliren_read_error error;
+    const ptrdiff_t number = movaliren_description_read_utc(own, text, (size_t)len, &m, &error);
+    return number < 0 ? raise_unread(number, &error) : datetime_in_utc(&m);
+}
+
+static PyObject *read_text(PyObject *self, PyObject *given)
+{
+    const struct movaliren_description *own = &((struct description *)self)->own;
+    struct movaliren_moment m;
+    struct movaliren_read_error error;
+    Py_ssize_t len;
+    ptrdiff_t number;
+    const char *text = PyUnicode_AsUTF8AndSize(given, &len);
+    if (!text)
+        return NULL;
+    number = movaliren_description_read(own, text, (size_t)len, &m, &error);
+    if (number == MOVALIREN_ERROR_UNDETERMINED)
+        return read_in_utc(own, text, len);
+    return number < 0 ? raise_unread(number, &error) : datetime_of(&m, "read_at");
+}
+
+static PyObject *read_text_at(PyObject *self, PyObject *given)
+{
+    struct movaliren_utc_moment m;
+    struct movaliren_read_error error;
+    Py_ssize_t len;
+    ptrdiff_t number;
+    const char *text = PyUnicode_AsUTF8AndSize(given, &len);
+    if (!text)
+        return NULL;
+    number = movaliren_description_read_utc(&((struct description *)self)->own, text, (size_t)len, &m, &error);
+    return number < 0 ? raise_unread(number, &error) : pair_of(&m);
+}
+
 static PyObject *lines(PyObject *self, PyObject *args, PyObject *named)
 {
     struct movaliren_lines form = form_of(self);
@@ -652,6 +752,8 @@ static PyMethodDef description_methods[] = {
     { "format", format, METH_O, "The text of a datetime." },
     { "format_at", WITH_NAMES(format_at), "The text of a moment by its seconds since 1970." },
     { "format_date", format_date, METH_O, "The text of a date." },
+    { "read", read_text, METH_O, "The datetime that the description writes as this text. Without an offset it is in UTC." },
+    { "read_at", read_text_at, METH_O, "Its seconds since 1970 and its nanosecond." },
     { "lines", WITH_NAMES(lines), "The lines of a column of moments." },
     { NULL, NULL, 0, NULL },
 };
@@ -695,6 +797,8 @@ static PyMethodDef functions[] = {
     { "iso8601_lines", WITH_NAMES(iso8601_lines), "The lines of a column of moments." },
     { "read_rfc3339", WITH_NAMES(read_rfc3339), "The datetime that a text of RFC 3339 means." },
     { "read_rfc3339_at", WITH_NAMES(read_rfc3339_at), "Its seconds since 1970 and its nanosecond." },
+    { "read_rfc2822", WITH_NAMES(read_rfc2822), "The datetime that a text of RFC 2822 means, or leniently one of mail or a feed." },
+    { "read_rfc2822_at", WITH_NAMES(read_rfc2822_at), "Its seconds since 1970, and the nanosecond 0." },
     { "library_version", library_version, METH_NOARGS, "The version of the library, as 100 for 0.1.0." },
     { NULL, NULL, 0, NULL },
 };

@@ -5,6 +5,7 @@ import array
 import ctypes
 import datetime
 import doctest
+import email.utils
 import logging
 import random
 import zoneinfo
@@ -64,6 +65,12 @@ def worked():
     expect(movaliren.read_rfc3339("1996-12-19T16:39:57-08:00").utcoffset(), datetime.timedelta(hours=-8))
     expect(movaliren.read_rfc3339("1985-04-12t23:20:50.52z", lenient=True).tzinfo, UTC)
     expect(movaliren.read_rfc3339_at("1937-01-01T12:00:27.870000001+00:20"), (-1041337173, 870_000_001))
+    for text in "Fri, 21 Nov 1997 09:55:06 -0600", "Thu, 13 Feb 1969 23:32:54 -0330":
+        expect(movaliren.read_rfc2822(text), email.utils.parsedate_to_datetime(text))
+        expect(movaliren.read_rfc2822_at(text), (email.utils.mktime_tz(email.utils.parsedate_tz(text)), 0))
+    for text in "Tue, 1 Jul 2003 10:52:37 +0200", "21 Nov 97 09:55:06 GMT", "Thu,\r\n 13\r\n Feb\r\n 1969\r\n 23:32\r\n -0330 (NST)":
+        expect(movaliren.read_rfc2822(text, lenient=True), email.utils.parsedate_to_datetime(text))
+        expect(movaliren.read_rfc2822_at(text, lenient=True)[0], email.utils.mktime_tz(email.utils.parsedate_tz(text)))
 
 
 def descriptions():
@@ -78,6 +85,12 @@ def descriptions():
     long = movaliren.Description("é [offset_hour sign:mandatory] " * 200)
     expect(long.format(moment), "é -08 " * 200)
     expect(movaliren.Description.strftime("%d\0%m").format_at(0), "01\0" + "01")
+    expect(line.read("1996-12-19T16:39:57.000-08:00"), moment)
+    nginx = movaliren.Description.strftime("%d/%b/%Y:%H:%M:%S %z")
+    expect(nginx.read("10/Oct/2000:13:55:36 -0700"), datetime.datetime.strptime("10/Oct/2000:13:55:36 -0700", "%d/%b/%Y:%H:%M:%S %z"))
+    expect(nginx.read_at("10/Oct/2000:13:55:36 -0700"), (971211336, 0))
+    expect(movaliren.Description.strftime("%s.%3N").read("851042397.500"), datetime.datetime.fromtimestamp(851042397.5, UTC))
+    expect(movaliren.Description("[year]-[month]-[day] [hour]:[minute]").read("1996-12-20 00:39").tzinfo, UTC)
 
 
 def refused():
@@ -86,6 +99,14 @@ def refused():
     expect(error_of(movaliren.Description.strftime, "%Q"), ("DescriptionError: unknown conversion `%Q` at byte 1", 1))
     expect(error_of(movaliren.read_rfc3339, "1985-04-12 23:20"), ("ReadError: byte 10: expected `T`", 10))
     expect(error_of(movaliren.read_rfc3339_at, ""), ("ReadError: byte 0: expected a digit from 0 to 9", 0))
+    other = "Sat, 21 Nov 1997 09:55:06 -0600"
+    expect(error_of(movaliren.read_rfc2822, other), ("ReadError: byte 0: expected `Fri`, the weekday of this date", 0))
+    expect(error_of(movaliren.read_rfc2822_at, "21 Nov 97 09:55 CET", True), ("ReadError: byte 16: expected a zone that has a meaning", 16))
+    day = movaliren.Description.strftime("%Y-%m-%d")
+    expect(error_of(day.read, "2026-01-01"), ("Error: the texts do not determine a moment",))
+    clock = movaliren.Description.strftime("%Y-%m-%d %H:%M:%S")
+    expect(error_of(clock.read, "2026-02-31 00:00:00")[0].partition(":")[0], "ReadError")
+    expect(error_of(clock.read_at, "2026-02-28 00:00"), ("ReadError: byte 16: expected `:`", 16))
     for offset in 93600, 2**31, 2**32:
         expect(error_of(movaliren.rfc3339_at, 0, 0, offset), ("Error: the hours of the offset are outside -25 to 25",))
     expect(error_of(movaliren.rfc3339_at, 253402300800), ("Error: the format cannot represent the year",))
@@ -154,6 +175,9 @@ def beside_datetime():
         expect(movaliren.iso8601(moment, 6), wanted.replace("+00:00", "Z"))
         expect(movaliren.rfc2822(moment), f"{moment:%a, %d %b %Y %H:%M:%S %z}")
         expect(movaliren.read_rfc3339(movaliren.rfc3339(moment)), moment)
+        expect(movaliren.Description.strftime("%A, %-d %B %Y, %H.%M.%S.%6N %:z").read(
+            f"{moment:%A}, {moment.day} {moment:%B %Y, %H.%M.%S.%f} {wanted[26:]}"), moment)
+        expect(movaliren.read_rfc2822(email.utils.format_datetime(moment)), moment.replace(microsecond=0))
 
 
 def logged():

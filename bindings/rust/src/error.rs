@@ -57,6 +57,8 @@ pub enum Error {
     BadDescription,
     /// The description has more items than there is room for. This crate makes room for all.
     ManyItems,
+    /// The texts do not determine a moment, as those of a date alone.
+    Undetermined,
     /// The library returned a number that this crate does not know.
     Unknown(isize),
 }

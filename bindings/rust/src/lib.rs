@@ -1,5 +1,5 @@
 //! Dates and times as text, by Movaliren's proved formatter: RFC 3339, RFC 2822, ISO 8601, stamps that
-//! sort, and descriptions.
+//! sort, and descriptions; and texts, read back.
 //!
 //! ```
 //! use movaliren::{Format, Moment, Rfc3339, UtcMoment};
@@ -71,7 +71,7 @@ pub use log::LogTime;
 pub use moment::{LocalMoment, Moment, UtcMoment};
 pub use parse::{FaultReason, InvalidDescription};
 pub use raw::Read;
-pub use read::{Expected, NotRead};
+pub use read::{Expected, NotRead, Unread};
 pub use text::Text;
 
 /// Returns the version of the library that the program runs with: 10,000 for its first part, 100 for the second,

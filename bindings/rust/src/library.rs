@@ -87,6 +87,10 @@ extern "C" {
     pub(crate) fn movaliren_read_rfc3339_utc(text: *const u8, text_len: usize, moment: *mut UtcMoment, error: *mut ReadError) -> isize;
     pub(crate) fn movaliren_read_rfc3339_lenient(text: *const u8, text_len: usize, moment: *mut Moment, error: *mut ReadError) -> isize;
     pub(crate) fn movaliren_read_rfc3339_lenient_utc(text: *const u8, text_len: usize, moment: *mut UtcMoment, error: *mut ReadError) -> isize;
+    pub(crate) fn movaliren_read_rfc2822(text: *const u8, text_len: usize, moment: *mut Moment, error: *mut ReadError) -> isize;
+    pub(crate) fn movaliren_read_rfc2822_utc(text: *const u8, text_len: usize, moment: *mut UtcMoment, error: *mut ReadError) -> isize;
+    pub(crate) fn movaliren_read_rfc2822_lenient(text: *const u8, text_len: usize, moment: *mut Moment, error: *mut ReadError) -> isize;
+    pub(crate) fn movaliren_read_rfc2822_lenient_utc(text: *const u8, text_len: usize, moment: *mut UtcMoment, error: *mut ReadError) -> isize;
     pub(crate) fn movaliren_rfc3339_batch(moments: *const Moment, moments_len: usize, end: u8, buffer: *mut u8, buffer_size: usize) -> Progress;
     pub(crate) fn movaliren_rfc2822_batch(moments: *const Moment, moments_len: usize, end: u8, buffer: *mut u8, buffer_size: usize) -> Progress;
     pub(crate) fn movaliren_iso8601_batch(moments: *const Moment, moments_len: usize, end: u8, buffer: *mut u8, buffer_size: usize) -> Progress;
@@ -109,6 +113,8 @@ extern "C" {
     pub(crate) fn movaliren_items_format_date_length(items: *const Item, items_len: usize, texts: *const u8, texts_len: usize, year: i32, month: u8, day: u8) -> isize;
     pub(crate) fn movaliren_items_parse(text: *const u8, text_len: usize, items: *mut Item, items_capacity: usize, error: *mut ParseError) -> isize;
     pub(crate) fn movaliren_items_parse_strftime(text: *const u8, text_len: usize, items: *mut Item, items_capacity: usize, error: *mut ParseError) -> isize;
+    pub(crate) fn movaliren_items_read(items: *const Item, items_len: usize, texts: *const u8, texts_len: usize, text: *const u8, text_len: usize, moment: *mut Moment, error: *mut ReadError) -> isize;
+    pub(crate) fn movaliren_items_read_utc(items: *const Item, items_len: usize, texts: *const u8, texts_len: usize, text: *const u8, text_len: usize, moment: *mut UtcMoment, error: *mut ReadError) -> isize;
     pub(crate) fn movaliren_parse_strerror_r(kind: u8, buffer: *mut u8, buffer_size: usize) -> isize;
     pub(crate) fn movaliren_format_brackets_utc(text: *const u8, text_len: usize, seconds: i64, nanosecond: u32, buffer: *mut u8, buffer_size: usize) -> isize;
     pub(crate) fn movaliren_format_brackets_local(text: *const u8, text_len: usize, seconds: i64, nanosecond: u32, offset: i64, buffer: *mut u8, buffer_size: usize) -> isize;
@@ -141,6 +147,7 @@ pub(crate) fn error_of(number: isize) -> Error {
         -23 => Error::NotRead,
         -24 => Error::BadDescription,
         -25 => Error::ManyItems,
+        -26 => Error::Undetermined,
         other => Error::Unknown(other),
     }
 }
@@ -171,6 +178,7 @@ pub(crate) fn words_of(error: Error) -> Result<&'static str, isize> {
         Error::NotRead => "the text is not one of the format",
         Error::BadDescription => "the text is not a description",
         Error::ManyItems => "the description has more items than there is room for",
+        Error::Undetermined => "the texts do not determine a moment",
         Error::OutOfMemory => "out of memory",
         Error::Unknown(number) => return Err(number),
     })
@@ -209,4 +217,80 @@ impl Kind {
     pub(crate) const fn has_sign(self) -> bool {
         matches!(self, Kind::YearExtended | Kind::Year | Kind::CenturyExtended | Kind::Century | Kind::IsoYearExtended | Kind::IsoYear | Kind::IsoCenturyExtended | Kind::IsoCentury | Kind::OffsetHour | Kind::UnixSecond | Kind::UnixMillisecond)
     }
+    pub(crate) const fn name(self) -> &'static str {
+        match self {
+            Kind::Day => "[day]",
+            Kind::MonthShort => "[month repr:short]",
+            Kind::MonthLong => "[month repr:long]",
+            Kind::Month => "[month]",
+            Kind::Ordinal => "[ordinal]",
+            Kind::WeekdayShort => "[weekday repr:short]",
+            Kind::WeekdayLong => "[weekday]",
+            Kind::WeekdayFromSunday => "[weekday repr:sunday]",
+            Kind::WeekdayFromMonday => "[weekday repr:monday]",
+            Kind::WeekIso => "[week_number]",
+            Kind::WeekSunday => "[week_number repr:sunday]",
+            Kind::WeekMonday => "[week_number repr:monday]",
+            Kind::YearExtended => "[year]",
+            Kind::Year => "[year]",
+            Kind::CenturyExtended => "[year repr:century]",
+            Kind::Century => "[year repr:century]",
+            Kind::YearLastTwo => "[year repr:last_two]",
+            Kind::IsoYearExtended => "[year base:iso_week]",
+            Kind::IsoYear => "[year base:iso_week]",
+            Kind::IsoCenturyExtended => "[year base:iso_week repr:century]",
+            Kind::IsoCentury => "[year base:iso_week repr:century]",
+            Kind::IsoYearLastTwo => "[year base:iso_week repr:last_two]",
+            Kind::Hour12 => "[hour repr:12]",
+            Kind::Hour => "[hour]",
+            Kind::Minute => "[minute]",
+            Kind::Period => "[period]",
+            Kind::Second => "[second]",
+            Kind::Subsecond => "[subsecond]",
+            Kind::OffsetHour => "[offset_hour]",
+            Kind::OffsetMinute => "[offset_minute]",
+            Kind::OffsetSecond => "[offset_second]",
+            Kind::UnixSecond => "[unix_timestamp]",
+            Kind::UnixMillisecond => "[unix_timestamp precision:millisecond]",
+        }
+    }
+}
+
+pub(crate) fn kind_of(number: u8) -> Option<Kind> {
+    Some(match number {
+        1 => Kind::Day,
+        2 => Kind::MonthShort,
+        3 => Kind::MonthLong,
+        4 => Kind::Month,
+        5 => Kind::Ordinal,
+        6 => Kind::WeekdayShort,
+        7 => Kind::WeekdayLong,
+        8 => Kind::WeekdayFromSunday,
+        9 => Kind::WeekdayFromMonday,
+        10 => Kind::WeekIso,
+        11 => Kind::WeekSunday,
+        12 => Kind::WeekMonday,
+        13 => Kind::YearExtended,
+        14 => Kind::Year,
+        15 => Kind::CenturyExtended,
+        16 => Kind::Century,
+        17 => Kind::YearLastTwo,
+        18 => Kind::IsoYearExtended,
+        19 => Kind::IsoYear,
+        20 => Kind::IsoCenturyExtended,
+        21 => Kind::IsoCentury,
+        22 => Kind::IsoYearLastTwo,
+        23 => Kind::Hour12,
+        24 => Kind::Hour,
+        25 => Kind::Minute,
+        26 => Kind::Period,
+        27 => Kind::Second,
+        28 => Kind::Subsecond,
+        29 => Kind::OffsetHour,
+        30 => Kind::OffsetMinute,
+        31 => Kind::OffsetSecond,
+        32 => Kind::UnixSecond,
+        33 => Kind::UnixMillisecond,
+        _ => return None,
+    })
 }

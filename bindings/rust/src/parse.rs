@@ -120,7 +120,7 @@ impl Description {
     /// # Ok::<(), movaliren::InvalidDescription>(())
     /// ```
     pub fn parse(text: &str) -> Result<Self, InvalidDescription> {
-        Description::read(text, Syntax::Brackets)
+        Description::parsed(text, Syntax::Brackets)
     }
 
     /// Reads a description in the syntax of `strftime`.
@@ -140,10 +140,10 @@ impl Description {
     /// # Ok::<(), movaliren::InvalidDescription>(())
     /// ```
     pub fn parse_strftime(text: &str) -> Result<Self, InvalidDescription> {
-        Description::read(text, Syntax::Strftime)
+        Description::parsed(text, Syntax::Strftime)
     }
 
-    fn read(text: &str, syntax: Syntax) -> Result<Self, InvalidDescription> {
+    fn parsed(text: &str, syntax: Syntax) -> Result<Self, InvalidDescription> {
         let mut few = [Item::NONE; 64];
         match raw::describe(text, syntax, &mut few) {
             Ok(items) => Ok(Description::of_items(items, text)),

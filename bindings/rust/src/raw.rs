@@ -5,9 +5,9 @@
 //! `#[repr(C)]`, with the fields of the header in its order. The library keeps no pointer. It writes
 //! bytes of a buffer or leaves them as they were, so none becomes uninitialized.
 use crate::known::{Iso8601, Rfc2822, Rfc2822Local, Rfc3339, Rfc3339Local, Stamp};
-use crate::library::{self, error_of, LogCache, ParseError};
+use crate::library::{self, error_of, kind_of, LogCache, ParseError};
 pub(crate) use crate::library::{Iso8601Config, Item};
-use crate::read::{Expected, NotRead};
+use crate::read::{Expected, NotRead, Unread};
 use crate::{
     Date, Description, Error, Iso8601By, LocalMoment, LogTime, Moment, Progress, UtcMoment,
 };
@@ -382,17 +382,54 @@ unsafe impl Call<UtcMoment> for LogTime {
     }
 }
 
-/// A moment that a text of RFC 3339 is read into, by [`Rfc3339::read`]. This trait is sealed.
+/// The texts that a call of the library reads. Only this crate can name it.
+#[derive(Clone, Copy)]
+pub enum Texts {
+    Rfc3339,
+    Rfc3339Lenient,
+    Rfc2822,
+    Rfc2822Lenient,
+}
+
+/// A moment that a text is read into, as by [`Rfc3339::read`]. This trait is sealed.
 pub trait Read: Default {
     #[doc(hidden)]
-    fn read(text: &[u8], is_lenient: bool, _: Inside) -> Result<Self, NotRead>;
+    fn read(text: &[u8], texts: Texts, _: Inside) -> Result<Self, NotRead>;
+
+    #[doc(hidden)]
+    fn read_by(description: &Description, text: &[u8], _: Inside) -> Result<Self, Unread>;
 }
 
 macro_rules! reads {
-    ($($moment:ty: $strict:ident, $lenient:ident;)*) => { $(
+    ($($moment:ty: $items_read:ident, $($texts:ident $function:ident),*;)*) => { $(
         impl Read for $moment {
-            fn read(text: &[u8], is_lenient: bool, _: Inside) -> Result<Self, NotRead> {
-                let function = if is_lenient { library::$lenient } else { library::$strict };
+            fn read_by(description: &Description, text: &[u8], _: Inside) -> Result<Self, Unread> {
+                let (items, texts) = description.parts();
+                let mut moment = <$moment>::default();
+                let mut place = NO_PLACE;
+                // SAFETY: each pointer comes with the length of its slice, and the structs have the header's layout.
+                let answer = unsafe {
+                    library::$items_read(
+                        items.as_ptr(),
+                        items.len(),
+                        texts.as_ptr(),
+                        texts.len(),
+                        text.as_ptr(),
+                        text.len(),
+                        &mut moment,
+                        &mut place,
+                    )
+                };
+                match answer {
+                    0 => Ok(moment),
+                    number => Err(unread(number, &place)),
+                }
+            }
+
+            fn read(text: &[u8], texts: Texts, _: Inside) -> Result<Self, NotRead> {
+                let function = match texts {
+                    $(Texts::$texts => library::$function,)*
+                };
                 let mut moment = <$moment>::default();
                 let mut place = NO_PLACE;
                 // SAFETY: pointer and length are the slice's, and both structs have the header's layout.
@@ -409,8 +446,16 @@ macro_rules! reads {
 }
 
 reads! {
-    Moment: movaliren_read_rfc3339, movaliren_read_rfc3339_lenient;
-    UtcMoment: movaliren_read_rfc3339_utc, movaliren_read_rfc3339_lenient_utc;
+    Moment: movaliren_items_read,
+        Rfc3339 movaliren_read_rfc3339,
+        Rfc3339Lenient movaliren_read_rfc3339_lenient,
+        Rfc2822 movaliren_read_rfc2822,
+        Rfc2822Lenient movaliren_read_rfc2822_lenient;
+    UtcMoment: movaliren_items_read_utc,
+        Rfc3339 movaliren_read_rfc3339_utc,
+        Rfc3339Lenient movaliren_read_rfc3339_lenient_utc,
+        Rfc2822 movaliren_read_rfc2822_utc,
+        Rfc2822Lenient movaliren_read_rfc2822_lenient_utc;
 }
 
 /// The version of the library: 10,000 for its first part, 100 for the second, and the third.
@@ -440,20 +485,50 @@ const NO_PLACE: library::ReadError = library::ReadError {
     is_second_60: 0,
 };
 
+fn unread(number: isize, place: &library::ReadError) -> Unread {
+    match error_of(number) {
+        Error::NotRead => Unread::Text(not_read(place)),
+        error => Unread::Description(error),
+    }
+}
+
 fn not_read(place: &library::ReadError) -> NotRead {
-    let is_lenient = place.is_lenient == 1;
     NotRead {
         at: place.at,
-        expected: match place.expected {
-            1 => Expected::Digit(place.first, place.last),
-            2 => Expected::Byte(place.first),
-            3 => Expected::Letter(place.first, is_lenient),
-            4 => Expected::Offset(is_lenient),
-            5 => Expected::PointOrOffset(is_lenient),
-            6 => Expected::DigitOrOffset(is_lenient),
-            _ => Expected::End,
-        },
+        expected: expected(place),
         is_second_60: place.is_second_60 == 1,
+    }
+}
+
+fn expected(place: &library::ReadError) -> Expected {
+    let is_lenient = place.is_lenient == 1;
+    match place.expected {
+        1 => Expected::Digit(place.first, place.last),
+        2 => Expected::Byte(place.first),
+        3 => Expected::Letter(place.first, is_lenient),
+        4 => Expected::Offset(is_lenient),
+        5 => Expected::PointOrOffset(is_lenient),
+        6 => Expected::DigitOrOffset(is_lenient),
+        8 => Expected::Sign,
+        9 => Expected::EachFourth(place.first, place.last),
+        10 => Expected::WeekdayName(place.first),
+        11 => Expected::MonthName(place.first, place.last),
+        12 => Expected::Weekday(place.first),
+        13 => Expected::WeekdayOrDay,
+        14 => Expected::Day,
+        15 => Expected::Month,
+        16 => Expected::Year,
+        17 => Expected::DayOfMonth,
+        18 => Expected::Hour,
+        19 => Expected::Minute,
+        20 => Expected::Second,
+        21 => Expected::Zone,
+        22 => Expected::Space,
+        23 => Expected::CommentEnd,
+        24 => kind_of(place.first).map_or(Expected::End, Expected::Component),
+        25 => kind_of(place.first).map_or(Expected::End, Expected::NoValue),
+        26 => Expected::Otherwise,
+        _ => Expected::End,
     }
 }
 

@@ -78,6 +78,11 @@ fn values() {
     assert_eq!(&stamp(&moment).unwrap(), b"2026-11-22T15:55:06.120000000Z");
     let read = Rfc3339.read::<Moment>("2026-11-22T09:55:06.12-06:00");
     assert_eq!(read, Ok(self::moment()));
+    let server = Description::parse_strftime("%d/%b/%Y:%H:%M:%S %z").unwrap();
+    let read = server.read::<UtcMoment>("22/Nov/2026:09:55:06 -0600");
+    assert_eq!(read, Ok(UtcMoment::new(1_795_362_906, 0)));
+    let read = Rfc2822.read_lenient::<UtcMoment>("Sun, 22 Nov 2026 09:55:06 -0600");
+    assert_eq!(read, Ok(UtcMoment::new(1_795_362_906, 0)));
     let mut lines = Vec::new();
     let progress = Rfc3339.batch_into(&mut lines, &[moment, moment], b'\n');
     assert_eq!(progress.moments, 2);

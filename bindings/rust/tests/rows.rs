@@ -721,3 +721,123 @@ fn a_batch_reserves_the_width_of_its_texts() {
     assert_eq!(lines.len(), 36_000);
     assert!((36_000..=72_000).contains(&lines.capacity()));
 }
+
+#[test]
+fn a_text_of_rfc_2822_is_read_back() {
+    let sent = Moment::new(1997, 11, 21).at(9, 55, 6, 0).offset(-6, 0, 0);
+    assert_eq!(Rfc2822.read("Fri, 21 Nov 1997 09:55:06 -0600"), Ok(sent));
+    let utc = Rfc2822.read_lenient("Fri, 21 Nov 1997 09(comment):   55  :  06 -0600");
+    assert_eq!(utc, Ok(UtcMoment::new(880_127_706, 0)));
+    let utc = Rfc2822.read_lenient(b"Thu, 13 Feb 69 23:32 NST (Newfoundland Time)");
+    assert_eq!(utc.map(|_: UtcMoment| ()).unwrap_err().at, 21);
+    for (text, words) in [
+        (
+            "Fro, ",
+            "byte 2: expected the rest of the name of a weekday",
+        ),
+        (
+            "Fri, 31 Nov",
+            "byte 8: expected the name of a month that has this day",
+        ),
+        (
+            "Thu, 29 Feb 1901",
+            "byte 15: expected a digit from 4 to 8 in steps of four, of a leap year",
+        ),
+        (
+            "Fri, 21 Nov 1997 09:55:60",
+            "byte 23: expected a digit from 0 to 5, since second 60 has no value",
+        ),
+        (
+            "Fri, 21 Nov 1997 09:55:06 GMT",
+            "byte 26: expected `+` or `-`",
+        ),
+        (
+            "Mon, 21 Nov 1997 09:55:06 -0600",
+            "byte 0: expected `Fri`, the weekday of this date",
+        ),
+    ] {
+        let error = Rfc2822.read::<Moment>(text).unwrap_err();
+        assert_eq!(error.to_string(), words);
+        assert_eq!(Rfc2822.read::<UtcMoment>(text), Err(error));
+    }
+}
+
+#[test]
+fn a_text_of_a_description_is_read_back() {
+    let line = Description::parse_strftime("%d/%b/%Y:%H:%M:%S %z").unwrap();
+    let opened = Moment::new(2000, 10, 10).at(13, 55, 36, 0).offset(-7, 0, 0);
+    assert_eq!(line.read("10/Oct/2000:13:55:36 -0700"), Ok(opened));
+    let utc = line.read("10/Oct/2000:13:55:36 -0700");
+    assert_eq!(utc, Ok(UtcMoment::new(971_211_336, 0)));
+    for (text, words) in [
+        ("10/Okt/2000", "byte 3: expected [month repr:short]"),
+        (
+            "31/Feb/2000:13:55:36 -0700",
+            "byte 0: no value has this [day]",
+        ),
+        ("10/Oct/2000 13:55", "byte 11: expected `:`"),
+        ("10/Oct/2000:13:55:36 -0700.", "byte 26: expected the end"),
+    ] {
+        let error = line.read::<Moment>(text).unwrap_err();
+        assert_eq!(error.to_string(), words);
+        assert_eq!(line.read::<UtcMoment>(text), Err(error));
+    }
+    let mail = Description::parse_strftime("%a, %d %b %Y %H:%M:%S GMT").unwrap();
+    let utc = mail.read("Sun, 06 Nov 1994 08:49:37 GMT");
+    assert_eq!(utc, Ok(UtcMoment::new(784_111_777, 0)));
+    let undetermined = Err(Unread::Description(Error::Undetermined));
+    assert_eq!(
+        mail.read::<Moment>("Sun, 06 Nov 1994 08:49:37 GMT"),
+        undetermined
+    );
+    let error = mail.read::<UtcMoment>("Mon, 06 Nov 1994 08:49:37 GMT");
+    let words = "byte 0: the value is written otherwise from here on";
+    assert_eq!(error.unwrap_err().to_string(), words);
+    assert_eq!(
+        Description::new()
+            .read::<UtcMoment>("")
+            .unwrap_err()
+            .to_string(),
+        "the texts do not determine a moment"
+    );
+}
+
+#[test]
+fn each_part_of_mail_that_could_have_come_is_named() {
+    for (text, words) in [
+        ("", "byte 0: expected the name of a weekday, or a day"),
+        ("Fri 21", "byte 4: expected `,`"),
+        ("Fri, 32", "byte 5: expected a day from 1 to 31"),
+        ("21Nov", "byte 2: expected white space or a comment"),
+        ("21 Nox", "byte 3: expected the name of a month"),
+        ("21 Nov 1899 ", "byte 7: expected a year from 1900 on"),
+        ("31 Nov 1997 ", "byte 0: expected a day that this month has"),
+        (
+            "Sat, 21 Nov 1997 ",
+            "byte 0: expected `Fri`, the weekday of this date",
+        ),
+        ("21 Nov 1997 24:", "byte 12: expected an hour from 00 to 23"),
+        ("21 Nov 1997 23.", "byte 14: expected `:`"),
+        (
+            "21 Nov 1997 23:60",
+            "byte 15: expected a minute from 00 to 59",
+        ),
+        (
+            "21 Nov 1997 23:59:61",
+            "byte 18: expected a second from 00 to 60",
+        ),
+        (
+            "21 Nov 1997 23:59 CET",
+            "byte 18: expected a zone that has a meaning",
+        ),
+        ("21 Nov 1997 23:59 EST.", "byte 21: expected the end"),
+        (
+            "21 Nov 1997 23:59 EST (",
+            "byte 23: expected the end of a comment",
+        ),
+    ] {
+        let error = Rfc2822.read_lenient::<Moment>(text).unwrap_err();
+        assert_eq!(error.to_string(), words);
+        assert_eq!(Rfc2822.read_lenient::<UtcMoment>(text), Err(error));
+    }
+}

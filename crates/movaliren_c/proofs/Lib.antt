@@ -5,5 +5,6 @@ pub mod ItemLemmas
 pub mod LogLemmas
 pub mod MeaningLemmas
 pub mod NumberLemmas
+pub mod ReadItemLemmas
 pub mod ReadLemmas
 pub mod RoomLemmas

@@ -37,6 +37,7 @@ reason_number reason.Other = neg_ℤ (pos 22)
 reason_number reason.NotRead = neg_ℤ (pos 23)
 reason_number reason.BadDescription = neg_ℤ (pos 24)
 reason_number reason.ManyItems = neg_ℤ (pos 25)
+reason_number reason.Undetermined = neg_ℤ (pos 26)
 
 -- a count, or the number of a reason
 abbrev pub answer_number : Result ℕ Reason → ℤ

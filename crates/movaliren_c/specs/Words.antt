@@ -34,6 +34,7 @@ words_numbered n = counted 1 (
     ∷ codes "the text is not one of the format"
     ∷ codes "the text is not a description"
     ∷ codes "the description has more items than there is room for"
+    ∷ codes "the texts do not determine a moment"
     ∷ []) (codes "unknown error") n
 
 -- those of any number

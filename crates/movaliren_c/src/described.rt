@@ -18,11 +18,11 @@ ghost use Rattle.time_fmt.specs.Ends.{Ends};
 ghost use Rattle.time_fmt.specs.Sink.{Fits, Puts, Ready};
 
 mod describe;
-mod item;
+pub mod item;
 mod item_room;
 mod length;
 mod local_parts;
-mod made_item;
+pub mod made_item;
 mod run;
 mod syntax;
 
@@ -549,7 +549,7 @@ fn write_text<S: Sink>(output: &mut S, text: &[u8]) -> usize
 
 /// The maximum length of the items, up to the greatest `isize`, or the first invalid item's reason.
 #[tactic(auto, using(crate::proofs::DescribedLemmas::summed_more))]
-fn width(items: &[Item], texts: &[u8]) -> Result<usize, Reason>
+pub fn width(items: &[Item], texts: &[u8]) -> Result<usize, Reason>
     ensures { result ≡ width_answer (trees_of texts.now items.now) }
 {
     let mut left = GREATEST_WIDTH;

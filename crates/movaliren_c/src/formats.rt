@@ -1,8 +1,7 @@
-//! The well-known formats, stamps and the time of a line of a log, written; and RFC 3339, read.
+//! The well-known formats, stamps and the time of a line of a log, written.
 pub mod iso8601;
 mod log;
 mod moment_text;
-mod read;
 mod rfc2822;
 mod rfc3339;
 mod stamp;

@@ -9,7 +9,9 @@ mod ways;
 
 use chrono::format::{Item, StrftimeItems};
 use chrono::{DateTime, FixedOffset, NaiveDateTime, SecondsFormat};
-use movaliren::{Batch, Date, Description, Format, Kind, LocalMoment, Moment, Rfc3339, UtcMoment};
+use movaliren::{
+    Batch, Date, Description, Format, Kind, LocalMoment, Moment, Rfc2822, Rfc3339, UtcMoment,
+};
 use movaliren_time::{ToDate, ToMoment};
 use std::io::Write;
 use std::time::Instant;
@@ -68,6 +70,11 @@ fn names() -> Description {
         .component(Kind::Year)
 }
 
+/// `%d/%b/%Y:%H:%M:%S %z`, as a web server's log has it.
+fn server() -> Description {
+    Description::parse_strftime("%d/%b/%Y:%H:%M:%S %z").unwrap_or_default()
+}
+
 /// So many items, of which each second one is a literal.
 fn long(count: usize) -> Description {
     (0..count / 2).fold(Description::new(), |description, _| {
@@ -113,7 +120,29 @@ fn ours_east(format: impl Format<LocalMoment> + 'static) -> Call {
 
 /// Reads the texts of RFC 3339 of the moments, and returns the number of those that are read.
 fn reading(is_read: impl Fn(&[u8]) -> bool + 'static) -> Call {
-    let texts: Vec<_> = moments().iter().map(|m| Rfc3339.text(m)).collect();
+    reading_texts_by(Rfc3339, is_read)
+}
+
+/// The same by RFC 2822.
+fn reading_mail(is_read: impl Fn(&[u8]) -> bool + 'static) -> Call {
+    reading_texts_by(Rfc2822, is_read)
+}
+
+/// The same by a description, of moments in UTC to the second.
+fn reading_by(line: Description, is_read: impl Fn(&Description, &[u8]) -> bool + 'static) -> Call {
+    let whole = |m: &UtcMoment| UtcMoment::new(m.seconds, 0).local(0);
+    let texts: Vec<_> = moments().iter().map(|m| line.text(&whole(m))).collect();
+    Box::new(move |moments, _| {
+        let texts = texts[..moments.len()].iter().flatten();
+        texts.filter(|text| is_read(&line, text.as_bytes())).count()
+    })
+}
+
+fn reading_texts_by(
+    format: impl Format<UtcMoment>,
+    is_read: impl Fn(&[u8]) -> bool + 'static,
+) -> Call {
+    let texts: Vec<_> = moments().iter().map(|m| format.text(m)).collect();
     Box::new(move |moments, _| {
         let texts = texts[..moments.len()].iter().flatten();
         texts.filter(|text| is_read(text.as_bytes())).count()

@@ -1,8 +1,8 @@
 //! The ways to a text by their names.
 use crate::{
     batch, batch_of_parts, each, eleven, five, items_of_chrono, long, measured, names, of_date,
-    of_one_second, of_parts, of_time, of_time_east, ours, ours_east, reading, rfc2822_of_chrono,
-    rfc3339_of_chrono, Call, Ways, EAST, VALUES,
+    of_one_second, of_parts, of_time, of_time_east, ours, ours_east, reading, reading_by,
+    reading_mail, rfc2822_of_chrono, rfc3339_of_chrono, server, Call, Ways, EAST, VALUES,
 };
 use chrono::SecondsFormat;
 use movaliren::{
@@ -257,7 +257,7 @@ fn descriptions() -> Ways {
     ]
 }
 
-/// Texts of RFC 3339, read back.
+/// Texts of RFC 3339, RFC 2822 and descriptions, read back.
 fn readings() -> Ways {
     vec![
         (
@@ -275,6 +275,30 @@ fn readings() -> Ways {
         (
             "read_rfc3339_lenient_utc",
             reading(|text| Rfc3339.read_lenient::<UtcMoment>(text).is_ok()),
+        ),
+        (
+            "read_rfc2822",
+            reading_mail(|text| Rfc2822.read::<Moment>(text).is_ok()),
+        ),
+        (
+            "read_rfc2822_utc",
+            reading_mail(|text| Rfc2822.read::<UtcMoment>(text).is_ok()),
+        ),
+        (
+            "read_rfc2822_lenient",
+            reading_mail(|text| Rfc2822.read_lenient::<Moment>(text).is_ok()),
+        ),
+        (
+            "read_rfc2822_lenient_utc",
+            reading_mail(|text| Rfc2822.read_lenient::<UtcMoment>(text).is_ok()),
+        ),
+        (
+            "items_read:nginx",
+            reading_by(server(), |line, text| line.read::<Moment>(text).is_ok()),
+        ),
+        (
+            "items_read_utc:11-items",
+            reading_by(eleven(), |line, text| line.read::<UtcMoment>(text).is_ok()),
         ),
     ]
 }

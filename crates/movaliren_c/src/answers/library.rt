@@ -64,6 +64,7 @@ fn words_numbered(number: usize) -> &'static [u8]
         23 => b"the text is not one of the format".as_slice(),
         24 => b"the text is not a description".as_slice(),
         25 => b"the description has more items than there is room for".as_slice(),
+        26 => b"the texts do not determine a moment".as_slice(),
         _ => b"unknown error".as_slice(),
     }
 }

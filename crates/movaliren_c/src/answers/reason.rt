@@ -62,6 +62,8 @@ pub enum Reason {
     BadDescription = 24,
     /// The description has more items than the array holds.
     ManyItems = 25,
+    /// The texts of the description, or of the configuration, do not determine a moment.
+    Undetermined = 26,
 }
 
 /// The number of the reason.

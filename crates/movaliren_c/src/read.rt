@@ -1,33 +1,20 @@
-//! Texts of RFC 3339, read back as moments.
+//! Texts read back as moments: RFC 3339, and what the other readers share.
 ghost use Rattle.std.specs.Prelude.{◌≡◌};
-ghost use Rattle.movaliren_c.specs.Reading.{IsByParts, IsInUtc, IsRead, Leaves, Reads};
-ghost use Rattle.movaliren_c.specs.Reading.{lenient_flag, place_of};
+ghost use Rattle.movaliren_c.specs.Place.{place_of};
+ghost use Rattle.movaliren_c.specs.Reading.{IsByParts, IsInUtc, IsRead, Leaves, Rfc3339Reads};
 ghost use Rattle.time_below.specs.Moment.{OffsetDateAndTime};
 ghost use Rattle.time_known.specs.Rfc3339Grammar.{Rfc3339Spells};
 ghost use Rattle.time_read.specs.Lenient.{Rfc3339Means};
 
+mod items;
+mod mail;
+mod place;
+
 use crate::answers::reason::{Reason, answer_number};
 use crate::values::moment::{Moment, UtcMoment, parts_of};
+use place::{ReadError, ReadFault};
 use time_below::OffsetDateTime;
-use time_read::{Expected, NotRead, Profile, rfc3339};
-
-/// Where a text is none of its format, and what could have come there.
-#[repr(C)]
-#[derive(Clone, Copy)]
-pub struct ReadError {
-    /// How many bytes are right.
-    pub at: usize,
-    /// What could have come after them.
-    pub expected: u8,
-    /// The first digit that could have come, or the byte.
-    pub first: u8,
-    /// The last digit that could have come, or the byte.
-    pub last: u8,
-    /// 1 where small letters could have come too.
-    pub is_lenient: u8,
-    /// 1 where second 60 stands there.
-    pub is_second_60: u8,
-}
+use time_read::{NotRead, rfc3339};
 
 /// What a value that was read is kept as.
 pub trait OfValue: Copy {
@@ -63,51 +50,13 @@ impl OfValue for UtcMoment {
     }
 }
 
-/// Whether a profile takes small letters too.
-fn lenient_flag(profile: Profile) -> u8
-    ensures { result ≡ lenient_flag profile }
-{
-    match profile {
-        Profile::Strict => 0,
-        Profile::Lenient => 1,
-    }
-}
-
-/// The position of an error, as C sees it.
-fn place_of(error: NotRead) -> ReadError
-    ensures { result ≡ place_of error }
-{
-    let (expected, first, last, is_lenient) = match error.expected {
-        Expected::Digit(first, last) => (1, first, last, 0),
-        Expected::Byte(byte) => (2, byte, byte, 0),
-        Expected::Letter(letter, profile) => (3, letter, letter, lenient_flag(profile)),
-        Expected::Offset(profile) => (4, 0, 0, lenient_flag(profile)),
-        Expected::PointOrOffset(profile) => (5, 0, 0, lenient_flag(profile)),
-        Expected::DigitOrOffset(profile) => (6, 0, 0, lenient_flag(profile)),
-        Expected::End => (7, 0, 0, 0),
-        // What only RFC 2822 has, which C does not read.
-        Expected::Sign => (0, 0, 0, 0),
-        Expected::EachFourth(_, _) => (0, 0, 0, 0),
-        Expected::Name(_, _, _, _) => (0, 0, 0, 0),
-        Expected::Weekday(_) => (0, 0, 0, 0),
-    };
-    ReadError {
-        at: error.at,
-        expected,
-        first,
-        last,
-        is_lenient,
-        is_second_60: u8::from(error.is_second_60),
-    }
-}
-
 /// Keeps the value, or the position where the text is none.
-fn keep<M: OfValue>(
-    reading: Result<OffsetDateTime, NotRead>,
+fn keep<M: OfValue, E: ReadFault>(
+    reading: Result<OffsetDateTime, E>,
     moment: &mut M,
     place: &mut ReadError,
 ) -> isize
-    ensures { Leaves M.Holds reading result moment.old moment.new place.old place.new }
+    ensures { Leaves M.Holds E.place reading result moment.old moment.new place.old place.new }
 {
     match reading {
         Ok(value) => {
@@ -115,7 +64,7 @@ fn keep<M: OfValue>(
             answer_number(Ok(0))
         }
         Err(error) => {
-            *place = place_of(error);
+            *place = error.place();
             answer_number(Err(Reason::NotRead))
         }
     }
@@ -123,14 +72,14 @@ fn keep<M: OfValue>(
 
 /// The value that a text of RFC 3339 spells.
 fn strictly(text: &[u8]) -> Result<OffsetDateTime, NotRead>
-    ensures { Reads Rfc3339Spells text.now result }
+    ensures { Rfc3339Reads Rfc3339Spells text.now result }
 {
     rfc3339::read(text)
 }
 
 /// The value that a text means, which another program may have written.
 fn leniently(text: &[u8]) -> Result<OffsetDateTime, NotRead>
-    ensures { Reads Rfc3339Means text.now result }
+    ensures { Rfc3339Reads Rfc3339Means text.now result }
 {
     rfc3339::read_lenient(text)
 }
@@ -142,7 +91,7 @@ pub extern "C" fn movaliren_read_rfc3339(
     moment: &mut Moment,
     error: &mut ReadError,
 ) -> isize
-    ensures { IsRead Rfc3339Spells IsByParts text.now result
+    ensures { IsRead (Rfc3339Reads Rfc3339Spells) place_of IsByParts text.now result
         moment.old moment.new error.old error.new }
 {
     keep(strictly(text), moment, error)
@@ -155,7 +104,7 @@ pub extern "C" fn movaliren_read_rfc3339_lenient(
     moment: &mut Moment,
     error: &mut ReadError,
 ) -> isize
-    ensures { IsRead Rfc3339Means IsByParts text.now result
+    ensures { IsRead (Rfc3339Reads Rfc3339Means) place_of IsByParts text.now result
         moment.old moment.new error.old error.new }
 {
     keep(leniently(text), moment, error)
@@ -168,7 +117,7 @@ pub extern "C" fn movaliren_read_rfc3339_utc(
     moment: &mut UtcMoment,
     error: &mut ReadError,
 ) -> isize
-    ensures { IsRead Rfc3339Spells IsInUtc text.now result
+    ensures { IsRead (Rfc3339Reads Rfc3339Spells) place_of IsInUtc text.now result
         moment.old moment.new error.old error.new }
 {
     keep(strictly(text), moment, error)
@@ -181,7 +130,7 @@ pub extern "C" fn movaliren_read_rfc3339_lenient_utc(
     moment: &mut UtcMoment,
     error: &mut ReadError,
 ) -> isize
-    ensures { IsRead Rfc3339Means IsInUtc text.now result
+    ensures { IsRead (Rfc3339Reads Rfc3339Means) place_of IsInUtc text.now result
         moment.old moment.new error.old error.new }
 {
     keep(leniently(text), moment, error)
