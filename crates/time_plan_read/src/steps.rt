@@ -62,9 +62,8 @@ fn read_step<'a, T: ReadStep>(
     text: &'a [u8],
     fields: &mut Fields,
 ) -> Option<&'a [u8]> {
-    let parts = step.parts(texts);
-    let count = read_shown(&parts.shown, step, others, texts, text, fields)?;
-    after_literal(behind(text, count)?, parts.literal)
+    let count = read_shown(&step.parts(texts).shown, step, others, texts, text, fields)?;
+    after_literal(behind(text, count)?, step.parts(texts).literal)
 }
 
 /// Reads what a step shows into the fields, and returns how many bytes that has.
