@@ -77,7 +77,6 @@ fn read_step<'a, T: ReadStep>(
     texts: &[u8],
     text: &'a [u8],
     fields: &mut Fields,
-<<<<<<< HEAD
 ) -> Option<&'a [u8]>
     ensures reads { (f : Facts) (front rest : List ℕ) → AreReal f → HasFourDigits f
         → is_run (T.shown_of texts.now step.now) ≡ true
@@ -88,11 +87,6 @@ fn read_step<'a, T: ReadStep>(
     let parts = step.parts(texts);
     let count = read_shown(&parts.shown, step, others, texts, text, fields)?;
     after_literal(behind(text, count)?, parts.literal)
-=======
-) -> Option<&'a [u8]> {
-    let count = read_shown(&step.parts(texts).shown, step, others, texts, text, fields)?;
-    after_literal(behind(text, count)?, step.parts(texts).literal)
->>>>>>> lenient
 }
 
 /// Reads what a step shows into the fields, and returns how many bytes that has.
