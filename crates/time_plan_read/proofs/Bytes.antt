@@ -1,6 +1,6 @@
 -- The bytes of dates and times of day.
-use Rattle.std.proofs.Common.{◌≡◌, ◌∙◌, ℕ, suc, ◌+◌, ◌-◌, ◌*◌, ◌/◌, ◌%◌, ◌<◌, ◌≤◌, Bool, false, List, [], ◌∷◌, ◌++◌, length, sym, ap, refl, arith, get_or, subst}
-use Rattle.std.specs.Prelude.{pos, unsigned_abs, int_lt}
+use Rattle.std.proofs.Common.{◌≡◌, ◌∙◌, ℕ, ◌+◌, ◌/◌, ◌%◌, ◌<◌, ◌≤◌, List, [], ◌∷◌, ◌++◌, length, sym, ap, refl, arith, get_or, subst}
+use Rattle.std.specs.Prelude.{pos}
 use Rattle.time_below.specs.Facts.{DateFacts}
 use Rattle.time_below.specs.TimeOfDay.{TimeOfDay, IsTimeOfDay}
 use Rattle.time_digits.specs.Digits.{fixed, zero_padded}

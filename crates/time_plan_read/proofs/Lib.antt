@@ -7,4 +7,3 @@ mod StepLists
 mod Texts
 mod UsualLemmas
 mod ValueLemmas
-mod Writes

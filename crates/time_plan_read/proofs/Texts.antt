@@ -1,9 +1,9 @@
 -- The texts of steps, one after another.
-use Rattle.std.proofs.Common.{◌≡◌, ◌∙◌, ℕ, ◌<◌, ◌≤◌, Bool, true, false, ◌&&◌, ◌||◌, List, [], ◌∷◌, ◌++◌, append_assoc, length, drop, sym, ap, refl, arith, subst, Option, Some, None, map}
+use Rattle.std.proofs.Common.{◌≡◌, ◌∙◌, ℕ, ◌<◌, ◌≤◌, Bool, true, false, List, [], ◌∷◌, ◌++◌, append_assoc, length, drop, sym, ap, refl, arith, subst, Option, Some, None, map}
 use Rattle.std.proofs.lemmas.List.{append-nil}
 use Rattle.std.specs.Prelude.{is_some, pos, unsigned_abs}
-use Rattle.time_below.specs.Calendar.{month_of, day_of, is_leap_year, IsDate}
-use Rattle.time_below.specs.Facts.{Facts, DateFacts, date_facts, the_date, the_time}
+use Rattle.time_below.specs.Calendar.{month_of, is_leap_year}
+use Rattle.time_below.specs.Facts.{Facts, DateFacts, the_date, the_time}
 use Rattle.time_below.specs.TimeOfDay.{TimeOfDay, IsTimeOfDay}
 use Rattle.time_below.specs.Tree.{Tree, Trees, more, trees}
 use Rattle.time_below.proofs.MonthLemmas.{month_of_date, day_of_date, month_length}
@@ -25,7 +25,7 @@ use Rattle.time_plan_read.proofs.Bytes.{length-date_run, length-time_run}
 use Rattle.time_plan_read.proofs.Fronts.{begins_by_all}
 use Rattle.time_plan_read.proofs.StepLemmas.{parts_outcome}
 use Rattle.time_plan_read.proofs.StepLists.{both_true}
-use Rattle.time_plan_read.specs.DatesAndTimes.{AreDatesAndTimes, HasFourDigits, is_run, is_date, is_time, are_runs, show_date, show_time}
+use Rattle.time_plan_read.specs.DatesAndTimes.{AreDatesAndTimes, HasFourDigits, is_run, are_runs}
 use Rattle.time_plan_read.specs.Numbers.{AreKinds, AreNumbersOf, AreSet, HasUnset, HaveOneSecond, HaveTheGroups, Sets}
 use Rattle.time_plan_read.specs.Parts.{AreSame, parts_tree, ref_bytes}
 use Rattle.time_plan_read.specs.declared.any_step.StepParts.{StepParts}

@@ -3,7 +3,7 @@ use Rattle.std.proofs.Common.{◌≡◌, ◌∙◌, ℕ, ◌<◌, Option, Some, 
 use Rattle.std.proofs.lemmas.Option.{same_Some}
 use Rattle.time_below.specs.Calendar.{IsDate, OrdinalDate}
 use Rattle.time_below.specs.Facts.{date_facts, facts_of_timestamp}
-use Rattle.time_below.specs.Moment.{DateAndTime, Moment, OffsetDateAndTime, unix_seconds, utc_date, utc_date_and_time, utc_time}
+use Rattle.time_below.specs.Moment.{DateAndTime, Moment, OffsetDateAndTime, unix_seconds, utc_date, utc_time}
 use Rattle.time_below.specs.Offset.{Offset}
 use Rattle.time_below.specs.TimeOfDay.{IsTimeOfDay, TimeOfDay}
 use Rattle.time_below.proofs.MomentLemmas.{only_utc, same_date_and_time}

@@ -7,7 +7,6 @@ use time_below::format_description::modifier::Padding;
 #[inline(always)]
 pub(crate) fn two(tens: u8, units: u8) -> u8
     ensures reads { (n : ℕ) → n < 100 → tens ≡ 48 + n / 10 → units ≡ 48 + n % 10 → result ≡ n }
-    ensures range { result < 256 }
 {
     let tens = tens.wrapping_sub(b'0');
     tens.wrapping_mul(10).wrapping_add(units.wrapping_sub(b'0'))

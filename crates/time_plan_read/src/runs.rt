@@ -29,7 +29,6 @@ const DATE: usize = 10;
 /// Whether these are digits, and those between them the right ones, is seen when the text of the
 /// value is compared.
 #[inline(always)]
-#[tactic(auto, using(crate::proofs::Bytes::is_time_text))]
 pub(crate) fn read_time(text: &[u8], fields: &mut Fields) -> Option<usize>
     ensures reads { (x y : ℕ) (t : TimeOfDay) (rest : List ℕ) → IsTimeOfDay t
         → text.now ≡ time_run x y t ++ rest
@@ -48,7 +47,6 @@ pub(crate) fn read_time(text: &[u8], fields: &mut Fields) -> Option<usize>
 /// Reads a year, a month and a day, and returns how many bytes they have. They are compared later,
 /// as a time of day.
 #[inline(always)]
-#[tactic(auto, using(crate::proofs::Bytes::is_date_text))]
 pub(crate) fn read_date(text: &[u8], fields: &mut Fields) -> Option<usize>
     ensures reads { (x y year : ℕ) (d : DateFacts) (rest : List ℕ) → d.year ≡ pos year
         → year ≤ 9_999 → d.month < 100 → d.day < 100 → text.now ≡ date_run x y d ++ rest

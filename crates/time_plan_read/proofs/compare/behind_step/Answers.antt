@@ -1,4 +1,4 @@
-use Rattle.std.proofs.Common.{◌≡◌, true, ap, sym, ◌∙◌, arith}
+use Rattle.std.proofs.Common.{ap, ◌∙◌, arith}
 use Rattle.time_fmt.specs.Description.{tree_outcome}
 use Rattle.time_plan.specs.Shown.{shown_tree}
 use Rattle.time_plan_read.specs.DatesAndTimes.{is_run}

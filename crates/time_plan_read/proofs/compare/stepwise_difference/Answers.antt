@@ -1,4 +1,4 @@
-use Rattle.std.proofs.Common.{◌≡◌, ◌∙◌, ◌+◌, List, ap, drop, map, sym}
+use Rattle.std.proofs.Common.{◌∙◌, ◌+◌, List, ap, drop, map, sym}
 use Rattle.time_below.specs.Tree.{trees}
 use Rattle.time_fmt.specs.Description.{tree_outcome, trees_outcome}
 use Rattle.time_fmt.specs.Outcome.{done}

@@ -1,5 +1,4 @@
 use Rattle.std.proofs.Common.{List, ◌+◌, drop, map, subst}
-use Rattle.time_plan.specs.declared.shown.Shown.{Shown}
 use Rattle.time_plan_read.specs.Numbers.{AreKinds}
 use Rattle.time_plan_read.proofs.KindLemmas.{kinds_more, kinds_of_none, kinds_of_parts}
 use Rattle.time_plan_read.proofs.StepLists.{next_step}

@@ -1,4 +1,4 @@
-use Rattle.std.proofs.Common.{◌≡◌, ◌∙◌, ◌<◌, ◌≤◌, ℕ, pos, ℤ, w32, to_z, of_z, refl, sym, arith}
+use Rattle.std.proofs.Common.{◌≡◌, ◌∙◌, ◌≤◌, ℕ, pos, ℤ, w32, to_z, of_z, refl, sym, arith}
 use Rattle.std.proofs.lemmas.Int.{ints}
 use Rattle.time_plan_read.proofs.Bytes.{is_date_text}
 use Rattle.time_plan_read.proofs.runs.read_date.Goals as goal

@@ -1,4 +1,4 @@
-use Rattle.std.proofs.Common.{◌≡◌, ◌<◌, refl, arith}
+use Rattle.std.proofs.Common.{◌≡◌, refl, arith}
 use Rattle.time_plan_read.proofs.Bytes.{is_time_text}
 use Rattle.time_plan_read.proofs.runs.read_time.Goals as goal
 

@@ -1,4 +1,4 @@
-use Rattle.std.proofs.Common.{◌≡◌, ◌∙◌, ◌≤◌, ◌++◌, List, ap, arith, drop, length, subst, sym}
+use Rattle.std.proofs.Common.{◌∙◌, ◌++◌, ap, arith, drop, length, subst}
 use Rattle.std.proofs.lemmas.Option.{same_Some}
 use Rattle.time_fmt.specs.Description.{tree_outcome}
 use Rattle.time_plan.specs.Shown.{shown_tree}

@@ -1,4 +1,4 @@
-use Rattle.std.proofs.Common.{◌≡◌, ◌-◌, List, ◌++◌, drop, length, map, subst, take}
+use Rattle.std.proofs.Common.{◌-◌, List, ◌++◌, drop, length, map, subst, take}
 use Rattle.time_below.specs.Tree.{trees}
 use Rattle.time_fmt.specs.Description.{tree_outcome, trees_outcome}
 use Rattle.time_plan_read.proofs.StepLists.{first_step, no_step}

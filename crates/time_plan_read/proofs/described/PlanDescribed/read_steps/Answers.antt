@@ -1,4 +1,4 @@
-use Rattle.std.proofs.Common.{◌≡◌, ◌∙◌, List, [], ap, map, subst, sym}
+use Rattle.std.proofs.Common.{◌∙◌, List, [], ap, map, subst, sym}
 use Rattle.time_below.specs.Facts.{Facts}
 use Rattle.time_fmt.specs.Outcome.{Outcome}
 use Rattle.time_plan.specs.declared.step.Step.{Step}

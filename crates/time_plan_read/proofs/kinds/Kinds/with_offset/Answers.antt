@@ -1,5 +1,4 @@
 use Rattle.std.proofs.Common.{refl}
-use Rattle.time_plan_read.specs.Numbers.{Completes}
 use Rattle.time_plan_read.specs.declared.kinds.TheConstants.Kinds as kinds
 use Rattle.time_plan_read.proofs.KindLemmas.{completes_itself, completes_two}
 use Rattle.time_plan_read.proofs.kinds.Kinds.with_offset.Goals as goal

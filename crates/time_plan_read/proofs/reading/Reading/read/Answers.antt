@@ -1,4 +1,4 @@
-use Rattle.std.proofs.Common.{◌≡◌, [], sym}
+use Rattle.std.proofs.Common.{[], sym}
 use Rattle.std.proofs.lemmas.List.{append-nil}
 use Rattle.time_plan_read.proofs.Texts.{numbers_of}
 use Rattle.time_plan_read.proofs.reading.Reading.read.Goals as goal

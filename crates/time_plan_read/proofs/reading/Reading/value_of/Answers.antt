@@ -1,4 +1,4 @@
-use Rattle.std.proofs.Common.{◌≡◌, ◌∙◌, sym}
+use Rattle.std.proofs.Common.{◌∙◌, sym}
 use Rattle.time_plan_read.proofs.reading.Reading.value_of.Goals as goal
 
 -- the value that is made is written as the other one

@@ -1,9 +1,6 @@
 use Rattle.std.proofs.Common.{refl, subst, sym}
-use Rattle.std.specs.Prelude.{IsSomeAnd}
-use Rattle.time_below.specs.Facts.{facts_of_timestamp}
 use Rattle.time_below.specs.Moment.{IsTimestampSecond, utc_date, utc_time}
 use Rattle.time_below.proofs.MomentLemmas.{held_second}
-use Rattle.time_plan_read.specs.Numbers.{HaveOneSecond}
 use Rattle.time_plan_read.proofs.ValueLemmas.{same_moment_second, same_value}
 use Rattle.time_plan_read.proofs.values.TimestampReadable.of_fields.Goals as goal
 
