@@ -78,7 +78,7 @@ const DATES: &[DateRow] = &[
     (Ordinal, false, false, "1985102", (1985, 4, 12)),
     (Ordinal, true, false, "1985-102", (1985, 4, 12)),
     (Week, false, false, "1985W155", (1985, 4, 12)),
-    (Week, true, false, "1985-W15-5", (1985, 4, 12)),
+    (Week, true, false, "2005-W52-6", (2005, 12, 31)),
     (Calendar, false, true, "+0019850412", (1985, 4, 12)),
     (Calendar, true, true, "+001985-04-12", (1985, 4, 12)),
     (Week, true, false, "2009-W53-7", (2010, 1, 3)),
