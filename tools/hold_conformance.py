@@ -4,9 +4,10 @@
     tools/hold_conformance.py [STEP]
 
 Runs a program by `rt try`, over a copy of the crates that it needs in a temporary folder, so that nothing is
-proved. It reads every text, or each one of STEP texts, of the five files of formats that `time_read` reads, and of the
-two files of descriptions, which plans read. The first fault of the five files is compared too. A plan tells it by the
-place where the component begins. The status is 1 where an answer differs.
+proved. It reads every text, or each one of STEP texts, of the six files of formats that `time_read` reads, and of the
+two files of descriptions, which plans read. The first fault of the six files is compared too. A plan tells it by the
+place where the component begins. A text of ISO 8601 whose offset is zero by its digits must be refused there, since the
+writer has `Z`. The status is 1 where an answer differs.
 """
 
 import itertools
@@ -30,6 +31,7 @@ CALLS = {
     "rfc2822": "c",
     "mail": "d",
     "stamp": "e",
+    "iso8601": "h",
 }
 DESCRIBED = {"strftime": "f", "brackets": "g"}
 PROGRAM = r"""//! Answers each line: a letter of a reader, and a text in hexadecimal digits, before which a plan has its description.
@@ -41,7 +43,7 @@ use std::io::Read;
 use time_below::{OffsetDateTime, PlainDateTime};
 use time_plan::Plan;
 use time_plan_read::ReadPlan;
-use time_read::{rfc2822, rfc3339, stamp};
+use time_read::{iso8601, rfc2822, rfc3339, stamp};
 
 fn tell(rt: &HostRuntime, value: OffsetDateTime) -> io::Result<()> {
     let (_, _, _, nanosecond) = value.time().as_hms_nano();
@@ -69,6 +71,10 @@ fn answer(rt: &HostRuntime, way: u8, text: &[u8]) -> io::Result<()> {
         },
         b'e' => match stamp::read(text) {
             Ok(value) => return tell(rt, OffsetDateTime::new_utc(value.date(), value.time())),
+            Err(place) => place.at,
+        },
+        b'h' => match iso8601::read(text) {
+            Ok(value) => return tell(rt, value),
             Err(place) => place.at,
         },
         b'b' => match rfc3339::read_lenient(text) {
@@ -159,9 +165,17 @@ def copied(folder):
     (folder / "crates/conform/src/main.rt").write_text(PROGRAM)
 
 
+def wanted_of(name, line):
+    """The answer of the file, but for a text of ISO 8601 whose offset is zero by its digits."""
+    if name == "iso8601" and line.answer[0] == "+" and line.text.endswith((b"+00:00", b"-00:00")):
+        return "- %d" % (len(line.text) - len("+00:00"))
+    return line.answer
+
+
 def is_right(name, line, said):
-    """Whether an answer is that of the file. Of a plan the place of a fault is not compared."""
-    return said == line.answer or name in DESCRIBED and line.answer[0] == said[0] == "-"
+    """Whether an answer is the one that is wanted. Of a plan the place of a fault is not compared."""
+    wanted = wanted_of(name, line)
+    return said == wanted or name in DESCRIBED and wanted[0] == said[0] == "-"
 
 
 def main():
@@ -187,7 +201,7 @@ def main():
         sys.exit("the program gave %d answers of %d\n%s" % (len(answers), len(wanted), (run.stdout + run.stderr)[-3000:]))
     wrong = [(name, line, said) for (name, line), said in zip(wanted, answers) if not is_right(name, line, said)]
     for name, line, said in wrong[:20]:
-        print("%s %s: %r: %s, and not %s (%s)" % (name, line.description, line.text, said, line.answer, line.rule))
+        print("%s %s: %r: %s, and not %s (%s)" % (name, line.description, line.text, said, wanted_of(name, line), line.rule))
     print("%d texts, %d other answers" % (len(wanted), len(wrong)))
     sys.exit(bool(wrong))
 

@@ -1,13 +1,14 @@
 #!/usr/bin/env python3
-"""Reads back texts of random values by random descriptions, and as many with one byte overwritten.
+"""Reads back texts of random values by random descriptions and configurations of ISO 8601, and as many with one byte
+overwritten.
 
     tools/read_trips.py [EACH]
 
-There are 420 descriptions, and of each 500 values, or EACH: 200,000 texts, and as many that are damaged. The program of tools/read_trips/ is run by `rt try` in a copy of the crates. For each type it prints how many plans and
-values there were, how many texts were not read, and how many values are written otherwise than the text that was read.
-The last line is `N texts, M wrong`: a text that a plan writes is wrong if it is not read, and any text is wrong if the value
-that was read of it is written otherwise. Takes some minutes, and with
-few values the time of a build.
+There are 420 descriptions and 380 configurations, and of each 500 values, or EACH, and as many damaged texts. The program
+of tools/read_trips/ is run by `rt try` in a copy of the crates. For each type it prints how many plans or configurations
+and values there were, how many texts were not read, and how many values are written otherwise than the text that was read.
+The last line is `N texts, M wrong`: a text that is written is wrong if it is not read, and any text is wrong if the value
+that was read of it is written otherwise. Takes some minutes, and with few values the time of a build.
 """
 import pathlib
 import re
@@ -17,9 +18,10 @@ import sys
 import tempfile
 
 TOP = pathlib.Path(__file__).resolve().parent.parent
-CRATES = "time_below time_digits time_provide time_fmt time_describe time_plan time_plan_read".split()
-PROGRAM = "read_trips: time_below time_provide time_fmt time_plan time_plan_read\n"
-LINE = re.compile(r"(\w+): plans .* unread (\d+), .* written otherwise (\d+); damaged (\d+), .* written otherwise (\d+)$")
+CRATES = """time_below time_digits time_provide time_fmt time_known time_describe time_plan time_plan_read
+    time_read""".split()
+PROGRAM = "read_trips: time_below time_digits time_provide time_fmt time_known time_plan time_plan_read time_read\n"
+LINE = re.compile(r"(\w+): (?:plans|configurations) .* unread (\d+), .* written otherwise (\d+); damaged (\d+), .* written otherwise (\d+)$")
 WRITTEN = re.compile(r"values (\d+), refused by the writer (\d+)")
 
 

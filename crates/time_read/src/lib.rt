@@ -1,4 +1,4 @@
-//! Texts of RFC 3339 and RFC 2822, and stamps, read back. No call allocates.
+//! Texts of RFC 3339, RFC 2822 and ISO 8601, and stamps, read back. No call allocates.
 #![tactic(auto)]
 
 mod days;
@@ -6,6 +6,7 @@ mod decimals;
 mod digits;
 mod fault;
 mod feed;
+pub mod iso8601;
 pub mod laws;
 mod letters;
 mod mail;

@@ -12,7 +12,7 @@ pub(crate) const SECONDS: usize = 17;
 
 // Whether second 60 stands there. The seconds of the text stand at `seconds`.
 #[inline(always)]
-fn is_second_60(text: &[u8], at: usize, seconds: usize) -> bool
+pub(crate) fn is_second_60(text: &[u8], at: usize, seconds: usize) -> bool
     requires { seconds < 100 }
     ensures { IsTrue result ↔ IsSecond60 seconds at text.now }
 {

@@ -1,0 +1,45 @@
+//! Offsets from UTC by a configuration (ISO 8601-1:2019, sections 5.3.3 and 5.3.4).
+use crate::digits::{after, pair};
+use crate::fault::{Expected, Fault, Profile};
+use crate::iso8601::parts::{Parts, pair_behind};
+use crate::mail::sign;
+use crate::offset::signed_offset;
+use time_below::UtcOffset;
+use time_known::iso8601::{Config, OffsetPrecision};
+
+/// Reads an offset: `Z` where there is a time of day, or a sign, hours, and minutes where the
+/// configuration has them.
+pub(super) fn read_offset<'a>(
+    config: &Config,
+    text: &'a [u8],
+    parts: &mut Parts,
+) -> Result<&'a [u8], Fault> {
+    if config.has_time() {
+        if let Some(rest) = after(text, b'Z') {
+            parts.offset = UtcOffset::UTC;
+            return Ok(rest);
+        }
+    }
+    let (is_negative, rest) = match sign(text) {
+        Ok(read) => read,
+        Err(fault) => return Err(no_offset(config, fault)),
+    };
+    let (hour, rest) = pair(rest, 0, 25)?;
+    let (minute, rest) = match config.offset_precision() {
+        OffsetPrecision::Minute => pair_behind(config, rest, b':', 0, 59)?,
+        OffsetPrecision::Hour => (0, rest),
+    };
+    parts.offset = signed_offset(is_negative, hour, minute);
+    Ok(rest)
+}
+
+/// The fault of a text that does not begin with an offset.
+#[cold]
+fn no_offset(config: &Config, fault: Fault) -> Fault {
+    let expected = if config.has_time() {
+        Expected::Offset(Profile::Strict)
+    } else {
+        Expected::Sign
+    };
+    Fault { expected, ..fault }
+}
