@@ -34,7 +34,7 @@ static const movaliren_iso8601_config time_and_offset = { 6, 0, 2, 3, 1, 1, 0, 0
 static const movaliren_iso8601_config offset_alone = { 3, 0, 2, 3, 1, 1, 0, 0 };
 
 // Texts of RFC 3339 and RFC 2822 of the moments, what they are read into, and where one could not be read.
-static char read_texts[VALUES][MOVALIREN_RFC3339_SIZE], mail_texts[VALUES][MOVALIREN_RFC2822_SIZE];
+static char iso_texts[VALUES][MOVALIREN_ISO8601_SIZE], read_texts[VALUES][MOVALIREN_RFC3339_SIZE], mail_texts[VALUES][MOVALIREN_RFC2822_SIZE];
 // Times of a web server's log, by its description, and texts of the eleven items.
 static const char log_form[] = "%d/%b/%Y:%H:%M:%S %z";
 static char log_texts[VALUES][27], line_texts[VALUES][20];
@@ -84,6 +84,7 @@ static void fill()
         moment.nanosecond = uint32_t(next() % 100000000 * 10 + 1 + next() % 9);
         movaliren_rfc3339_utc(
             moment.seconds, moment.nanosecond, read_texts[&moment - moments], MOVALIREN_RFC3339_SIZE);
+        movaliren_iso8601_utc(moment.seconds, moment.nanosecond, iso_texts[&moment - moments], MOVALIREN_ISO8601_SIZE);
         movaliren_rfc2822_utc(moment.seconds, 0, mail_texts[&moment - moments], MOVALIREN_RFC2822_SIZE);
     }
     build(line);
@@ -211,6 +212,7 @@ typedef movaliren_progress many();
 #define READ_TEXT read_texts[&moment - moments], MOVALIREN_STAMP_SIZE - 1
 #define LOG_TEXT log_texts[&moment - moments], 26
 #define LINE_TEXT line_texts[&moment - moments], 19
+#define ISO_TEXT iso_texts[&moment - moments], 30
 #define MAIL_TEXT mail_texts[&moment - moments], MOVALIREN_RFC2822_SIZE - 1
 
 // By the parts that gmtime_r gives.
@@ -379,6 +381,10 @@ static const struct {
     { "read_rfc2822_utc", ONE(movaliren_read_rfc2822_utc(MAIL_TEXT, &read_utc, &read_place)), 0 },
     { "read_rfc2822_lenient", ONE(movaliren_read_rfc2822_lenient(MAIL_TEXT, &read_moment, &read_place)), 0 },
     { "read_rfc2822_lenient_utc", ONE(movaliren_read_rfc2822_lenient_utc(MAIL_TEXT, &read_utc, &read_place)), 0 },
+    { "read_iso8601", ONE(movaliren_read_iso8601(ISO_TEXT, &read_moment, &read_place)), 0 },
+    { "read_iso8601_utc", ONE(movaliren_read_iso8601_utc(ISO_TEXT, &read_utc, &read_place)), 0 },
+    { "read_iso8601_with", ONE(movaliren_read_iso8601_with(&nanoseconds, ISO_TEXT, &read_moment, &read_place)), 0 },
+    { "read_iso8601_with_utc", ONE(movaliren_read_iso8601_with_utc(&nanoseconds, ISO_TEXT, &read_utc, &read_place)), 0 },
     { "items_read:nginx", ONE(movaliren_items_read(log_items, log_count, log_form, sizeof log_form - 1, LOG_TEXT, &read_moment, &read_place)), 0 },
     { "items_read_utc:11-items", ONE(movaliren_items_read_utc(items, 11, texts, 5, LINE_TEXT, &read_utc, &read_place)), 0 },
     { "building:11-items", ONE((build(line), moment.nanosecond)), 0 },

@@ -30,7 +30,7 @@ void *__wrap_calloc(size_t count, size_t size)
     return __real_calloc(count, size);
 }
 
-enum { ROOM = 300, CALLS = 62 };
+enum { ROOM = 300, CALLS = 66 };
 
 static const struct movaliren_moment moment = { .year = 1997, .month = 11, .day = 12, .hour = 9,
     .minute = 55, .second = 6, .nanosecond = 120000000, .offset_hours = -6 },
@@ -53,6 +53,8 @@ static const struct movaliren_item twenty[20] = { { .kind = MOVALIREN_KIND_MONTH
     { .kind = MOVALIREN_KIND_OFFSET_MINUTE } };
 
 static const char leap_day[] = "2028-02-29T00:00:00Z", mail[] = "Tue, 29 Feb 2028 00:00:00 +0000";
+static const char default_text[] = "1997-11-12T09:55:06.120000000-06:00", six_text[] = "1997-11-12T09:55:06.120000-06:00";
+static const struct movaliren_iso8601_config six = MOVALIREN_ISO8601_DECIMALS(6);
 /* by the twenty items */
 static const char line_text[] = "Nov 12 1997-11-12T09:55:06.120-06:00";
 static struct movaliren_moment read;
@@ -132,6 +134,10 @@ static ptrdiff_t call(int which, uint8_t *room)
     case 58: return 1 + movaliren_read_rfc2822_lenient_utc(mail, 31, &read_utc, &place);
     case 59: return 1 + movaliren_items_read(twenty, 20, " -T:.", 5, line_text, 36, &read, &place);
     case 60: return 1 + movaliren_items_read_utc(twenty, 20, " -T:.", 5, line_text, 36, &read_utc, &place);
+    case 61: return 1 + movaliren_read_iso8601(default_text, 35, &read, &place);
+    case 62: return 1 + movaliren_read_iso8601_utc(default_text, 35, &read_utc, &place);
+    case 63: return 1 + movaliren_read_iso8601_with(&six, six_text, 32, &read, &place);
+    case 64: return 1 + movaliren_read_iso8601_with_utc(&six, six_text, 32, &read_utc, &place);
     default: return movaliren_items_format_date(usual, 3, dash, 1, 0, 1, 1, room, ROOM);
     }
 }

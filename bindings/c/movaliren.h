@@ -25,7 +25,8 @@
  * does not name among the functions that are safe there.
  *
  * A call takes at most so many bytes of the stack, as the program stack.c measures: 512 for RFC 3339 and RFC 2822; 1,024 for
- * ISO 8601, a stamp, the time of a log line, and reading; 2,048 for reading a description, and a text by it; 4,096 for a text
+ * ISO 8601, a stamp, the time of a log line, and reading RFC 3339 and RFC 2822; 2,048 for reading ISO 8601 and a description,
+ * and for a text by a description; 4,096 for a text
  * by a description that is read for it, and for reading a text by a description. The messages of errors take what sprintf
  * does.
  *
@@ -475,6 +476,26 @@ ptrdiff_t movaliren_read_rfc2822_lenient(const void *text, size_t text_len,
 ptrdiff_t movaliren_read_rfc2822_lenient_utc(const void *text, size_t text_len,
     struct movaliren_utc_moment *moment, struct movaliren_read_error *error) MOVALIREN_NONNULL_(3)
     MOVALIREN_NONNULL_(4) MOVALIREN_CHECKED_;
+
+/* Reads a text of ISO 8601 that movaliren_iso8601 writes: with nine decimals, and with Z for UTC. */
+ptrdiff_t movaliren_read_iso8601(const void *text, size_t text_len, struct movaliren_moment *moment,
+    struct movaliren_read_error *error) MOVALIREN_NONNULL_(3) MOVALIREN_NONNULL_(4)
+    MOVALIREN_CHECKED_;
+ptrdiff_t movaliren_read_iso8601_utc(const void *text, size_t text_len,
+    struct movaliren_utc_moment *moment, struct movaliren_read_error *error) MOVALIREN_NONNULL_(3)
+    MOVALIREN_NONNULL_(4) MOVALIREN_CHECKED_;
+
+/* Reads a text of ISO 8601 that movaliren_iso8601_with writes by this configuration of a moment whose finer parts are zero.
+ * The configuration writes a date, a time and an offset: any other one is MOVALIREN_ERROR_UNDETERMINED. It is tested first,
+ * and the error is then unchanged. */
+ptrdiff_t movaliren_read_iso8601_with(const struct movaliren_iso8601_config *config,
+    const void *text, size_t text_len, struct movaliren_moment *moment,
+    struct movaliren_read_error *error) MOVALIREN_NONNULL_(1) MOVALIREN_NONNULL_(4)
+    MOVALIREN_NONNULL_(5) MOVALIREN_CHECKED_;
+ptrdiff_t movaliren_read_iso8601_with_utc(const struct movaliren_iso8601_config *config,
+    const void *text, size_t text_len, struct movaliren_utc_moment *moment,
+    struct movaliren_read_error *error) MOVALIREN_NONNULL_(1) MOVALIREN_NONNULL_(4)
+    MOVALIREN_NONNULL_(5) MOVALIREN_CHECKED_;
 
 /* ---- many moments in one call */
 

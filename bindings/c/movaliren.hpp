@@ -370,6 +370,24 @@ inline reading<movaliren_moment> read_rfc2822_local(std::string_view text, profi
     });
 }
 
+// Reads a text of ISO 8601 with this many decimals as a moment in UTC.
+inline reading<movaliren_utc_moment> read_iso8601(std::string_view text, std::uint8_t decimals = 9)
+{
+    const movaliren_iso8601_config config = MOVALIREN_ISO8601_DECIMALS(decimals);
+    return reading<movaliren_utc_moment>([&](movaliren_utc_moment *moment, movaliren_read_error *error) {
+        return movaliren_read_iso8601_with_utc(&config, text.data(), text.size(), moment, error);
+    });
+}
+
+// Reads a text of ISO 8601 with this many decimals as a local date and time with its offset.
+inline reading<movaliren_moment> read_iso8601_local(std::string_view text, std::uint8_t decimals = 9)
+{
+    const movaliren_iso8601_config config = MOVALIREN_ISO8601_DECIMALS(decimals);
+    return reading<movaliren_moment>([&](movaliren_moment *moment, movaliren_read_error *error) {
+        return movaliren_read_iso8601_with(&config, text.data(), text.size(), moment, error);
+    });
+}
+
 // A text is no description: what is wrong, and at which byte. what() says both.
 class invalid_description : public std::system_error {
 public:

@@ -259,6 +259,8 @@ static void readings()
     expect("a feed", std::to_string(feed.value().offset_hours), "-5");
     expect("mail of another weekday", movaliren::read_rfc2822("Sat, 21 Nov 1997 09:55:06 -0600").message(),
         "byte 0: expected `Fri`, the weekday of this date");
+    expect("ISO 8601 read", std::to_string(movaliren::read_iso8601("1997-11-12T15:55:06.120Z", 3).value().seconds), "879350106");
+    expect("with its offset", std::to_string(movaliren::read_iso8601_local("1997-11-12T09:55:06.120000000-06:00").value().offset_hours), "-6");
     const auto server = movaliren::description::parse_strftime("%d/%b/%Y:%H:%M:%S %z");
     expect("read by a description", std::to_string(server.read("10/Oct/2000:13:55:36 -0700").value().seconds), "971211336");
     expect("read with its offset", std::to_string(server.read_local("10/Oct/2000:13:55:36 -0700").value().offset_hours), "-7");

@@ -46,6 +46,16 @@ static void read_mail(void)
         || movaliren_read_rfc2822_lenient(text, sizeof text - 1, &read, &error) < 0)
         abort();
 }
+static void read_iso8601(void)
+{
+    static char text[MOVALIREN_ISO8601_WITH_SIZE];
+    struct movaliren_moment read;
+    struct movaliren_read_error error;
+    const ptrdiff_t count = MOVALIREN_TO_ARRAY(text, movaliren_iso8601_with, &widest, &moment);
+    if (count < 0 || movaliren_read_iso8601_with(&widest, text, (size_t)count, &read, &error) < 0
+        || movaliren_read_iso8601("1997-11-12T09:55:06.120000000-06:00", 35, &read, &error) < 0)
+        abort();
+}
 static void items_parse(void)
 {
     const ptrdiff_t count = movaliren_items_parse(deep, strlen(deep), items, 64, &parse_error);
@@ -94,6 +104,7 @@ static const struct {
     { "log_time", log_time, 1024 },
     { "read_rfc3339", read_text, 1024 },
     { "read_rfc2822 and read_rfc2822_lenient", read_mail, 1024 },
+    { "read_iso8601_with, the longest text, and read_iso8601", read_iso8601, 2048 },
     { "items_parse, 32 lists in one another", items_parse, 2048 },
     { "items_read_utc, of a text and of none", items_read, 4096 },
     { "items_format", items_format, 2048 },

@@ -9,6 +9,13 @@ static inline ptrdiff_t iso8601_local(uint8_t decimals, int64_t seconds, uint32_
     return movaliren_iso8601_with_local(&config, seconds, nanosecond, offset, buffer, buffer_size);
 }
 
+static inline ptrdiff_t read_iso8601(uint8_t decimals, const void *text, size_t text_len,
+    struct movaliren_moment *moment, struct movaliren_read_error *error)
+{
+    const struct movaliren_iso8601_config config = MOVALIREN_ISO8601_DECIMALS(decimals);
+    return movaliren_read_iso8601_with(&config, text, text_len, moment, error);
+}
+
 /* The description of items and texts, of which no call writes to either. */
 static inline struct movaliren_description description_of(
     const struct movaliren_item *items, size_t items_len, const void *texts, size_t texts_len)

@@ -123,6 +123,19 @@ func TestReadingByADescription(t *testing.T) {
 	}
 }
 
+func TestReadingISO8601(t *testing.T) {
+	if moment, err := ReadISO8601("1997-11-12T09:55:06.120-06:00", 3); err != nil || moment.UnixNano() != 879350106*1e9+120_000_000 {
+		t.Error(moment, err)
+	}
+	var wrong *ReadError
+	if _, err := ReadISO8601("1997-11-12T09:55:06.120-06:00", 4); !errors.As(err, &wrong) || wrong.At != 23 {
+		t.Error(err)
+	}
+	if _, err := ReadISO8601("", 10); err == nil {
+		t.Error("ten decimals")
+	}
+}
+
 func TestReadingMail(t *testing.T) {
 	for text, read := range map[string]func(string) (time.Time, error){
 		"Fri, 21 Nov 1997 09:55:06 -0600": ReadRFC2822, "Fri, 21 Nov 1997 09(comment):   55  :  06 -0600": ReadRFC2822Lenient,

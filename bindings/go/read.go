@@ -50,6 +50,16 @@ func ReadRFC2822Lenient(text string) (time.Time, error) {
 	})
 }
 
+// ReadISO8601 reads a text of ISO 8601 that [AppendISO8601] writes with this many decimals, 0 to 9. The error is a *ReadError.
+func ReadISO8601(text string, decimals int) (time.Time, error) {
+	if decimals < 0 || decimals > defaultDecimals {
+		return time.Time{}, Error(C.MOVALIREN_ERROR_BAD_CONFIG)
+	}
+	return read(text, func(bytes unsafe.Pointer, size C.size_t, moment *C.struct_movaliren_moment, wrong *C.struct_movaliren_read_error) C.ptrdiff_t {
+		return C.read_iso8601(C.uint8_t(decimals), bytes, size, moment, wrong)
+	})
+}
+
 func read(text string, call func(unsafe.Pointer, C.size_t, *C.struct_movaliren_moment, *C.struct_movaliren_read_error) C.ptrdiff_t) (time.Time, error) {
 	var m C.struct_movaliren_moment
 	var wrong C.struct_movaliren_read_error

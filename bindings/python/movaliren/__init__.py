@@ -27,7 +27,7 @@ that does not fit 64 bits is an OverflowError."""
 
 from ._movaliren import (
     Description, DescriptionError, Error, ReadError, RowError, iso8601, iso8601_at, iso8601_lines, library_version,
-    read_rfc2822, read_rfc2822_at, read_rfc3339, read_rfc3339_at, rfc2822, rfc2822_at, rfc2822_lines, rfc3339, rfc3339_at,
+    read_iso8601, read_iso8601_at, read_rfc2822, read_rfc2822_at, read_rfc3339, read_rfc3339_at, rfc2822, rfc2822_at, rfc2822_lines, rfc3339, rfc3339_at,
     rfc3339_lines,
 )
 from .log import Formatter
@@ -35,6 +35,6 @@ from .log import Formatter
 __version__ = "0.1.0"
 __all__ = [
     "Description", "DescriptionError", "Error", "Formatter", "ReadError", "RowError", "iso8601", "iso8601_at",
-    "iso8601_lines", "library_version", "read_rfc2822", "read_rfc2822_at", "read_rfc3339", "read_rfc3339_at", "rfc2822",
+    "iso8601_lines", "library_version", "read_iso8601", "read_iso8601_at", "read_rfc2822", "read_rfc2822_at", "read_rfc3339", "read_rfc3339_at", "rfc2822",
     "rfc2822_at", "rfc2822_lines", "rfc3339", "rfc3339_at", "rfc3339_lines",
 ]

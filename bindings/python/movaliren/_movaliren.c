@@ -572,6 +572,46 @@ static PyObject *read_rfc2822_at(PyObject *module, PyObject *args, PyObject *nam
     return read_at_by(&of_rfc2822, args, named);
 }
 
+/* Takes (text, decimals=9). */
+static int take_iso8601(PyObject *args, PyObject *named, const char **text, Py_ssize_t *len,
+    struct movaliren_iso8601_config *config)
+{
+    static char *names[] = { "text", "decimals", NULL };
+    int decimals = 9;
+    return PyArg_ParseTupleAndKeywords(args, named, "s#|i", names, text, len, &decimals)
+        ? take_decimals(decimals, config) : -1;
+}
+
+static PyObject *read_iso8601(PyObject *module, PyObject *args, PyObject *named)
+{
+    const char *text;
+    Py_ssize_t len;
+    struct movaliren_iso8601_config config;
+    struct movaliren_moment m;
+    struct movaliren_read_error error;
+    (void)module;
+    if (take_iso8601(args, named, &text, &len, &config) != 0)
+        return NULL;
+    if (movaliren_read_iso8601_with(&config, text, (size_t)len, &m, &error) < 0)
+        return raise_not_read(&error);
+    return datetime_of(&m, "read_iso8601_at");
+}
+
+static PyObject *read_iso8601_at(PyObject *module, PyObject *args, PyObject *named)
+{
+    const char *text;
+    Py_ssize_t len;
+    struct movaliren_iso8601_config config;
+    struct movaliren_utc_moment m;
+    struct movaliren_read_error error;
+    (void)module;
+    if (take_iso8601(args, named, &text, &len, &config) != 0)
+        return NULL;
+    if (movaliren_read_iso8601_with_utc(&config, text, (size_t)len, &m, &error) < 0)
+        return raise_not_read(&error);
+    return pair_of(&m);
+}
+
 /* ---- descriptions */
 
 struct description {
@@ -799,6 +839,8 @@ static PyMethodDef functions[] = {
     { "read_rfc3339_at", WITH_NAMES(read_rfc3339_at), "Its seconds since 1970 and its nanosecond." },
     { "read_rfc2822", WITH_NAMES(read_rfc2822), "The datetime that a text of RFC 2822 means, or leniently one of mail or a feed." },
     { "read_rfc2822_at", WITH_NAMES(read_rfc2822_at), "Its seconds since 1970, and the nanosecond 0." },
+    { "read_iso8601", WITH_NAMES(read_iso8601), "The datetime that has this text of ISO 8601." },
+    { "read_iso8601_at", WITH_NAMES(read_iso8601_at), "Its seconds since 1970 and its nanosecond." },
     { "library_version", library_version, METH_NOARGS, "The version of the library, as 100 for 0.1.0." },
     { NULL, NULL, 0, NULL },
 };

@@ -65,6 +65,8 @@ def worked():
     expect(movaliren.read_rfc3339("1996-12-19T16:39:57-08:00").utcoffset(), datetime.timedelta(hours=-8))
     expect(movaliren.read_rfc3339("1985-04-12t23:20:50.52z", lenient=True).tzinfo, UTC)
     expect(movaliren.read_rfc3339_at("1937-01-01T12:00:27.870000001+00:20"), (-1041337173, 870_000_001))
+    expect(movaliren.read_iso8601("1997-11-12T16:55:06.120+01:00", 3), datetime.datetime.fromisoformat("1997-11-12T16:55:06.120+01:00"))
+    expect(movaliren.read_iso8601_at("1997-11-12T15:55:06.120000001Z"), (879350106, 120_000_001))
     for text in "Fri, 21 Nov 1997 09:55:06 -0600", "Thu, 13 Feb 1969 23:32:54 -0330":
         expect(movaliren.read_rfc2822(text), email.utils.parsedate_to_datetime(text))
         expect(movaliren.read_rfc2822_at(text), (email.utils.mktime_tz(email.utils.parsedate_tz(text)), 0))
@@ -173,6 +175,7 @@ def beside_datetime():
             continue
         wanted = moment.isoformat(timespec="microseconds")
         expect(movaliren.iso8601(moment, 6), wanted.replace("+00:00", "Z"))
+        expect(movaliren.read_iso8601(wanted.replace("+00:00", "Z"), 6), moment)
         expect(movaliren.rfc2822(moment), f"{moment:%a, %d %b %Y %H:%M:%S %z}")
         expect(movaliren.read_rfc3339(movaliren.rfc3339(moment)), moment)
         expect(movaliren.Description.strftime("%A, %-d %B %Y, %H.%M.%S.%6N %:z").read(

@@ -91,6 +91,10 @@ extern "C" {
     pub(crate) fn movaliren_read_rfc2822_utc(text: *const u8, text_len: usize, moment: *mut UtcMoment, error: *mut ReadError) -> isize;
     pub(crate) fn movaliren_read_rfc2822_lenient(text: *const u8, text_len: usize, moment: *mut Moment, error: *mut ReadError) -> isize;
     pub(crate) fn movaliren_read_rfc2822_lenient_utc(text: *const u8, text_len: usize, moment: *mut UtcMoment, error: *mut ReadError) -> isize;
+    pub(crate) fn movaliren_read_iso8601(text: *const u8, text_len: usize, moment: *mut Moment, error: *mut ReadError) -> isize;
+    pub(crate) fn movaliren_read_iso8601_utc(text: *const u8, text_len: usize, moment: *mut UtcMoment, error: *mut ReadError) -> isize;
+    pub(crate) fn movaliren_read_iso8601_with(config: *const Iso8601Config, text: *const u8, text_len: usize, moment: *mut Moment, error: *mut ReadError) -> isize;
+    pub(crate) fn movaliren_read_iso8601_with_utc(config: *const Iso8601Config, text: *const u8, text_len: usize, moment: *mut UtcMoment, error: *mut ReadError) -> isize;
     pub(crate) fn movaliren_rfc3339_batch(moments: *const Moment, moments_len: usize, end: u8, buffer: *mut u8, buffer_size: usize) -> Progress;
     pub(crate) fn movaliren_rfc2822_batch(moments: *const Moment, moments_len: usize, end: u8, buffer: *mut u8, buffer_size: usize) -> Progress;
     pub(crate) fn movaliren_iso8601_batch(moments: *const Moment, moments_len: usize, end: u8, buffer: *mut u8, buffer_size: usize) -> Progress;

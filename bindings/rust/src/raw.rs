@@ -389,6 +389,7 @@ pub enum Texts {
     Rfc3339Lenient,
     Rfc2822,
     Rfc2822Lenient,
+    Iso8601,
 }
 
 /// A moment that a text is read into, as by [`Rfc3339::read`]. This trait is sealed.
@@ -397,12 +398,28 @@ pub trait Read: Default {
     fn read(text: &[u8], texts: Texts, _: Inside) -> Result<Self, NotRead>;
 
     #[doc(hidden)]
+    fn read_with(config: &Iso8601By, text: &[u8], _: Inside) -> Result<Self, Unread>;
+
+    #[doc(hidden)]
     fn read_by(description: &Description, text: &[u8], _: Inside) -> Result<Self, Unread>;
 }
 
 macro_rules! reads {
-    ($($moment:ty: $items_read:ident, $($texts:ident $function:ident),*;)*) => { $(
+    ($($moment:ty: $items_read:ident, $iso_read:ident, $($texts:ident $function:ident),*;)*) => { $(
         impl Read for $moment {
+            fn read_with(config: &Iso8601By, text: &[u8], _: Inside) -> Result<Self, Unread> {
+                let mut moment = <$moment>::default();
+                let mut place = NO_PLACE;
+                // SAFETY: pointer and length are the slice's, and the structs have the header's layout.
+                let answer = unsafe {
+                    library::$iso_read(config.config(), text.as_ptr(), text.len(), &mut moment, &mut place)
+                };
+                match answer {
+                    0 => Ok(moment),
+                    number => Err(unread(number, &place)),
+                }
+            }
+
             fn read_by(description: &Description, text: &[u8], _: Inside) -> Result<Self, Unread> {
                 let (items, texts) = description.parts();
                 let mut moment = <$moment>::default();
@@ -446,16 +463,18 @@ macro_rules! reads {
 }
 
 reads! {
-    Moment: movaliren_items_read,
+    Moment: movaliren_items_read, movaliren_read_iso8601_with,
         Rfc3339 movaliren_read_rfc3339,
         Rfc3339Lenient movaliren_read_rfc3339_lenient,
         Rfc2822 movaliren_read_rfc2822,
-        Rfc2822Lenient movaliren_read_rfc2822_lenient;
-    UtcMoment: movaliren_items_read_utc,
+        Rfc2822Lenient movaliren_read_rfc2822_lenient,
+        Iso8601 movaliren_read_iso8601;
+    UtcMoment: movaliren_items_read_utc, movaliren_read_iso8601_with_utc,
         Rfc3339 movaliren_read_rfc3339_utc,
         Rfc3339Lenient movaliren_read_rfc3339_lenient_utc,
         Rfc2822 movaliren_read_rfc2822_utc,
-        Rfc2822Lenient movaliren_read_rfc2822_lenient_utc;
+        Rfc2822Lenient movaliren_read_rfc2822_lenient_utc,
+        Iso8601 movaliren_read_iso8601_utc;
 }
 
 /// The version of the library: 10,000 for its first part, 100 for the second, and the third.

@@ -1,6 +1,6 @@
 //! Texts, read back.
 use crate::raw::{Inside, Read, Texts};
-use crate::{Description, Error, Kind, Rfc2822, Rfc3339};
+use crate::{Description, Error, Iso8601, Iso8601By, Kind, Rfc2822, Rfc3339};
 use core::fmt;
 
 impl Rfc3339 {
@@ -92,6 +92,48 @@ impl Rfc2822 {
     /// ```
     pub fn read_lenient<V: Read>(&self, text: impl AsRef<[u8]>) -> Result<V, NotRead> {
         V::read(text.as_ref(), Texts::Rfc2822Lenient, Inside)
+    }
+}
+
+impl Iso8601 {
+    /// Reads a text of ISO 8601 that [`Iso8601`] writes, with nine decimals, and with `Z` for UTC.
+    ///
+    /// # Errors
+    ///
+    /// No moment has this text: the place, and what could have come there.
+    ///
+    /// ```
+    /// use movaliren::{Iso8601, UtcMoment};
+    ///
+    /// let moment: UtcMoment = Iso8601.read("1997-11-12T09:55:06.000000000-06:00")?;
+    /// assert_eq!(moment, UtcMoment::new(879_350_106, 0));
+    /// # Ok::<(), movaliren::NotRead>(())
+    /// ```
+    pub fn read<V: Read>(&self, text: impl AsRef<[u8]>) -> Result<V, NotRead> {
+        V::read(text.as_ref(), Texts::Iso8601, Inside)
+    }
+}
+
+impl Iso8601By {
+    /// Reads a text of ISO 8601 that the configuration writes of a moment whose finer parts are zero.
+    ///
+    /// # Errors
+    ///
+    /// - [`Unread::Description`] with [`Error::Undetermined`]: the configuration does not write a date, a time and an
+    ///   offset.
+    /// - [`Unread::Text`]: no moment has this text: the place, and what could have come there.
+    ///
+    /// ```
+    /// use movaliren::{Iso8601By, TimePrecision, UtcMoment};
+    ///
+    /// const MILLISECONDS: Iso8601By = Iso8601By::new().time_precision(TimePrecision::Second, 3);
+    ///
+    /// let moment: UtcMoment = MILLISECONDS.read("1997-11-12T15:55:06.120Z")?;
+    /// assert_eq!(moment, UtcMoment::new(879_350_106, 120_000_000));
+    /// # Ok::<(), movaliren::Unread>(())
+    /// ```
+    pub fn read<V: Read>(&self, text: impl AsRef<[u8]>) -> Result<V, Unread> {
+        V::read_with(self, text.as_ref(), Inside)
     }
 }
 
@@ -207,11 +249,11 @@ fn letters(letter: u8, is_lenient: bool) -> &'static str {
     }
 }
 
-/// Why no moment was read by a description.
+/// Why no moment was read by a description or a configuration.
 #[derive(Clone, Copy, Debug, PartialEq, Eq, Hash)]
 #[non_exhaustive]
 pub enum Unread {
-    /// No text is read by this description.
+    /// No text is read by this description or configuration.
     Description(Error),
     /// This text is not read.
     Text(NotRead),

@@ -1,6 +1,6 @@
 //! Moments and dates as text, for C: RFC 3339, RFC 2822, ISO 8601, stamps, and descriptions that
-//! cross as data or as a text, in brackets or in the syntax of `strftime`; and texts of RFC 3339, of
-//! RFC 2822 and by a description, read back.
+//! cross as data or as a text, in brackets or in the syntax of `strftime`; and texts of RFC 3339,
+//! RFC 2822, ISO 8601 and a description, read back.
 //!
 //! An export of one text returns the number of bytes at the start of the buffer, which are the
 //! whole text, or a negative number that names the error; the buffer is then unchanged. A batch

@@ -6,6 +6,7 @@ ghost use Rattle.time_below.specs.Moment.{OffsetDateAndTime};
 ghost use Rattle.time_known.specs.Rfc3339Grammar.{Rfc3339Spells};
 ghost use Rattle.time_read.specs.Lenient.{Rfc3339Means};
 
+mod iso8601;
 mod items;
 mod mail;
 mod place;

@@ -2,7 +2,8 @@
 use crate::{
     batch, batch_of_parts, each, eleven, five, items_of_chrono, long, measured, names, of_date,
     of_one_second, of_parts, of_time, of_time_east, ours, ours_east, reading, reading_by,
-    reading_mail, rfc2822_of_chrono, rfc3339_of_chrono, server, Call, Ways, EAST, VALUES,
+    reading_mail, reading_texts_by, rfc2822_of_chrono, rfc3339_of_chrono, server, Call, Ways, EAST,
+    VALUES,
 };
 use chrono::SecondsFormat;
 use movaliren::{
@@ -291,6 +292,26 @@ fn readings() -> Ways {
         (
             "read_rfc2822_lenient_utc",
             reading_mail(|text| Rfc2822.read_lenient::<UtcMoment>(text).is_ok()),
+        ),
+        (
+            "read_iso8601",
+            reading_texts_by(Iso8601, |text| Iso8601.read::<Moment>(text).is_ok()),
+        ),
+        (
+            "read_iso8601_utc",
+            reading_texts_by(Iso8601, |text| Iso8601.read::<UtcMoment>(text).is_ok()),
+        ),
+        (
+            "read_iso8601_with",
+            reading_texts_by(Iso8601, |text| {
+                Iso8601By::new().read::<Moment>(text).is_ok()
+            }),
+        ),
+        (
+            "read_iso8601_with_utc",
+            reading_texts_by(Iso8601, |text| {
+                Iso8601By::new().read::<UtcMoment>(text).is_ok()
+            }),
         ),
         (
             "items_read:nginx",
