@@ -9,6 +9,7 @@ use crate::names::{half_day, month_long, month_short, weekday_long, weekday_shor
 use crate::years::{century, signed_year};
 use time_below::format_description::modifier::{Padding, SubsecondDigits};
 use time_below::format_description::{Component, modifier};
+use time_plan::Shown;
 
 /// Reads a number in two places, and returns how many bytes it has, as each reader of a component
 /// does.
@@ -93,22 +94,23 @@ fn timestamp<T: ReadStep>(
     Some(count.saturating_add(width))
 }
 
-/// Reads a component into the fields, and returns how many bytes it has.
+/// Reads a component that is met often into the fields, and returns how many bytes it has, if the
+/// text begins with one. Of any other component it reads nothing, and returns `None`.
 #[inline(always)]
-pub(crate) fn read_component<T: ReadStep>(
-    component: &Component,
+pub(crate) fn read_often<T: ReadStep>(
+    component: Component,
     step: &T,
     others: &[T],
     texts: &[u8],
     text: &[u8],
     fields: &mut Fields,
-) -> Option<usize> {
-    match component {
+) -> Option<Option<usize>> {
+    let count = match component {
         Component::Day(m) => pair(text, m.padding, step, others, texts, &mut fields.day),
         Component::MonthShort(_) => month_short(text, &mut fields.month),
         Component::WeekdayShort(_) => weekday_short(text, &mut fields.weekday),
         Component::CalendarYearFullExtendedRange(m) => {
-            extended_year(text, *m, step, others, texts, &mut fields.year)
+            extended_year(text, m, step, others, texts, &mut fields.year)
         }
         Component::OffsetHour(m) => offset_hour(text, m.padding, step, others, texts, fields),
         Component::OffsetMinute(m) => pair(
@@ -127,7 +129,40 @@ pub(crate) fn read_component<T: ReadStep>(
             texts,
             &mut fields.nanosecond,
         ),
-        _ => read_seldom(component, step, others, texts, text, fields),
+        _ => return None,
+    };
+    Some(count)
+}
+
+/// Reads any component into the fields, and returns how many bytes it has.
+#[inline(never)]
+pub(crate) fn read_component<T: ReadStep>(
+    component: Component,
+    step: &T,
+    others: &[T],
+    texts: &[u8],
+    text: &[u8],
+    fields: &mut Fields,
+) -> Option<usize> {
+    match read_often(component, step, others, texts, text, fields) {
+        Some(count) => count,
+        None => read_seldom(component, step, others, texts, text, fields),
+    }
+}
+
+/// Reads the component that a step shows, which is not met often. It takes the step and not the
+/// component, which else would lie in memory for this call.
+#[inline(never)]
+pub(crate) fn read_component_of<T: ReadStep>(
+    step: &T,
+    others: &[T],
+    texts: &[u8],
+    text: &[u8],
+    fields: &mut Fields,
+) -> Option<usize> {
+    match step.parts(texts).shown {
+        Shown::Component(component) => read_seldom(component, step, others, texts, text, fields),
+        Shown::Run(_) => None,
     }
 }
 
@@ -194,7 +229,7 @@ fn extended_year<T: ReadStep>(
 /// Reads a number of the date, in places of which the component tells how many.
 #[inline(never)]
 fn read_seldom<T: ReadStep>(
-    component: &Component,
+    component: Component,
     step: &T,
     others: &[T],
     texts: &[u8],

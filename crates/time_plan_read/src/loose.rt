@@ -114,7 +114,7 @@ pub(crate) fn read_loosely<T: ReadStep>(
     if !has_digits(component, text) {
         return None;
     }
-    read_component(&component, step, others, texts, text, fields)
+    read_component(component, step, others, texts, text, fields)
 }
 
 /// Reads a number with no zeros or with spaces in their place, if no digits stand behind it, and
@@ -133,6 +133,6 @@ fn read_bare<T: ReadStep>(
     }
     let count = spaces(text);
     let behind = text.get(count..)?;
-    let digits = read_component(&bare, step, others, texts, behind, fields)?;
+    let digits = read_component(bare, step, others, texts, behind, fields)?;
     Some(digits.saturating_add(count))
 }

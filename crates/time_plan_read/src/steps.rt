@@ -12,7 +12,7 @@ ghost use Rattle.time_provide.specs.Real.{AreReal};
 
 use crate::any_step::{LiteralRef, ReadStep, StepParts};
 use crate::behind::has_digits;
-use crate::components::read_component;
+use crate::components::{read_component_of, read_often};
 use crate::fault::{NotRead, Reason, Stop, not_read};
 use crate::fields::Fields;
 use crate::names::{after_literal, behind};
@@ -84,9 +84,10 @@ fn read_step<'a, T: ReadStep>(
         → IsSomeAnd result (λ left. left.now ≡ rest)
         × Sets (T.shown_of texts.now step.now) f fields.old fields.new }
 {
-    let parts = step.parts(texts);
-    let count = read_shown(&parts.shown, step, others, texts, text, fields)?;
-    after_literal(behind(text, count)?, parts.literal)
+    let shown = step.parts(texts).shown;
+    let count = read_shown(&shown, step, others, texts, text, fields)?;
+    let literal = step.parts(texts).literal;
+    after_literal(behind(text, count)?, literal)
 }
 
 /// Reads what a step shows into the fields, and returns how many bytes that has.
@@ -105,7 +106,12 @@ fn read_shown<T: ReadStep>(
         → (result ≡ Some (length front)) × Sets shown.now f fields.old fields.new }
 {
     match shown {
-        Shown::Component(component) => read_component(component, step, others, texts, text, fields),
+        Shown::Component(component) => {
+            match read_often(*component, step, others, texts, text, fields) {
+                Some(count) => count,
+                None => read_component_of(step, others, texts, text, fields),
+            }
+        }
         Shown::Run(Run::Empty) => Some(0),
         Shown::Run(Run::Time(_)) => read_time(text, fields),
         Shown::Run(Run::Date(_)) => read_date(text, fields),
