@@ -1,5 +1,6 @@
 //! Where lines come from, and where what they become goes to.
-ghost use Rattle.std.specs.Prelude.{◌≡◌, ◌<◌, ◌≤◌, ℕ, List, Option, length, take, IfOk, OnOk, OnErr};
+ghost use Rattle.std.specs.Prelude.{◌≡◌, ◌<◌, ◌≤◌, ℕ, List, Option, length, take, IfOk, OnOk};
+ghost use Rattle.std.specs.Prelude.{OnErr};
 ghost use Rattle.line_streams.specs.Prompt.{Grows, GrowsInPart, IsPrompt};
 
 use crate::lines::LineJob;
@@ -42,8 +43,8 @@ pub trait Exchange {
     /// Whether the source is at its end.
     ghost has_ended: { Self → Type 0 };
 
-    /// Reads some bytes of the source into the block: none at the end of the source, or where the block is
-    /// empty. No line that was read to its end may wait for what it becomes.
+    /// Reads some bytes of the source into the block: none at the end of the source, or where the
+    /// block is empty. No line that was read to its end may wait for what it becomes.
     fn read<J: LineJob>(&mut self, job: &J, block: &mut [u8]) -> Result<usize, FilterError>
         requires prompt { IsPrompt (J.becomes job.now) (got self.old) (put self.old) }
         ensures bound { IfOk result (λ n. n ≤ length block.new) }

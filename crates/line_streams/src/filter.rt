@@ -92,9 +92,9 @@ fn take_last<J: LineJob, S: Exchange>(
 /// How many bytes are read at a time.
 const BLOCK_SIZE: usize = 65_536;
 
-/// Writes what each line of the input becomes, to the end of the input. Each read is made when no line that
-/// has its end waits for what it becomes. After an error what some first lines become was written, that of the
-/// last one of them perhaps in part.
+/// Writes what each line of the input becomes, to the end of the input. Each read is made when no
+/// line that has its end waits for what it becomes. After an error what some first lines become was
+/// written, that of the last one of them perhaps in part.
 pub fn run<J: LineJob, S: Exchange>(
     alloc: Global,
     job: &mut J,

@@ -1,7 +1,7 @@
 //! Filters of lines: what each line becomes is written, in order, before the next read.
 //!
-//! A [`LineJob`] says what a line becomes, an [`Exchange`] is where lines come from and texts go to,
-//! and [`run`] does the job for each line.
+//! A [`LineJob`] says what a line becomes, an [`Exchange`] is where lines come from and texts go
+//! to, and [`run`] does the job for each line.
 #![tactic(auto)]
 
 mod exchange;

@@ -1,5 +1,6 @@
 //! What is done with each line.
-ghost use Rattle.std.specs.Prelude.{◌≡◌, ◌==◌, ◌≤◌, ℕ, List, ◌∷◌, ◌++◌, length, position, OnOk, IfOk, drop};
+ghost use Rattle.std.specs.Prelude.{◌≡◌, ◌==◌, ◌≤◌, ℕ, List, ◌∷◌, ◌++◌, length, position, OnOk};
+ghost use Rattle.std.specs.Prelude.{IfOk, drop};
 ghost use Rattle.line_streams.specs.Lines.{unended_of};
 ghost use Rattle.line_streams.specs.Filter.{ended_lines_of, Adds, Become, Stays};
 
@@ -36,9 +37,9 @@ pub fn place_of_end(bytes: &[u8]) -> Option<usize>
     memchr(b'\n', bytes)
 }
 
-/// Appends what a first line becomes, and what each line of the text that has its line feed becomes. Returns how
-/// many bytes of the text these lines have. The job is called at one place alone, so that the compiler makes it part
-/// of the loop.
+/// Appends what a first line becomes, and what each line of the text that has its line feed
+/// becomes. Returns how many bytes of the text these lines have. The job is called at one place
+/// alone, so that the compiler makes it part of the loop.
 pub(crate) fn append_lines<J: LineJob>(
     job: &mut J,
     output: &mut Vec<u8>,

@@ -65,7 +65,8 @@ pub struct Asked<'a> {
     pub clock: Clock<'a>,
 }
 
-/// The digits that a number has at least, where nothing else is asked for: in seconds, those of 2001 and later.
+/// The digits that a number has at least, where nothing else is asked for: in seconds, those of
+/// 2001 and later.
 const LEAST_DIGITS: usize = 10;
 
 /// The description, where nothing else is asked for.
@@ -497,8 +498,9 @@ fn texts_of<'a>(matches: &ArgMatches<'a>) -> Texts<'a> {
     }
 }
 
-/// The description and the files of the words that need no name. Where a job takes files, the first word is a
-/// description if it is the name of a format or has a bracket or a percent sign, and else a file.
+/// The description and the files of the words that need no name. Where a job takes files, the first
+/// word is a description if it is the name of a format or has a bracket or a percent sign, and else
+/// a file.
 fn words_of<'a>(
     alloc: Global,
     name: &str,
@@ -542,8 +544,8 @@ fn asked_of<'a>(
     })
 }
 
-/// Reads the words of the command line. There is nothing that they ask for where they name no job, which
-/// the command refuses by itself.
+/// Reads the words of the command line. There is nothing that they ask for where they name no job,
+/// which the command refuses by itself.
 pub fn read<'a>(alloc: Global, words: &'a [String]) -> Result<Option<Asked<'a>>, Error> {
     let matches = command(alloc)?.try_get_matches_from(words)?;
     match matches.subcommand() {

@@ -46,7 +46,8 @@ fn in_zone(
     }
 }
 
-/// Finds the clock that is asked for. Where there is none, this is said, and the status is returned.
+/// Finds the clock that is asked for. Where there is none, this is said, and the status is
+/// returned.
 pub fn find(rt: &HostRuntime, clock: Clock<'_>) -> Result<FoundClock, ExitCode> {
     match clock {
         Clock::Utc => Ok(FoundClock::Utc),

@@ -31,13 +31,15 @@ impl NamedFormat {
     }
 }
 
-/// Whether the word is a description: the name of a format, or a text with a bracket or a percent sign.
+/// Whether the word is a description: the name of a format, or a text with a bracket or a percent
+/// sign.
 pub fn is_description(word: &str) -> bool {
     let bytes = word.as_bytes();
     NamedFormat::of_name(word).is_some() || bytes.contains(&b'%') || bytes.contains(&b'[')
 }
 
-/// Whether the bytes can stand in a string of JSON as they are: no quote, no backslash, no control character.
+/// Whether the bytes can stand in a string of JSON as they are: no quote, no backslash, no control
+/// character.
 pub fn is_json_text(bytes: &[u8]) -> bool {
     bytes
         .iter()
@@ -55,8 +57,8 @@ pub enum Refusal {
     Strftime(InvalidStrftime),
 }
 
-/// The plan of a text: with a percent sign it is in the syntax of strftime, else with a bracket in that of
-/// brackets. Any other text is refused as a name.
+/// The plan of a text: with a percent sign it is in the syntax of strftime, else with a bracket in
+/// that of brackets. Any other text is refused as a name.
 pub fn plan_of(alloc: Global, text: &str) -> Result<Plan, Refusal>
     ensures { IfErr result (IsRefusalOf text.now) }
 {

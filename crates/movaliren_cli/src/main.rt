@@ -1,8 +1,8 @@
 //! Formats the moments of the lines of files or of standard input.
 //!
-//! `movaliren now` puts before each line the moment at which it was read. `movaliren unix` replaces the
-//! first number of each line that is Unix time, or each, by its text. `movaliren read` does so with the first text
-//! of RFC 3339 or of a description.
+//! `movaliren now` puts before each line the moment at which it was read. `movaliren unix` replaces
+//! the first number of each line that is Unix time, or each, by its text. `movaliren read` does so
+//! with the first text of RFC 3339 or of a description.
 #![tactic(auto)]
 
 mod arguments;
@@ -94,8 +94,8 @@ fn run_reader<S: Shown + Drop, R: Reads + Drop>(
     sources::run(rt, task, &mut job)
 }
 
-/// Replaces the first text of each line that one of the forms has, where years are these, in the zone that is asked
-/// for.
+/// Replaces the first text of each line that one of the forms has, where years are these, in the
+/// zone that is asked for.
 fn run_forms<S: Shown + Drop>(
     rt: &HostRuntime,
     task: &Task,
@@ -152,8 +152,8 @@ fn run_read<S: Shown + Drop>(rt: &HostRuntime, task: &Task, shown: S) -> ExitCod
     run_reader(rt, task, shown, LenientReader::new())
 }
 
-/// Whether what is shown can stand in a string of JSON, by the text of one moment: what a description shows beside
-/// its numbers and names is the same in all its texts.
+/// Whether what is shown can stand in a string of JSON, by the text of one moment: what a
+/// description shows beside its numbers and names is the same in all its texts.
 fn is_for_json<S: Shown>(rt: &HostRuntime, shown: &mut S) -> Result<bool, AllocError> {
     let mut text = Vec::new(rt.alloc());
     shown.append(&mut text, &Timestamp::UNIX_EPOCH)?;

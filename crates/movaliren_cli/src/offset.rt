@@ -1,7 +1,8 @@
 //! Offsets of the command line.
 ghost use Rattle.std.specs.Prelude.{◌≡◌, ◌≤◌, IfSome};
 ghost use Rattle.time_below.specs.Offset.{signed};
-ghost use Rattle.movaliren_cli.specs.OffsetText.{offset_of_digits, offset_of_parts, offset_of_word, pair};
+ghost use Rattle.movaliren_cli.specs.OffsetText.{offset_of_digits, offset_of_parts, offset_of_word};
+ghost use Rattle.movaliren_cli.specs.OffsetText.{pair};
 
 use time_below::UtcOffset;
 

@@ -20,8 +20,8 @@ impl Place for InZone<'_> {
     }
 }
 
-/// The dates and times that the clock of a zone shows. One that it skips is read by the offset before the change, and
-/// so is one that it shows twice, which is the earlier moment.
+/// The dates and times that the clock of a zone shows. One that it skips is read by the offset
+/// before the change, and so is one that it shows twice, which is the earlier moment.
 #[derive(Drop)]
 pub struct LocalIn<'a>(pub TimeZone<'a>);
 

@@ -122,7 +122,8 @@ impl Plans {
         Ok(Plans { plans, in_utc })
     }
 
-    /// The forms of the plans. Where texts show a part of the year, the other part is that of the date.
+    /// The forms of the plans. Where texts show a part of the year, the other part is that of the
+    /// date.
     pub fn forms(&self, alloc: Global, base: Date) -> Result<Vec<FormRow<'_>>, NotReadBy> {
         let mut forms = Vec::new(alloc);
         for plan in &self.plans {

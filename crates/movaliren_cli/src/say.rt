@@ -37,8 +37,8 @@ pub fn refuse_arguments(rt: &HostRuntime, kind: io::ErrorKind) -> ExitCode {
     }
 }
 
-/// Says why a run ended before the end of its input, and gives the status. A closed pipe is an end like
-/// another, since its reader wants no more.
+/// Says why a run ended before the end of its input, and gives the status. A closed pipe is an end
+/// like another, since its reader wants no more.
 pub fn fail(rt: &HostRuntime, outcome: Result<(), FilterError>) -> ExitCode {
     let text = match outcome {
         Ok(()) => return ExitCode::SUCCESS,
@@ -77,8 +77,8 @@ fn reason(why: Why) -> &'static str {
     }
 }
 
-/// Says how many lines passed as they were, if any did, and why the first of them did, which is one of the file of
-/// this name.
+/// Says how many lines passed as they were, if any did, and why the first of them did, which is one
+/// of the file of this name.
 pub fn say_passed(rt: &HostRuntime, passed: &Passed, file: Option<&str>) {
     let Some(first) = passed.first else {
         return;

@@ -53,7 +53,8 @@ fn run_source<J: CountingJob>(
     }
 }
 
-/// Does the job for each line of a file, where one that cannot be opened is said. Says whether all of it was read.
+/// Does the job for each line of a file, where one that cannot be opened is said. Says whether all
+/// of it was read.
 fn run_file<J: CountingJob>(
     rt: &HostRuntime,
     job: &mut J,
@@ -75,7 +76,8 @@ fn run_file<J: CountingJob>(
     }
 }
 
-/// Does the job for each line of the files, in order. One that cannot be read is said, and the others are read.
+/// Does the job for each line of the files, in order. One that cannot be read is said, and the
+/// others are read.
 fn run_each<J: CountingJob>(
     rt: &HostRuntime,
     job: &mut J,
@@ -96,7 +98,8 @@ fn run_each<J: CountingJob>(
     Ok(())
 }
 
-/// Does the job for each line of standard input, and says at the end how many lines passed as they were.
+/// Does the job for each line of standard input, and says at the end how many lines passed as they
+/// were.
 fn run_standard<J: CountingJob>(rt: &HostRuntime, task: &Task, job: &mut J) -> ExitCode {
     let mut streams = Streams::new(rt);
     match run_source(rt, job, &mut streams, "-") {

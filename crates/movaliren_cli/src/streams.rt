@@ -31,8 +31,8 @@ impl Source {
     }
 }
 
-/// A source, standard output, and what must be known where another source follows. Nothing is known of what
-/// they give and take.
+/// A source, standard output, and what must be known where another source follows. Nothing is known
+/// of what they give and take.
 #[derive(Drop)]
 pub struct Streams {
     pub input: Source,

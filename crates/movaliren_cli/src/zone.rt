@@ -58,8 +58,8 @@ fn is_absent(fault: &Error) -> bool {
     )
 }
 
-/// Reads the zone of this name from the directory that `TZDIR` names, or else from the usual ones. A file
-/// that is there and cannot be read is a fault.
+/// Reads the zone of this name from the directory that `TZDIR` names, or else from the usual ones.
+/// A file that is there and cannot be read is a fault.
 fn read_named<R: Files + Env + AllocGlobal>(rt: &R, name: &str) -> Result<Tzif, Error> {
     if !is_name(name) {
         return Err(Error::TimeZoneNotFound);

@@ -1,5 +1,6 @@
 //! Values that are formatted by the calls of `time`.
-ghost use Rattle.std.specs.Prelude.{◌≡◌, ◌≢◌, ◌+◌, ◌<◌, ◌≤◌, None, OnOk, IfOk, IfErr, IsSomeAnd, IsTrue, IsUtf8, string_bytes, vec_len, vec_capacity};
+ghost use Rattle.std.specs.Prelude.{◌≡◌, ◌≢◌, ◌+◌, ◌<◌, ◌≤◌, None, OnOk, IfOk, IfErr, IsSomeAnd};
+ghost use Rattle.std.specs.Prelude.{IsTrue, IsUtf8, string_bytes, vec_len, vec_capacity};
 ghost use Rattle.time_fmt.specs.Guarantee.{IsTextIf};
 ghost use Rattle.time_fmt.specs.Lossy.{lossy_text};
 ghost use Rattle.time_fmt.specs.Outcome.{Names, Appends, Adds, is_out_of_memory};
@@ -74,8 +75,9 @@ where
         format.write_into(output, self, &mut Self::State::default())
     }
 
-    /// The text of the value, after one reservation, or the refusal that ends it. Bytes that are no UTF-8,
-    /// which only byte literals make, are read as a whole with U+FFFD for what is no character.
+    /// The text of the value, after one reservation, or the refusal that ends it. Bytes that are no
+    /// UTF-8, which only byte literals make, are read as a whole with U+FFFD for what is no
+    /// character.
     ///
     /// The result is `OutOfMemory` if an allocation fails, for the text or for reading bytes that
     /// are no UTF-8, or if the maximum length has reached the greatest `usize`.

@@ -1,7 +1,8 @@
-//! Laws of what `{}` prints of a value, which is the text of a description, and of errors. The contract of each
-//! function is the law, and its body is empty.
+//! Laws of what `{}` prints of a value, which is the text of a description, and of errors. The
+//! contract of each function is the law, and its body is empty.
 ghost use Rattle.std.specs.Prelude.{◌≡◌, IsSomeAnd};
-ghost use Rattle.time.specs.DisplayText.{date_items, time_items, offset_items, date_time_items, utc_items, local_items, Spell};
+ghost use Rattle.time.specs.DisplayText.{date_items, time_items, offset_items, date_time_items};
+ghost use Rattle.time.specs.DisplayText.{utc_items, local_items, Spell};
 
 use crate::parse_iso8601::NotReadByIso8601;
 use crate::parse_value::NotReadByPlan;

@@ -1,7 +1,7 @@
 //! The formatter layer of the Rust crate `time` 0.3.55, by that crate's paths and calls.
 //!
-//! A program names this crate alone in `crates.txt`. With [`prelude`] in scope, a value is formatted as in
-//! `time`:
+//! A program names this crate alone in `crates.txt`. With [`prelude`] in scope, a value is
+//! formatted as in `time`:
 //!
 //! ```text
 //! use time::format_description::well_known::Rfc3339;

@@ -1,4 +1,5 @@
-//! Values that stand in the text of a program. The macros of [`macros`](crate::macros) call these functions.
+//! Values that stand in the text of a program. The macros of [`macros`](crate::macros) call these
+//! functions.
 ghost use Rattle.std.specs.Prelude.{◌≡◌, ◌<◌, ◌≤◌, IsTrue, length};
 ghost use Rattle.std.specs.Int.{IsInRange};
 ghost use Rattle.std.specs.Str.{all_ascii_digits};
@@ -64,7 +65,8 @@ fn number_of(literal: &[u8]) -> (u32, usize)
     (number, count)
 }
 
-/// The time of an hour, a minute and the literal of a second, as `06` or `06.12`, with at most nine decimals.
+/// The time of an hour, a minute and the literal of a second, as `06` or `06.12`, with at most nine
+/// decimals.
 #[inline]
 pub fn time_of_literal(hour: u8, minute: u8, second: &str) -> Time
     requires literal { IsTrue (is_second second.now) }

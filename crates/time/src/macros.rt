@@ -1,7 +1,7 @@
 //! Values in the text of a program, which are proved to be values where they stand.
 //!
-//! A date that the calendar does not have, as `date!(2026-02-29)`, or a time out of range is refused when the
-//! program is proved.
+//! A date that the calendar does not have, as `date!(2026-02-29)`, or a time out of range is
+//! refused when the program is proved.
 
 pub use crate::{date, datetime, offset, time, utc_datetime};
 
@@ -19,7 +19,8 @@ macro_rules! date {
     };
 }
 
-/// A time of day: `time!(9:55)`, `time!(9:55:06)` or `time!(9:55:06.12)`, with at most nine decimals.
+/// A time of day: `time!(9:55)`, `time!(9:55:06)` or `time!(9:55:06.12)`, with at most nine
+/// decimals.
 #[macro_export]
 macro_rules! time {
     ($hour:literal : $minute:literal) => {

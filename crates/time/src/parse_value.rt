@@ -81,8 +81,8 @@ where
 
 /// A value that is read by the calls of `time`.
 pub trait ParseValue: ComponentProvider + Sized {
-    /// The value that a text has by a format, as `Rfc3339`, `Rfc2822`, `Iso8601` or a `Plan`, or why it has
-    /// none.
+    /// The value that a text has by a format, as `Rfc3339`, `Rfc2822`, `Iso8601` or a `Plan`, or
+    /// why it has none.
     ///
     /// A program that reads many texts by one plan makes a reader once, by `plan.reader::<V>()`.
     #[inline(always)]

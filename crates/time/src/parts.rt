@@ -7,8 +7,8 @@
 //! moment.format_into(&mut line, &text!(YEAR, b"-", MONTH, b"-", DAY))?;
 //! ```
 //!
-//! The constants are components by the choices that `time` takes where none are named: zeros before a
-//! number, a sign only where it is needed, letters as they are. Other choices are written out, as
+//! The constants are components by the choices that `time` takes where none are named: zeros before
+//! a number, a sign only where it is needed, letters as they are. Other choices are written out, as
 //! `Day { padding: Padding::None }` of [`modifier`](crate::format_description::modifier).
 
 pub use crate::format_description::Literal;
@@ -26,8 +26,8 @@ pub use time_fmt::parts::{
 /// A description of its parts in order, as `text!(YEAR, b"-", MONTH)`.
 ///
 /// A text in bytes, as `b"-"`, is a [`Literal`]. Any other part is a description: the choices of a
-/// component, a well-known format, a tree, or another `text!`. At a call there may be 32 parts: write a
-/// longer text by two calls.
+/// component, a well-known format, a tree, or another `text!`. At a call there may be 32 parts:
+/// write a longer text by two calls.
 #[macro_export]
 macro_rules! text {
     (@[] [$a:expr]) => { $a };

@@ -1,4 +1,5 @@
-//! What a program that formats or reads brings into scope: the calls of values and of plans, and `text!`.
+//! What a program that formats or reads brings into scope: the calls of values and of plans, and
+//! `text!`.
 pub use crate::format_value::FormatValue;
 pub use crate::parse_value::ParseValue;
 pub use crate::text;

@@ -1,7 +1,8 @@
 //! The commands, each a name and its numbers.
 ghost use Rattle.std.specs.Prelude.{◌≡◌, ◌≢◌, ◌++◌, ℕ, List, MatchOption};
 ghost use Rattle.time_answers.specs.Asked.{no_command, asked_by, asked_of_fields};
-ghost use Rattle.time_answers.specs.Command.{onto_date, onto_time, onto_offset, time_numbers, date_time_numbers, utc_numbers};
+ghost use Rattle.time_answers.specs.Command.{onto_date, onto_time, onto_offset, time_numbers};
+ghost use Rattle.time_answers.specs.Command.{date_time_numbers, utc_numbers};
 ghost use Rattle.time_answers.specs.Fields.{fields_of, numbers_of, Lacks};
 
 use crate::fields::Fields;

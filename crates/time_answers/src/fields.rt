@@ -1,8 +1,10 @@
 //! The fields of a line, and the numbers that they spell.
-ghost use Rattle.std.specs.Prelude.{◌≡◌, ℕ, pos, true, List, [], ◌∷◌, ◌<◌, ◌^◌, ◌↔◌, IfSome, IsTrue, MatchOption, Some, None};
+ghost use Rattle.std.specs.Prelude.{◌≡◌, ℕ, pos, true, List, [], ◌∷◌, ◌<◌, ◌^◌, ◌↔◌, IfSome};
+ghost use Rattle.std.specs.Prelude.{IsTrue, MatchOption, Some, None};
 ghost use Rattle.std.specs.Char.{is_ascii_digit};
 ghost use Rattle.std.specs.Str.Parse.{digits_value};
-ghost use Rattle.time_answers.specs.Fields.{fields_of, numbers_of, onto_numbers, Lacks, LeadingDigits, FirstNatural};
+ghost use Rattle.time_answers.specs.Fields.{fields_of, numbers_of, onto_numbers, Lacks};
+ghost use Rattle.time_answers.specs.Fields.{LeadingDigits, FirstNatural};
 
 use crate::bytes::{MINUS, SPACE};
 use std::marker::Model;
@@ -64,7 +66,8 @@ impl<'a> Fields<'a> {
         }
     }
 
-    /// Takes the first field as `next_number` does. Most have one or two digits, and a field follows.
+    /// Takes the first field as `next_number` does. Most have one or two digits, and a field
+    /// follows.
     #[inline(always)]
     pub fn next_short(&mut self) -> Option<i32>
         ensures { MatchOption result (Lacks 1 (numbers_of self.old))
@@ -149,8 +152,8 @@ impl<'a> Fields<'a> {
     }
 }
 
-/// What `number_first` returns, by a call. It takes no reference to the fields, so that they stay in
-/// registers.
+/// What `number_first` returns, by a call. It takes no reference to the fields, so that they stay
+/// in registers.
 #[inline(never)]
 fn long_first(text: &[u8]) -> Option<(i32, Fields<'_>)>
     ensures { MatchOption result (numbers_of (fields_of text.now) ≡ None)
@@ -211,8 +214,8 @@ fn number_first(text: &[u8]) -> Option<(i32, Fields<'_>)>
     }
 }
 
-/// The decimal digits that the text begins with, nine at most: the number that they spell, and how many
-/// they are.
+/// The decimal digits that the text begins with, nine at most: the number that they spell, and how
+/// many they are.
 #[inline(always)]
 fn leading_digits(text: &[u8]) -> (u32, usize)
     ensures { LeadingDigits text.now result.0 result.1 }
@@ -241,8 +244,8 @@ fn leading_digits(text: &[u8]) -> (u32, usize)
     (value, count)
 }
 
-/// The number that the first field of the text spells by one to nine decimal digits, and what is left
-/// after the field.
+/// The number that the first field of the text spells by one to nine decimal digits, and what is
+/// left after the field.
 #[inline(always)]
 fn natural_first(text: &[u8]) -> Option<(u32, Fields<'_>)>
     ensures value { FirstNatural text.now result }

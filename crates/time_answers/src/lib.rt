@@ -1,5 +1,5 @@
-//! Answers lines that request a value in a format, each by one line: what the program `time_show` does, whose
-//! README says what lines and answers are.
+//! Answers lines that request a value in a format, each by one line: what the program `time_show`
+//! does, whose README says what lines and answers are.
 #![tactic(auto)]
 
 mod bytes;

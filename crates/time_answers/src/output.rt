@@ -1,8 +1,10 @@
 //! The answers on their way out: they are assembled in a fixed buffer, and go out together.
-ghost use Rattle.std.specs.Prelude.{◌≡◌, ◌+◌, ◌≤◌, ◌<◌, ℕ, List, [], ◌++◌, ◌∷◌, length, min, take, decimal, codes, OnOk, OnErr};
+ghost use Rattle.std.specs.Prelude.{◌≡◌, ◌+◌, ◌≤◌, ◌<◌, ℕ, List, [], ◌++◌, ◌∷◌, length, min, take};
+ghost use Rattle.std.specs.Prelude.{decimal, codes, OnOk, OnErr};
 ghost use Rattle.std.specs.Io.KnownBytes.{Appends};
 ghost use Rattle.time_digits.specs.Digits.{joined};
-ghost use Rattle.time_answers.specs.declared.output.TheConstants.{OUTPUT_LIMIT, NUMBER_LIMIT, FRAME_LIMIT};
+ghost use Rattle.time_answers.specs.declared.output.TheConstants.{OUTPUT_LIMIT, NUMBER_LIMIT};
+ghost use Rattle.time_answers.specs.declared.output.TheConstants.{FRAME_LIMIT};
 ghost use Rattle.time_answers.specs.Answer.{ok_text, refused_text};
 ghost use Rattle.time_answers.specs.OutputBuffer.{buffered, Accepts, AppendsStart, Takes};
 ghost use Rattle.time_answers.specs.Reply.{reply_text};
@@ -19,8 +21,8 @@ pub const OUTPUT_LIMIT: usize = 16_384;
 /// The most digits of a number.
 const NUMBER_LIMIT: usize = 20;
 
-/// The most bytes of a formatted value's answer beside its text: two numbers, `ok`, three spaces and
-/// the line feed.
+/// The most bytes of a formatted value's answer beside its text: two numbers, `ok`, three spaces
+/// and the line feed.
 const FRAME_LIMIT: usize = 46;
 
 /// The most bytes of a text that is put beside what waits without a look at each part.
@@ -30,7 +32,8 @@ const SHORT_TEXT: usize = 64;
 #[derive(Clone, Copy)]
 pub struct WriteFailed;
 
-/// Writes all the bytes. A write that takes no byte fails, and where there are no bytes none is made.
+/// Writes all the bytes. A write that takes no byte fails, and where there are no bytes none is
+/// made.
 fn write_bytes<W: Write>(output: &mut W, bytes: &[u8]) -> Result<(), WriteFailed>
     ensures nothing { bytes.now ≡ [] → output.new ≡ output.old }
     ensures ok { OnOk result (Appends (W.contents output.old) (W.contents output.new) bytes.now) }

@@ -4,7 +4,8 @@ ghost use Rattle.std.specs.Io.KnownBytes.{IsAtEnd};
 ghost use Rattle.time_answers.specs.Answer.{IsAnswer};
 ghost use Rattle.time_answers.specs.LineBuffer.{kept_of, kept_with};
 ghost use Rattle.time_answers.specs.Reply.{reply_text};
-ghost use Rattle.time_answers.specs.Run.{state, AcceptsAnswer, CutsAnswerOff, AnswersOn, CutsAnswersOff, Ran};
+ghost use Rattle.time_answers.specs.Run.{state, AcceptsAnswer, CutsAnswerOff, AnswersOn};
+ghost use Rattle.time_answers.specs.Run.{CutsAnswersOff, Ran};
 
 use crate::formats::Formats;
 use crate::line_buffer::LineBuffer;
@@ -47,8 +48,8 @@ fn reply_for<'a>(text: &'a mut Vec<u8>, formats: &Formats, line: &LineBuffer) ->
     }
 }
 
-/// Answers the line that these bytes end, and begins the next. Most lines stand whole in their block,
-/// and are answered where they stand.
+/// Answers the line that these bytes end, and begins the next. Most lines stand whole in their
+/// block, and are answered where they stand.
 #[inline(always)]
 fn end_line<W: Write>(
     text: &mut Vec<u8>,
@@ -125,9 +126,10 @@ fn answer_block<W: Write>(
 
 /// Answers each line of the input, one after another.
 ///
-/// `Ok` means that the input was read to its end and all its lines were answered. A failed read means
-/// that the whole lines so far were answered. A failed write means that some first lines were, with a
-/// beginning of the answer to the next, which has its line feed unless the input has ended.
+/// `Ok` means that the input was read to its end and all its lines were answered. A failed read
+/// means that the whole lines so far were answered. A failed write means that some first lines
+/// were, with a beginning of the answer to the next, which has its line feed unless the input has
+/// ended.
 ///
 /// No clause says that reads go on as long as they succeed, nor how much memory is allocated; tests
 /// do. The body allocates the text of one answer at a time, and answers a failed allocation by

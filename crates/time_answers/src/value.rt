@@ -1,7 +1,9 @@
 //! The values that the numbers of a line give, if each is in the range of its part.
 ghost use Rattle.std.specs.Prelude.{◌≡◌, ◌≤◌, ◌<◌, IfOk, unsigned_abs};
 ghost use Rattle.time_below.specs.Calendar.{IsYear};
-ghost use Rattle.time_answers.specs.Value.{part_name, natural_part, signed_part, date_value, time_value, offset_value, date_time_value, utc_date_time_value};
+ghost use Rattle.time_answers.specs.Value.{part_name, natural_part, signed_part, date_value};
+ghost use Rattle.time_answers.specs.Value.{time_value, offset_value, date_time_value};
+ghost use Rattle.time_answers.specs.Value.{utc_date_time_value};
 
 use time_below::{Date, Month, OffsetDateTime, Time, UtcDateTime, UtcOffset};
 

@@ -1,5 +1,5 @@
-//! A caller of each library, with a contract that follows from those of the library. The page `CALLING.md` of each
-//! library shows its caller.
+//! A caller of each library, with a contract that follows from those of the library. The page
+//! `CALLING.md` of each library shows its caller.
 #![tactic(auto)]
 
 pub mod clocks;

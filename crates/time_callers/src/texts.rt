@@ -3,7 +3,8 @@ ghost use Rattle.std.specs.Prelude.{◌≡◌, ◌++◌, None, IfOk, OnErr};
 
 use time_fmt::{ComponentProvider, Format, Formattable};
 
-/// Appends the text of a value by any description. A value that is refused leaves the line as it was.
+/// Appends the text of a value by any description. A value that is refused leaves the line as it
+/// was.
 pub fn append_or_nothing<F: Formattable, V: ComponentProvider>(
     description: &F,
     line: &mut Vec<u8>,

@@ -8,7 +8,8 @@ use time_fmt::Formattable;
 use time_plan::Plan;
 use time_plan_read::Reader;
 
-/// The moment that a column of a table shows, by the reader of its plan: the plan writes it as this text.
+/// The moment that a column of a table shows, by the reader of its plan: the plan writes it as this
+/// text.
 pub fn moment_of(reader: &Reader<'_, Timestamp>, column: &[u8]) -> Option<Timestamp>
     ensures { IfSome result (λ moment. ⟦<Plan as Formattable>⟧.outcome_of reader.now.plan.now
         (facts_of_timestamp moment) ≡ done column.now) }

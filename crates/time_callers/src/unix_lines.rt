@@ -11,7 +11,8 @@ use std::alloc::Global;
 use time_known::Rfc3339;
 use time_lines::{InUtc, Numbers, Passed, UnixJob};
 
-/// Shows the first number of each line that has ten digits or more and by these a unit, by RFC 3339.
+/// Shows the first number of each line that has ten digits or more and by these a unit, by RFC
+/// 3339.
 pub fn show_unix_times<S: Exchange>(alloc: Global, exchange: &mut S) -> Result<u64, FilterError>
     requires fresh { IsFresh (S.got exchange.old) (S.put exchange.old) }
     ensures shown { OnOk result (HasFiltered

@@ -1,6 +1,6 @@
-//! Values by their numbers, and what texts are compared by: what `time_fmt_tests` and `time_known_tests` have in
-//! common. Nothing here fails a test, since a library ends no program. No function hands on more than a second call
-//! needs, since a test proves again what it is given.
+//! Values by their numbers, and what texts are compared by: what `time_fmt_tests` and
+//! `time_known_tests` have in common. Nothing here fails a test, since a library ends no program.
+//! No function hands on more than a second call needs, since a test proves again what it is given.
 #![tactic(auto)]
 
 mod memory;

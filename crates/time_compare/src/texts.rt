@@ -34,7 +34,8 @@ fn make_with<D: Formattable, V: ComponentProvider>(
     item.format(alloc, value, state)
 }
 
-/// Appends the text by a fresh state, and makes it once more by the same. The last part is the state after both.
+/// Appends the text by a fresh state, and makes it once more by the same. The last part is the
+/// state after both.
 pub fn append_by<D: Formattable, V: ComponentProvider>(
     alloc: Global,
     output: &mut Vec<u8>,
@@ -61,8 +62,9 @@ where
     Some((appended, made))
 }
 
-/// Appends the text of the value that has these numbers, if there is one, and makes it once more. Each type of value
-/// stands here alone, since a test proves again what it asks of a type that it names.
+/// Appends the text of the value that has these numbers, if there is one, and makes it once more.
+/// Each type of value stands here alone, since a test proves again what it asks of a type that it
+/// names.
 pub fn append<D: Formattable>(
     alloc: Global,
     output: &mut Vec<u8>,
@@ -120,8 +122,8 @@ pub fn has_text<D: Formattable>(
         && measured(item) == width
 }
 
-/// Whether the value that has these numbers is refused by this name, with a fresh state after a byte, and as a text.
-/// No byte is appended.
+/// Whether the value that has these numbers is refused by this name, with a fresh state after a
+/// byte, and as a text. No byte is appended.
 pub fn is_refused<D: Formattable>(alloc: Global, item: &D, value: Value, name: &str) -> bool {
     let mut output = Vec::new(alloc);
     if output.push(b'x').is_err() {

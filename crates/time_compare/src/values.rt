@@ -2,8 +2,8 @@
 use std::convert::TryFrom;
 use time_below::{Date, Month, OffsetDateTime, Time, Timestamp, UtcOffset};
 
-/// A value by its numbers: a year, a month and a day, an hour, a minute, a second and a nanosecond, hours,
-/// minutes and seconds of an offset, seconds since 1970 and a nanosecond.
+/// A value by its numbers: a year, a month and a day, an hour, a minute, a second and a nanosecond,
+/// hours, minutes and seconds of an offset, seconds since 1970 and a nanosecond.
 #[derive(Clone, Copy)]
 pub enum Value {
     Date(i32, u8, u8),

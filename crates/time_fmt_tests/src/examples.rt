@@ -1,5 +1,5 @@
-//! A function by the parts of a text, with the list that it means in its contract. The check proves it with no
-//! proof file.
+//! A function by the parts of a text, with the list that it means in its contract. The check proves
+//! it with no proof file.
 ghost use Rattle.std.specs.Prelude.{◌≢◌, Err};
 ghost use Rattle.time_below.specs.Facts.{facts_of_time};
 ghost use Rattle.time_fmt.specs.declared.error.Format.TheVariants as Format;

@@ -8,7 +8,8 @@ macro_rules! rows {
     };
 }
 
-/// Rows of a value and a component that has a padding alone, with its texts by zeros, spaces and nothing.
+/// Rows of a value and a component that has a padding alone, with its texts by zeros, spaces and
+/// nothing.
 macro_rules! padded {
     ($($value:expr => $name:ident $zeros:literal $spaces:literal $plain:literal,)+) => {
         rows! {$(
@@ -19,7 +20,8 @@ macro_rules! padded {
     };
 }
 
-/// Rows of a value and a component that has a padding and a sign, whether the sign is mandatory, and the text.
+/// Rows of a value and a component that has a padding and a sign, whether the sign is mandatory,
+/// and the text.
 macro_rules! signed {
     ($($value:expr => $name:ident $padding:ident $sign:literal $text:literal,)+) => {
         rows! {$(

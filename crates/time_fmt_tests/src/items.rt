@@ -1,4 +1,5 @@
-//! What trees of each kind are made of, by one trait: a test of trees is proved once, for all kinds.
+//! What trees of each kind are made of, by one trait: a test of trees is proved once, for all
+//! kinds.
 use crate::texts::{assert_same, assert_value};
 use std::alloc::{AllocError, Global};
 use std::process::Abort;

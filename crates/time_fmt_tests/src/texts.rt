@@ -1,5 +1,5 @@
-//! What descriptions and their components are compared by. No helper hands on a clause, so that a test proves no
-//! more than it compares.
+//! What descriptions and their components are compared by. No helper hands on a clause, so that a
+//! test proves no more than it compares.
 use std::alloc::Global;
 use std::default::Default;
 use std::fmt::{Debug, Display};
@@ -74,7 +74,8 @@ where
     (appended, length, written)
 }
 
-/// Appends the text of an item, a description of one type that many tests have, and makes it once more.
+/// Appends the text of an item, a description of one type that many tests have, and makes it once
+/// more.
 pub(crate) fn append_item(
     rt: &impl Abort,
     alloc: Global,
@@ -155,7 +156,8 @@ pub(crate) fn assert_rows(rt: &impl Abort, alloc: Global, rows: Rows) {
     }
 }
 
-/// Compares the refusals of the value that has these numbers, after a byte and as a text. No byte is appended.
+/// Compares the refusals of the value that has these numbers, after a byte and as a text. No byte
+/// is appended.
 pub(crate) fn assert_refused<D: Formattable>(
     rt: &impl Abort,
     alloc: Global,
@@ -167,8 +169,8 @@ pub(crate) fn assert_refused<D: Formattable>(
     assert!(rt; is_so, "another refusal than {name}");
 }
 
-/// Formats the date with a fresh state after a byte, and compares the bytes before the refusal, and its
-/// name. The day is then appended with the same state.
+/// Formats the date with a fresh state after a byte, and compares the bytes before the refusal, and
+/// its name. The day is then appended with the same state.
 pub(crate) fn assert_refused_after(
     rt: &impl Abort,
     alloc: Global,

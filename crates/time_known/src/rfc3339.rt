@@ -7,7 +7,8 @@ ghost use Rattle.time_known.specs.Fields.{shown};
 ghost use Rattle.time_known.specs.Longest.{FillsRfc3339Width};
 ghost use Rattle.time_known.specs.ReadBack.{ReadsAs};
 ghost use Rattle.time_known.specs.Rfc3339.{rfc3339_outcome, rfc3339_text, rfc3339_width};
-ghost use Rattle.time_known.specs.Rfc3339.{full_time_text, full_time_width, second_text, second_width};
+ghost use Rattle.time_known.specs.Rfc3339.{full_time_text, full_time_width, second_text};
+ghost use Rattle.time_known.specs.Rfc3339.{second_width};
 ghost use Rattle.time_known.specs.Rfc3339.{time_secfrac_text, time_secfrac_width};
 ghost use Rattle.time_known.specs.Rfc3339Grammar.{Rfc3339Spells, IsCanonicalRfc3339};
 ghost use Rattle.time_known.specs.Sink.{PutsUpTo};
@@ -91,8 +92,8 @@ impl Text for Rfc3339Text {
     }
 }
 
-/// The text of a second up to its decimals, as `1985-04-12T23:20:50.`, by fields of which nothing is
-/// refused.
+/// The text of a second up to its decimals, as `1985-04-12T23:20:50.`, by fields of which nothing
+/// is refused.
 #[derive(Clone, Copy)]
 pub struct SecondText {
     /// The fields, of which the nanosecond and the offset are not shown.

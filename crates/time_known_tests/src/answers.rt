@@ -12,8 +12,8 @@ use std::io::{ErrorKind, Read, Write};
 use std::process::Abort;
 use time_answers::run::{ShowError, run, status};
 
-/// Runs over the source, and compares how the run ends and its status. What is proved of the run is not
-/// handed on, so that no test proves more than it compares.
+/// Runs over the source, and compares how the run ends and its status. What is proved of the run is
+/// not handed on, so that no test proves more than it compares.
 fn assert_ends<R: Read, W: Write>(
     rt: &impl Abort,
     alloc: Global,
@@ -84,8 +84,8 @@ impl Read for Source<'_> {
     }
 }
 
-/// Takes at most `step` bytes at a call, and notes how many. It fails at one call alone, or takes no byte
-/// there.
+/// Takes at most `step` bytes at a call, and notes how many. It fails at one call alone, or takes
+/// no byte there.
 #[derive(Drop)]
 struct Sink {
     bytes: Vec<u8>,

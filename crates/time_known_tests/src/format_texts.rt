@@ -40,7 +40,8 @@ pub(crate) fn assert_text<D: Formattable>(
     );
 }
 
-/// Compares the refusals of the value that has these numbers, after a byte and as a text. No byte is appended.
+/// Compares the refusals of the value that has these numbers, after a byte and as a text. No byte
+/// is appended.
 pub(crate) fn assert_refused<D: Formattable>(
     rt: &impl Abort,
     alloc: Global,

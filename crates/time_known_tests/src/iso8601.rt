@@ -122,8 +122,8 @@ fn assert_refused(rt: &impl Abort, alloc: Global, format: &Iso8601, value: Value
     }
 }
 
-/// Formats the value with a fresh state into an empty vector, by either decimal sign, and compares the
-/// bytes that stand before the refusal, and its name.
+/// Formats the value with a fresh state into an empty vector, by either decimal sign, and compares
+/// the bytes that stand before the refusal, and its name.
 fn assert_refused_after(
     rt: &impl Abort,
     alloc: Global,
@@ -143,7 +143,8 @@ fn assert_refused_after(
     }
 }
 
-/// Rows of a value, what it is formatted by in these parts, and its text or the name that is refused.
+/// Rows of a value, what it is formatted by in these parts, and its text or the name that is
+/// refused.
 macro_rules! rows {
     ($parts:ident: $($value:expr => { $($choice:ident: $chosen:expr),* } $text:literal,)+) => {
         &[$(($value, Choices { $($choice: $chosen,)* parts: Parts::$parts, ..DEFAULT }, $text)),+]
@@ -219,8 +220,8 @@ fn a_comma_stands_where_it_is_chosen(rt: HostRuntime) {
 /// The last nanosecond of the day.
 const END: Value = Time(23, 59, 59, 999_999_999);
 
-/// A time, its smallest whole unit, the text of the whole units, the first decimals, and one digit that all
-/// others are.
+/// A time, its smallest whole unit, the text of the whole units, the first decimals, and one digit
+/// that all others are.
 type Decimals = (Value, Unit, (&'static str, &'static str, u8));
 
 const DECIMALS: &[Decimals] = &[
@@ -454,7 +455,8 @@ where
     Ok((refusal_name(&date), refusal_name(&offset)))
 }
 
-/// Compares the three parts of the example, one after another, by a configuration that formats none.
+/// Compares the three parts of the example, one after another, by a configuration that formats
+/// none.
 fn assert_parts(rt: &impl Abort, alloc: Global, sign: DecimalSign, text: &str) {
     let nothing = with_parts(Parts::None).set_decimal_sign(sign);
     let mut output = Vec::new(alloc);

@@ -1,6 +1,7 @@
-//! The rows of `time_known`, `time_read`, `time_log` and `time_answers`, by public calls alone: texts, counts and
-//! refusals of the well-known formats, texts read back, times of log lines, and answers to lines. They stand in a
-//! library of their own, so that those crates are not proved once more beside their tests.
+//! The rows of `time_known`, `time_read`, `time_log` and `time_answers`, by public calls alone:
+//! texts, counts and refusals of the well-known formats, texts read back, times of log lines, and
+//! answers to lines. They stand in a library of their own, so that those crates are not proved once
+//! more beside their tests.
 #![tactic(auto)]
 
 #[cfg(test)]

@@ -99,7 +99,8 @@ const WHOLE: &[Value] = &[
     Value::Timestamp(0, 0),
 ];
 
-/// What has not all groups of the start of 1970, and of a moment whose year and offset are out of range.
+/// What has not all groups of the start of 1970, and of a moment whose year and offset are out of
+/// range.
 const PARTS: Rows = &[
     (Value::Date(1970, 1, 1), "insufficient"),
     (Value::Time(0, 0, 0, 0), "insufficient"),
@@ -110,8 +111,8 @@ const PARTS: Rows = &[
     (Value::Local((10_000, 1, 1), MIDNIGHT), "insufficient"),
 ];
 
-/// Compares the text of each type of value that has all groups, and the refusal of each other type: a missing
-/// group is refused before what is out of range.
+/// Compares the text of each type of value that has all groups, and the refusal of each other type:
+/// a missing group is refused before what is out of range.
 fn assert_each_type<D: Formattable>(
     rt: &impl Abort,
     alloc: Global,

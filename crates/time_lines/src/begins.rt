@@ -10,7 +10,8 @@ struct Mark {
     byte: u8,
 }
 
-/// Which bytes texts of a plan may begin with, and a byte that they have behind what they show first.
+/// Which bytes texts of a plan may begin with, and a byte that they have behind what they show
+/// first.
 #[derive(Drop)]
 pub(crate) struct Begins {
     first: [bool; 256],
@@ -63,8 +64,8 @@ fn width_by(padding: Padding, digits: usize) -> Option<usize> {
     }
 }
 
-/// What a text begins with that shows this component first, and how many bytes that has where it has no sign, if this
-/// is certain.
+/// What a text begins with that shows this component first, and how many bytes that has where it
+/// has no sign, if this is certain.
 fn begin_of(component: Component) -> (First, Option<usize>) {
     let (padding, digits) = match component {
         Component::MonthShort(_) | Component::WeekdayShort(_) => return (First::Letters, Some(3)),

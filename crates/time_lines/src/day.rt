@@ -1,6 +1,8 @@
 //! Texts of RFC 3339 at the clock of a place, by the cached text of a day.
-ghost use Rattle.std.specs.Prelude.{◌≡◌, ◌+◌, ◌<◌, ◌≤◌, ◌++◌, ◌-ℤ◌, ◌≤ℤ◌, ◌<ℤ◌, IfOk, true, false, length, pos, unsigned_abs};
-ghost use Rattle.time_below.specs.Moment.{IsMoment, IsNearTimestampSecond, IsTimestampSecond, moved, utc_date};
+ghost use Rattle.std.specs.Prelude.{◌≡◌, ◌+◌, ◌<◌, ◌≤◌, ◌++◌, ◌-ℤ◌, ◌≤ℤ◌, ◌<ℤ◌, IfOk, true, false};
+ghost use Rattle.std.specs.Prelude.{length, pos, unsigned_abs};
+ghost use Rattle.time_below.specs.Moment.{IsMoment, IsNearTimestampSecond, IsTimestampSecond};
+ghost use Rattle.time_below.specs.Moment.{moved, utc_date};
 ghost use Rattle.time_below.specs.Offset.{IsOffset, Offset};
 ghost use Rattle.time_below.specs.TimeOfDay.{time_at};
 ghost use Rattle.time_fmt.specs.Room.{HasRoom};
@@ -25,8 +27,9 @@ const LENGTH: usize = 11;
 /// The most bytes of a text of RFC 3339.
 const WIDTH: usize = 35;
 
-/// The texts of RFC 3339 by the clock of a place. The text of the last day is cached, so that another moment
-/// of that day costs a copy of it, a time of day and an offset. What is cached changes no byte of any text.
+/// The texts of RFC 3339 by the clock of a place. The text of the last day is cached, so that
+/// another moment of that day costs a copy of it, a time of day and an offset. What is cached
+/// changes no byte of any text.
 #[derive(Drop)]
 pub struct Rfc3339InPlace<P: Place + Drop> {
     pub place: P,
@@ -69,8 +72,8 @@ struct DayText {
 }
 
 impl DayText {
-    /// Appends the text of the moment at the offset, or nothing where it has none, and says whether it has
-    /// one.
+    /// Appends the text of the moment at the offset, or nothing where it has none, and says whether
+    /// it has one.
     #[inline(always)]
     fn append(
         &mut self,

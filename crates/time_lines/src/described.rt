@@ -2,7 +2,8 @@
 ghost use Rattle.std.specs.Prelude.{◌≡◌, Option, IfSome, false, get_or};
 ghost use Rattle.std.specs.Char.{is_ascii_digit};
 ghost use Rattle.time_below.specs.Moment.{DateAndTime, Moment, in_utc, local_moment};
-ghost use Rattle.time_lines.specs.Described.{IsFront, ReadsForm, ReadsOneOf, is_cut, plan_of, written};
+ghost use Rattle.time_lines.specs.Described.{IsFront, ReadsForm, ReadsOneOf, is_cut, plan_of};
+ghost use Rattle.time_lines.specs.Described.{written};
 ghost use Rattle.time_lines.specs.Read.{IsMomentIfReal};
 
 use crate::begins::Begins;

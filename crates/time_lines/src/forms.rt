@@ -106,8 +106,8 @@ impl Shows {
     }
 }
 
-/// Whether texts of the plan determine a time of day: where they do, they have a reader of times, unless it is
-/// refused because they show more.
+/// Whether texts of the plan determine a time of day: where they do, they have a reader of times,
+/// unless it is refused because they show more.
 fn has_time(plan: &Plan) -> bool {
     !matches!(plan.reader::<Time>(), Err(NoReader::Undetermined))
 }
@@ -173,7 +173,8 @@ fn without_offset<'a>(plan: &'a Plan, base: Date) -> Result<Form<'a>, NoForm>
 }
 
 impl<'a> Form<'a> {
-    /// The form of a plan. Where texts show only a part of the year, the other part is that of the date.
+    /// The form of a plan. Where texts show only a part of the year, the other part is that of the
+    /// date.
     pub fn of(plan: &'a Plan, base: Date) -> Result<Form<'a>, NoForm>
         ensures { IfOk result (λ form. plan_of form ≡ plan.now) }
     {

@@ -1,10 +1,12 @@
 //! Where values of JSON stand in a line.
-ghost use Rattle.std.specs.Prelude.{◌≡◌, ◌≤◌, ◌==◌, ◌%◌, length, take, count_by, false, not, ◌&&◌, if◌then◌else◌};
+ghost use Rattle.std.specs.Prelude.{◌≡◌, ◌≤◌, ◌==◌, ◌%◌, length, take, count_by, false, not, ◌&&◌};
+ghost use Rattle.std.specs.Prelude.{if◌then◌else◌};
 ghost use Rattle.time_lines.specs.Json.{ends_in_string, has_exponent, is_value_at, quotes_if};
 
 use crate::runs::{LANES, count_in_lanes};
 
-/// Whether the next position is inside of a string of JSON, which a quote begins and ends unless it is escaped.
+/// Whether the next position is inside of a string of JSON, which a quote begins and ends unless it
+/// is escaped.
 #[inline(always)]
 fn inside_after(inside: bool, escaped: bool, byte: u8) -> bool
     ensures { result ≡ (if (byte == 34) && not escaped then not inside else inside) }
@@ -24,7 +26,8 @@ fn escaped_after(inside: bool, escaped: bool, byte: u8) -> bool
     inside && (byte == b'\\' && !escaped)
 }
 
-/// Whether the text ends inside of a string of JSON, byte by byte, where it begins inside of one or not.
+/// Whether the text ends inside of a string of JSON, byte by byte, where it begins inside of one or
+/// not.
 fn ends_in_string_after(begins_inside: bool, text: &[u8]) -> bool
     ensures { result ≡ ends_in_string begins_inside false text.now }
 {
@@ -53,7 +56,8 @@ fn inside_after_lanes(inside: bool, text: &[u8]) -> bool
     }
 }
 
-/// Whether the text ends inside of a string of JSON. Sixteen bytes without a backslash are looked at together.
+/// Whether the text ends inside of a string of JSON. Sixteen bytes without a backslash are looked
+/// at together.
 fn ends_in_string(text: &[u8]) -> bool
     ensures { result ≡ ends_in_string false false text.now }
 {

@@ -1,4 +1,5 @@
-//! Laws of the units of Unix time and of lines that passed: the contract of each function is the law, and its body does nothing.
+//! Laws of the units of Unix time and of lines that passed: the contract of each function is the
+//! law, and its body does nothing.
 ghost use Rattle.std.specs.Prelude.{◌≡◌, ◌↔◌, IsTrue};
 ghost use Rattle.time_below.specs.Clones.{AreSame};
 

@@ -9,8 +9,8 @@ use std::alloc::AllocError;
 use std::time::Clock;
 use time_below::Timestamp;
 
-/// Puts before each line what is shown of the moment at which it was read, and a space unless that is empty or
-/// ends with one. The clock is asked once for all lines that one read has ended.
+/// Puts before each line what is shown of the moment at which it was read, and a space unless that
+/// is empty or ends with one. The clock is asked once for all lines that one read has ended.
 #[derive(Drop)]
 pub struct NowJob<'a, C: Clock, S: Shown + Drop> {
     pub clock: &'a C,

@@ -1,9 +1,13 @@
 //! The numbers of a line that are times, and the moments that they name.
-ghost use Rattle.std.specs.Prelude.{ℕ, ◌≡◌, ◌≤◌, ◌<◌, ◌-◌, ◌*◌, ◌^◌, pos, true, false, Some, None, length, drop, IfSome, IfNone, MatchOption};
+ghost use Rattle.std.specs.Prelude.{ℕ, ◌≡◌, ◌≤◌, ◌<◌, ◌-◌, ◌*◌, ◌^◌, pos, true, false, Some, None};
+ghost use Rattle.std.specs.Prelude.{length, drop, IfSome, IfNone, MatchOption};
 ghost use Rattle.std.specs.Char.{is_ascii_digit};
 ghost use Rattle.std.specs.List.{list_all};
 ghost use Rattle.std.specs.Str.Parse.{digits_value};
-ghost use Rattle.time_lines.specs.Number.{begins, decimals_length, decimals_of, decimals_value, digit_count, digits_of, first_place, goes_on, has_minus, is_digit_at, is_time, moment_after, number_start, unit_by_digits, unit_for, unit_of, with_sign};
+ghost use Rattle.time_lines.specs.Number.{begins, decimals_length, decimals_of, decimals_value};
+ghost use Rattle.time_lines.specs.Number.{digit_count, digits_of, first_place, goes_on, has_minus};
+ghost use Rattle.time_lines.specs.Number.{is_digit_at, is_time, moment_after, number_start};
+ghost use Rattle.time_lines.specs.Number.{unit_by_digits, unit_for, unit_of, with_sign};
 ghost use Rattle.time_below.specs.Moment.{IsMoment};
 
 use crate::runs::{LANES, digit_count, others_in_lanes};
@@ -22,9 +26,9 @@ pub enum Unit {
 /// Which numbers of a line are times, and how they are replaced.
 #[derive(Clone, Copy)]
 pub struct Numbers {
-    /// The unit of all numbers. Where none is given, each has the unit by its digits before the point: 9 or 10
-    /// are seconds, 12 or 13 milliseconds, 15 or 16 microseconds and 18 or 19 nanoseconds, and a number of
-    /// another length is no time.
+    /// The unit of all numbers. Where none is given, each has the unit by its digits before the
+    /// point: 9 or 10 are seconds, 12 or 13 milliseconds, 15 or 16 microseconds and 18 or 19
+    /// nanoseconds, and a number of another length is no time.
     pub unit: Option<Unit>,
     /// How many digits a number has at least.
     pub least: usize,
@@ -52,7 +56,8 @@ fn unit_by_digits(count: usize) -> Option<Unit>
     }
 }
 
-/// The unit of a number of so many digits: the one that is asked for, and else the one by its digits.
+/// The unit of a number of so many digits: the one that is asked for, and else the one by its
+/// digits.
 #[inline(always)]
 fn unit_of(asked: Option<Unit>, count: usize) -> Option<Unit>
     ensures { result ≡ unit_of asked count }
@@ -92,7 +97,8 @@ fn goes_on(line: &[u8], at: usize) -> bool
         || at >= 2 && line[at - 1] == b'.' && line[at - 2].is_ascii_digit()
 }
 
-/// The first position from this one on where a digit stands, or where fewer than sixteen bytes are left.
+/// The first position from this one on where a digit stands, or where fewer than sixteen bytes are
+/// left.
 #[inline(always)]
 fn past_blocks(line: &[u8], from: usize) -> usize
     requires { from ≤ length line.now }
@@ -253,8 +259,8 @@ fn sum_of(digits: &[u8]) -> u64
     value
 }
 
-/// The same. The compiler unrolls the loops for ten digits, as of the seconds from 2001 to 2286, and three,
-/// as of their milliseconds.
+/// The same. The compiler unrolls the loops for ten digits, as of the seconds from 2001 to 2286,
+/// and three, as of their milliseconds.
 #[inline(always)]
 fn value_of(digits: &[u8]) -> u64
     requires count { length digits.now ≤ 19 }
@@ -365,7 +371,8 @@ fn signed_moment(is_negative: bool, seconds: u64, nanosecond: u32) -> Option<Tim
     }
 }
 
-/// The moment that a number of these digits and decimals names, by the unit that is asked for or by its digits.
+/// The moment that a number of these digits and decimals names, by the unit that is asked for or by
+/// its digits.
 #[inline(always)]
 pub(crate) fn moment_of(
     asked: Option<Unit>,

@@ -11,8 +11,8 @@ pub enum Why {
     NoTime,
     /// It has numbers, and their digits are those of no unit.
     NoUnit,
-    /// Its time is no moment of the years -999,999 to 999,999: its year is outside, it has more than 19 digits, or it is
-    /// a value of JSON with an exponent.
+    /// Its time is no moment of the years -999,999 to 999,999: its year is outside, it has more
+    /// than 19 digits, or it is a value of JSON with an exponent.
     NoMoment,
     /// The description has no text for its moment.
     NoText,

@@ -1,7 +1,9 @@
 //! Texts in lines, read and replaced by what is shown of their moments.
 ghost use Rattle.std.specs.Prelude.{◌≡◌, ◌+◌, ◌≤◌, length, take, drop, IfSome, IfNone, OnOk};
 ghost use Rattle.line_streams.specs.Filter.{Adds};
-ghost use Rattle.time_lines.specs.Read.{IsFirstText, NoText, NothingBefore, ReadBecomes, ReadsRfc3339, SameReads, offset_length, tail_length, text_length};
+ghost use Rattle.time_lines.specs.Read.{IsFirstText, NoText, NothingBefore, ReadBecomes};
+ghost use Rattle.time_lines.specs.Read.{ReadsRfc3339, SameReads, offset_length, tail_length};
+ghost use Rattle.time_lines.specs.Read.{text_length};
 ghost use Rattle.time_lines.specs.Shown.{IsReplaced, SameShown};
 ghost use Rattle.time_read.specs.Lenient.{Rfc3339Means};
 
@@ -15,9 +17,9 @@ use std::alloc::AllocError;
 use time_below::OffsetDateTime;
 use time_read::LenientReader;
 
-/// Replaces the first text of each line that a reader reads by what is shown of its moment. A `LenientReader` of
-/// `time_read` reads those of RFC 3339, and `Described` those of descriptions. A line without one passes as it is,
-/// and is counted; so does one of whose moment nothing is shown.
+/// Replaces the first text of each line that a reader reads by what is shown of its moment. A
+/// `LenientReader` of `time_read` reads those of RFC 3339, and `Described` those of descriptions. A
+/// line without one passes as it is, and is counted; so does one of whose moment nothing is shown.
 #[derive(Drop)]
 pub struct ReadJob<S: Shown + Drop, R: Reads + Drop> {
     pub shown: S,
@@ -52,7 +54,8 @@ fn tail_length(text: &[u8]) -> usize
     }
 }
 
-/// The text of RFC 3339 that this text begins with, if it does: how many bytes it has, and its value.
+/// The text of RFC 3339 that this text begins with, if it does: how many bytes it has, and its
+/// value.
 #[inline(always)]
 fn text_here(reader: &mut LenientReader, text: &[u8]) -> Option<(usize, OffsetDateTime)>
     ensures inside { IfSome result (λ r. r.0 ≤ length text.now) }
@@ -110,8 +113,8 @@ fn first_text<R: Reads>(reader: &mut R, line: &[u8]) -> Option<FoundText>
     None
 }
 
-/// Appends the line with what is shown of the moment of a text of it in place of the text. Says whether a
-/// text took its place.
+/// Appends the line with what is shown of the moment of a text of it in place of the text. Says
+/// whether a text took its place.
 #[inline(always)]
 fn append_found<S: Shown>(
     shown: &mut S,

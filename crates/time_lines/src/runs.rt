@@ -1,5 +1,6 @@
 //! Runs of digits in a text, found by sixteen bytes at a time.
-ghost use Rattle.std.specs.Prelude.{◌≡◌, ◌+◌, ◌≤◌, ◌==◌, not, length, take, drop, count_by, if◌then◌else◌};
+ghost use Rattle.std.specs.Prelude.{◌≡◌, ◌+◌, ◌≤◌, ◌==◌, not, length, take, drop, count_by};
+ghost use Rattle.std.specs.Prelude.{if◌then◌else◌};
 ghost use Rattle.std.specs.Char.{is_ascii_digit};
 ghost use Rattle.std.specs.Int.{w64, trailing_zeros};
 ghost use Rattle.std.specs.List.{prefix_len};
@@ -54,7 +55,8 @@ fn digits_in_lanes(text: &[u8]) -> usize
     first_set(values.simd_ge(u8x16::splat(10)).to_bitmask())
 }
 
-/// How many digits the text begins with, found byte by byte after the first ones, which are so many.
+/// How many digits the text begins with, found byte by byte after the first ones, which are so
+/// many.
 #[inline(always)]
 fn digits_after(text: &[u8], first: usize) -> usize
     requires { first ≤ digit_count text.now }

@@ -50,7 +50,8 @@ impl Place for Utc {
     }
 }
 
-/// Appends the text of a value, or nothing where the description refuses it, and says whether it has one.
+/// Appends the text of a value, or nothing where the description refuses it, and says whether it
+/// has one.
 #[inline(always)]
 pub(crate) fn append_text<F: Formattable, V: ComponentProvider>(
     description: &F,

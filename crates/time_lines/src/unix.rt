@@ -1,14 +1,17 @@
 //! Unix time in lines, replaced by its text.
-ghost use Rattle.std.specs.Prelude.{◌≡◌, ◌≤◌, ◌+◌, ◌-◌, ◌++◌, ◌&&◌, true, false, length, drop, Some, IfNone, IfOk, IfSome, OnOk, if◌then◌else◌};
+ghost use Rattle.std.specs.Prelude.{◌≡◌, ◌≤◌, ◌+◌, ◌-◌, ◌++◌, ◌&&◌, true, false, length, drop};
+ghost use Rattle.std.specs.Prelude.{Some, IfNone, IfOk, IfSome, OnOk, if◌then◌else◌};
 ghost use Rattle.line_streams.specs.Filter.{Adds};
 ghost use Rattle.std.specs.Char.{is_ascii_digit};
 ghost use Rattle.std.specs.List.{list_all};
 ghost use Rattle.std.specs.Str.Parse.{digits_value};
 ghost use Rattle.time_below.specs.Moment.{IsMoment};
 ghost use Rattle.time_lines.specs.Json.{has_exponent};
-ghost use Rattle.time_lines.specs.Number.{digit_count, moment_after, number_at, unit_for, with_sign};
+ghost use Rattle.time_lines.specs.Number.{digit_count, moment_after, number_at, unit_for};
+ghost use Rattle.time_lines.specs.Number.{with_sign};
 ghost use Rattle.time_lines.specs.Shown.{IsReplaced, SameShown};
-ghost use Rattle.time_lines.specs.Unix.{FromBecomes, HasText, LooksFrom, PieceBecomes, RestBecomes, UnixBecomes, between, is_quoted, moment_of_time};
+ghost use Rattle.time_lines.specs.Unix.{FromBecomes, HasText, LooksFrom, PieceBecomes, RestBecomes};
+ghost use Rattle.time_lines.specs.Unix.{UnixBecomes, between, is_quoted, moment_of_time};
 
 use crate::json::{has_exponent, is_value_at, quotes_if};
 use crate::number::{
@@ -21,8 +24,9 @@ use memchr::memmem::Finder;
 use std::alloc::AllocError;
 use time_below::Timestamp;
 
-/// Replaces the first time of each line, or each one, which is Unix time, by what is shown of its moment. A
-/// line without one passes as it is, and is counted; so does one of whose times nothing is shown.
+/// Replaces the first time of each line, or each one, which is Unix time, by what is shown of its
+/// moment. A line without one passes as it is, and is counted; so does one of whose times nothing
+/// is shown.
 #[derive(Drop)]
 pub struct UnixJob<'a, S: Shown + Drop> {
     pub shown: S,
@@ -52,9 +56,9 @@ fn first_place(is_negative: bool, start: usize) -> usize
     if is_negative { start - 1 } else { start }
 }
 
-/// Appends some bytes, what is shown of the moment with the marks on both sides, and what follows it. Where there
-/// is no moment, or nothing is shown of it, its own text is appended in place of these. Says whether a text
-/// took that place.
+/// Appends some bytes, what is shown of the moment with the marks on both sides, and what follows
+/// it. Where there is no moment, or nothing is shown of it, its own text is appended in place of
+/// these. Says whether a text took that place.
 #[inline(always)]
 pub(crate) fn append_replaced<S: Shown>(
     shown: &mut S,
@@ -181,7 +185,8 @@ fn found_number(numbers: &Numbers, line: &[u8], start: usize, count: usize) -> F
     }
 }
 
-/// The same. Most numbers begin their lines and have ten digits, and the copy for these alone is the shorter one.
+/// The same. Most numbers begin their lines and have ten digits, and the copy for these alone is
+/// the shorter one.
 #[inline(always)]
 fn number_found(numbers: &Numbers, line: &[u8], start: usize, count: usize) -> FoundNumber
     requires inside { start ≤ length line.now }
@@ -212,8 +217,8 @@ fn between(line: &[u8], at: usize, to: usize) -> &[u8]
     if at <= to { &line[at..to] } else { &[] }
 }
 
-/// Appends what becomes of a line from a position to the end of its number, which has so many digits from a
-/// second position on.
+/// Appends what becomes of a line from a position to the end of its number, which has so many
+/// digits from a second position on.
 #[inline(always)]
 fn append_piece<S: Shown>(
     shown: &mut S,
@@ -258,8 +263,8 @@ fn why_stays(has_moment: bool, is_shown: bool) -> Option<Why> {
     }
 }
 
-/// Appends what becomes of a line from a position on, where at most so many numbers are replaced. Says whether
-/// a text took the place of one.
+/// Appends what becomes of a line from a position on, where at most so many numbers are replaced.
+/// Says whether a text took the place of one.
 #[inline(never)]
 fn append_rest<S: Shown>(
     shown: &mut S,
@@ -290,8 +295,9 @@ fn append_rest<S: Shown>(
     Ok(is_any_shown)
 }
 
-/// Appends what becomes of a line after its first number, which came out so: what follows it, or what becomes of
-/// that where each number is replaced. Says why the line passed as it was, if it did.
+/// Appends what becomes of a line after its first number, which came out so: what follows it, or
+/// what becomes of that where each number is replaced. Says why the line passed as it was, if it
+/// did.
 #[inline(always)]
 fn append_behind<S: Shown>(
     shown: &mut S,
@@ -354,7 +360,8 @@ fn append_timeless(
     Ok(())
 }
 
-/// Appends what a line becomes whose times are looked for from this position on, and counts a line that passed.
+/// Appends what a line becomes whose times are looked for from this position on, and counts a line
+/// that passed.
 #[inline(always)]
 fn append_from<S: Shown>(
     shown: &mut S,
@@ -379,7 +386,8 @@ fn append_from<S: Shown>(
     Ok(())
 }
 
-/// From which position on times of the line are looked for, if the text after which they stand is in it.
+/// From which position on times of the line are looked for, if the text after which they stand is
+/// in it.
 #[inline(always)]
 fn from_place(after: &Option<Finder<'_>>, line: &[u8]) -> Option<usize>
     ensures from { LooksFrom after.now line.now result }
@@ -415,8 +423,8 @@ fn append_asked<S: Shown>(
     append_from(shown, numbers, passed, output, line, from)
 }
 
-/// The same where the first time of each line is replaced, and no JSON is read. The compiler drops from the copy of
-/// the numbers what else may be asked for, as long as no call is handed it.
+/// The same where the first time of each line is replaced, and no JSON is read. The compiler drops
+/// from the copy of the numbers what else may be asked for, as long as no call is handed it.
 #[inline(always)]
 fn append_usual<S: Shown>(
     shown: &mut S,

@@ -1,7 +1,8 @@
 //! Moments of dates of which the year is not known.
 ghost use Rattle.std.specs.Prelude.{◌≡◌, ◌<◌, IfNone, IfSome};
 ghost use Rattle.time_lines.specs.declared.until.Years.TheVariants.{Latest};
-ghost use Rattle.time_lines.specs.Described.{HasDay, HasYearlessMoment, IsPastIn, IsUntilDayAfter, NoPastIn, in_year, tried_year};
+ghost use Rattle.time_lines.specs.Described.{HasDay, HasYearlessMoment, IsPastIn, IsUntilDayAfter};
+ghost use Rattle.time_lines.specs.Described.{NoPastIn, in_year, tried_year};
 
 use crate::described::Zone;
 use crate::until::{Until, Years};
@@ -45,8 +46,8 @@ fn tried_year(until: &Until, back: u8) -> i32
     until.year + 1 - back as i32
 }
 
-/// The moment of the date and time in the year that is tried after so many others, if it has one that is not later than
-/// the second.
+/// The moment of the date and time in the year that is tried after so many others, if it has one
+/// that is not later than the second.
 fn past_moment<Z: Zone>(
     zone: &Z,
     local: PlainDateTime,

@@ -1,4 +1,5 @@
-//! Tests of the crates whose work is lines, by public calls: of `line_streams`, `time_lines` and `log_time`.
+//! Tests of the crates whose work is lines, by public calls: of `line_streams`, `time_lines` and
+//! `log_time`.
 #![tactic(auto)]
 
 #[cfg(test)]

@@ -175,7 +175,8 @@ fn units_and_digits_are_as_asked_for(rt: HostRuntime) {
     }
 }
 
-/// Lines whose numbers have their unit by their digits, of which ten are wanted, and what they become.
+/// Lines whose numbers have their unit by their digits, of which ten are wanted, and what they
+/// become.
 const BY_DIGITS: &[(&[u8], &[u8])] = &[
     (b"1700000000\n", b"2023-11-14T22:13:20Z\n"),
     (b"1700000000123\n", b"2023-11-14T22:13:20.123Z\n"),

@@ -24,7 +24,8 @@ fn moment(rt: &impl Abort, seconds: i64) -> Timestamp {
     }
 }
 
-/// What a line becomes by a description, whose texts without a year are of these years, and why it stays.
+/// What a line becomes by a description, whose texts without a year are of these years, and why it
+/// stays.
 fn assert_read(
     rt: &impl Abort,
     alloc: Global,

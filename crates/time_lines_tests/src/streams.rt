@@ -90,8 +90,8 @@ impl Exchange for Memory<'_> {
     }
 }
 
-/// Three lines, of which the second has a NUL byte and one that is no text, and a last one without a line
-/// feed.
+/// Three lines, of which the second has a NUL byte and one that is no text, and a last one without
+/// a line feed.
 const TEXT: &[u8] = b"one\n\0\xFF\n\nlast";
 
 const QUOTED: &[u8] = b">one\n>\0\xFF\n>\n>last";

@@ -1,7 +1,7 @@
 //! The program makes texts and descriptions, drops them, and prints what came of each call. Under
-//! `rt try --fail-alloc N` its Nth allocation fails. A call whose allocation fails leaves output and
-//! state unchanged, and the same call then gives the right text. What runs it counts the blocks of
-//! memory that were not given back by its end, of which no clause speaks.
+//! `rt try --fail-alloc N` its Nth allocation fails. A call whose allocation fails leaves output
+//! and state unchanged, and the same call then gives the right text. What runs it counts the blocks
+//! of memory that were not given back by its end, of which no clause speaks.
 #![tactic(auto)]
 
 mod calls;

@@ -1,6 +1,7 @@
 //! Texts of components in their usual form, compared.
 ghost use Rattle.std.specs.Prelude.{◌≡◌, IsTrue};
-ghost use Rattle.time_plan_read.specs.Lenient.{bare, bare_behind_sign, usual, without_first, without_last_zeros};
+ghost use Rattle.time_plan_read.specs.Lenient.{bare, bare_behind_sign, usual, without_first};
+ghost use Rattle.time_plan_read.specs.Lenient.{without_last_zeros};
 
 use crate::names::after;
 use time_below::format_description::Component;

@@ -35,7 +35,8 @@ pub trait ReadStep {
     /// The tree of a step whose literals lie in these bytes.
     ghost tree_of: { List ℕ → Self → Tree };
 
-    /// What it shows, where that is told of a date or a time of day: nothing is told of a component.
+    /// What it shows, where that is told of a date or a time of day: nothing is told of a
+    /// component.
     ghost shown_of: { List ℕ → Self → Shown } = { λ _ _. untold };
 
     /// What the step shows, and the literal after it, which may lie in these bytes.

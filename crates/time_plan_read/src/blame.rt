@@ -10,8 +10,8 @@ use crate::steps::checked_step;
 use std::default::Default;
 use time_plan::Shown;
 
-/// The fault of a text whose numbers no value has: the first number that is out of its own range, or the one that
-/// picks no date of its year.
+/// The fault of a text whose numbers no value has: the first number that is out of its own range,
+/// or the one that picks no date of its year.
 #[cold]
 #[inline(never)]
 pub(crate) fn no_value<T: ReadStep>(
@@ -78,7 +78,8 @@ pub(crate) fn blamed(fields: &Fields, shown: Kinds) -> Kinds {
     }
 }
 
-/// The kinds of numbers that pick no date of a year, or no moment, in the order in which they are blamed.
+/// The kinds of numbers that pick no date of a year, or no moment, in the order in which they are
+/// blamed.
 const OF_DATES: [Kinds; 14] = [
     Kinds::DAY,
     Kinds::ORDINAL,

@@ -58,8 +58,8 @@ where
     }
 }
 
-/// Writes the text of a value to the start of a buffer, and returns the number of its bytes, or nothing if
-/// the value is refused.
+/// Writes the text of a value to the start of a buffer, and returns the number of its bytes, or
+/// nothing if the value is refused.
 fn written<B: Before, V: ComponentProvider>(
     steps: &[Step],
     room: &mut [u8],
@@ -140,8 +140,8 @@ fn behind_step<'a, T: ReadStep, V: ComponentProvider>(
     after_literal(rest, literal)
 }
 
-/// Writes what a step shows to the start of a buffer, and returns the number of its bytes, or nothing if the value is
-/// refused.
+/// Writes what a step shows to the start of a buffer, and returns the number of its bytes, or
+/// nothing if the value is refused.
 pub(crate) fn shown_in_room<B: Before, V: ComponentProvider>(
     shown: &Shown,
     room: &mut [u8],

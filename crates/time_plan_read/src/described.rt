@@ -1,5 +1,6 @@
 //! Descriptions by their steps.
-ghost use Rattle.std.specs.Prelude.{◌≡◌, ◌∷◌, ◌++◌, ℕ, true, IfNone, IsNone, IsSomeAnd, List, [], map};
+ghost use Rattle.std.specs.Prelude.{◌≡◌, ◌∷◌, ◌++◌, ℕ, true, IfNone, IsNone, IsSomeAnd, List, []};
+ghost use Rattle.std.specs.Prelude.{map};
 ghost use Rattle.time_below.specs.Facts.{Facts};
 ghost use Rattle.time_below.specs.Tree.{trees};
 ghost use Rattle.time_fmt.specs.Description.{trees_outcome};

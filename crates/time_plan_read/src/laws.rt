@@ -1,4 +1,5 @@
-//! Laws of errors and of what was read: the contract of each function is the law, and its body does nothing.
+//! Laws of errors and of what was read: the contract of each function is the law, and its body does
+//! nothing.
 ghost use Rattle.std.specs.Prelude.{◌≡◌, ◌↔◌, IsTrue};
 ghost use Rattle.time_below.specs.Clones.{AreSame};
 

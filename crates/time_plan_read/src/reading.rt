@@ -1,5 +1,6 @@
 //! Reading the texts of a description.
-ghost use Rattle.std.specs.Prelude.{◌≡◌, ◌≤◌, ◌++◌, true, [], IfErr, IfOk, IfSome, IsOk, IsSome, IsSomeAnd, IsTrue, length};
+ghost use Rattle.std.specs.Prelude.{◌≡◌, ◌≤◌, ◌++◌, true, [], IfErr, IfOk, IfSome, IsOk, IsSome};
+ghost use Rattle.std.specs.Prelude.{IsSomeAnd, IsTrue, length};
 ghost use Rattle.time_fmt.specs.Outcome.{done};
 ghost use Rattle.time_plan_read.specs.DatesAndTimes.{AreDatesAndTimes, HasFourDigits, are_runs};
 ghost use Rattle.time_plan_read.specs.Front.{BeginsWith};

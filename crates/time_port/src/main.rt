@@ -1,5 +1,6 @@
-//! Calls of the documentation of `time` 0.3.55 that format, as they stand there but for the allocator, the bytes
-//! of descriptions, and a `match` in place of a panic. The program prints each text.
+//! Calls of the documentation of `time` 0.3.55 that format, as they stand there but for the
+//! allocator, the bytes of descriptions, and a `match` in place of a panic. The program prints each
+//! text.
 #![tactic(auto)]
 
 use std::alloc::Global;

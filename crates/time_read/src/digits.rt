@@ -1,5 +1,6 @@
 //! Bytes and digits at the front of a text.
-ghost use Rattle.std.specs.Prelude.{◌≡◌, ◌≢◌, ℕ, List, IfSome, IfNone, ◌+◌, ◌-◌, ◌*◌, ◌/◌, ◌<◌, ◌≤◌, ◌∷◌, ◌↔◌, IfOk, IfErr, IsTrue, min};
+ghost use Rattle.std.specs.Prelude.{◌≡◌, ◌≢◌, ℕ, List, IfSome, IfNone, ◌+◌, ◌-◌, ◌*◌, ◌/◌, ◌<◌};
+ghost use Rattle.std.specs.Prelude.{◌≤◌, ◌∷◌, ◌↔◌, IfOk, IfErr, IsTrue, min};
 ghost use Rattle.time_known.specs.Rules.{Digits};
 ghost use Rattle.time_read.specs.Fault.{IsLetter, SpellsSome};
 ghost use Rattle.time_read.specs.Front.{Front, FieldFault, NoFront};
@@ -220,8 +221,8 @@ fn two_after(text: &[u8], before: u8, least: u8, greatest: u8) -> Option<(u8, &[
     Some((number, rest))
 }
 
-// The fault of a text that does not begin with this byte and two digits of such a number, by a call as
-// above.
+// The fault of a text that does not begin with this byte and two digits of such a number, by a call
+// as above.
 #[cold]
 #[inline(never)]
 fn pair_after_fault(text: &[u8], before: u8, least: u8, greatest: u8) -> Fault

@@ -30,7 +30,8 @@ pub enum Expected {
     Byte(u8),
     /// This capital letter, or its small form where the profile is lenient.
     Letter(u8, Profile),
-    /// What begins an offset: `+`, `-` or the letter `Z`, or its small form where the profile is lenient.
+    /// What begins an offset: `+`, `-` or the letter `Z`, or its small form where the profile is
+    /// lenient.
     Offset(Profile),
     /// A point, or what begins an offset.
     PointOrOffset(Profile),

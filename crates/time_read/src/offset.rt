@@ -4,7 +4,8 @@ ghost use Rattle.time_below.specs.Offset.{signed_offset};
 ghost use Rattle.time_read.specs.Fault.{IsLetter, SpellsSome};
 ghost use Rattle.time_read.specs.Front.{Front, FieldFault, TextFault};
 ghost use Rattle.time_read.specs.Profiles.{EndOffset, RestOfOffset};
-ghost use Rattle.time_read.specs.Shapes.{HoursAndMinutes, IsTrailing, is_some, least_minute, sign_byte};
+ghost use Rattle.time_read.specs.Shapes.{HoursAndMinutes, IsTrailing, is_some, least_minute};
+ghost use Rattle.time_read.specs.Shapes.{sign_byte};
 
 use crate::digits::{pair, pair_after};
 use crate::fault::{Expected, Fault, Profile};

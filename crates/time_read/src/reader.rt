@@ -1,5 +1,6 @@
 //! A reader of many texts, which caches the last date.
-ghost use Rattle.std.specs.Prelude.{◌≡◌, ◌≤◌, ◌↔◌, IfOk, IfErr, IfSome, IsTrue, true, drop, length, take};
+ghost use Rattle.std.specs.Prelude.{◌≡◌, ◌≤◌, ◌↔◌, IfOk, IfErr, IfSome, IsTrue, true, drop, length};
+ghost use Rattle.std.specs.Prelude.{take};
 ghost use Rattle.std.specs.Int.{from_le_bytes, to_le_bytes, w64};
 ghost use Rattle.time_below.specs.Moment.{OffsetDateAndTime};
 ghost use Rattle.time_known.specs.Rfc3339Grammar.{Rfc3339Spells};
@@ -89,7 +90,8 @@ fn word(bytes: &[u8]) -> u64
     u64::from_le_bytes(eight)
 }
 
-// Whether a text begins with these bytes, by two words that overlap: a comparison of slices is a call.
+// Whether a text begins with these bytes, by two words that overlap: a comparison of slices is a
+// call.
 #[inline(always)]
 fn begins_with(text: &[u8], bytes: &[u8; LENGTH]) -> bool
     requires text { LENGTH ≤ length text.now }

@@ -176,11 +176,12 @@ fn lenient(text: &[u8]) -> Result<OffsetDateTime, MailFault>
 /// The value that a text of mail or of a feed means. Beside what [`read`] takes these are the
 /// obsolete forms of RFC 5322, section 4.3, and what mailers write: white space and comments, which
 /// may nest, between the parts; letters in either case; a day of one digit; a year of three digits,
-/// which are added to 1900, or of two, of 1950 to 2049; no weekday; no seconds; zones by name and by
-/// letter, where each letter but `J` is UTC; and `-0000`, which is UTC too. Second 60 means second
+/// which are added to 1900, or of two, of 1950 to 2049; no weekday; no seconds; zones by name and
+/// by letter, where each letter but `J` is UTC; and `-0000`, which is UTC too. Second 60 means
+/// second
 /// 59. A weekday that is not the date's is refused, and so is a zone without a meaning, as `CET`.
-/// The value is proved to be one that the text means. That each text with a meaning is read, and that
-/// the place is the first part that is none, is tested.
+/// The value is proved to be one that the text means. That each text with a meaning is read, and
+/// that the place is the first part that is none, is tested.
 pub fn read_lenient(text: &[u8]) -> Result<OffsetDateTime, NotMail>
     ensures read { IfOk result (λ v. MailMeans v text.now) }
     ensures within { IfErr result (λ e. e.at ≤ length text.now) }

@@ -68,8 +68,8 @@ fn after_byte(depth: Depth, byte: u8) -> Option<Depth>
     })
 }
 
-// What follows the white space and the comments that begin a text. A comment may hold others. A text
-// is refused only where a comment is open at its end.
+// What follows the white space and the comments that begin a text. A comment may hold others. A
+// text is refused only where a comment is open at its end.
 pub(crate) fn space(text: &[u8]) -> Result<&[u8], MailFault>
     ensures read { IfOk result (λ rest. Front IsSpace text.now rest.now) }
     ensures stop { IfOk result (λ rest. NoSpace rest.now) }

@@ -1,5 +1,5 @@
-//! The rows of `time_describe` and `time_plan`, and of the texts that descriptions and plans format. What
-//! `docs/RATTLE.md` shows of both stands here too.
+//! The rows of `time_describe` and `time_plan`, and of the texts that descriptions and plans
+//! format. What `docs/RATTLE.md` shows of both stands here too.
 mod faults;
 mod hostile;
 mod plans;

@@ -127,8 +127,9 @@ fn zoned_moments_outside_jiff_are_refused(rt: HostRuntime) {
     }
 }
 
-/// Seconds since 1970, and the hours that the clock of Berlin is ahead of UTC, as GNU `date` shows by the same
-/// rule: around changes, back in a span that was left, and outside of the moments of jiff.
+/// Seconds since 1970, and the hours that the clock of Berlin is ahead of UTC, as GNU `date` shows
+/// by the same rule: around changes, back in a span that was left, and outside of the moments of
+/// jiff.
 const SECONDS: &[(i64, i8)] = &[
     (0, 1),
     (1_774_745_999, 1),
@@ -164,8 +165,8 @@ impl Clock for Standing {
     }
 }
 
-/// The moments about the change from 2:00 to 3:00 of 2026-03-29 in Berlin, as GNU `date` shows them: seconds of Unix
-/// time, and the hour and the offset of the clock there.
+/// The moments about the change from 2:00 to 3:00 of 2026-03-29 in Berlin, as GNU `date` shows
+/// them: seconds of Unix time, and the hour and the offset of the clock there.
 const NOWS: &[(u32, u8, i8)] = &[(1_774_745_999, 1, 1), (1_774_746_000, 3, 2)];
 
 #[test]

@@ -55,7 +55,8 @@ fn moments_are_read(rt: HostRuntime) -> Result<(), Fail> {
     Ok(())
 }
 
-/// A description, a text, and the year and the day of the year by Python: before the year 1 those of 400 years later.
+/// A description, a text, and the year and the day of the year by Python: before the year 1 those
+/// of 400 years later.
 const DATES: &[(&str, &str, i32, u16)] = &[
     ("%G-W%V-%u", "2004-W53-6", 2005, 1),
     ("%Y week %U %A", "2026 week 47 Saturday", 2026, 332),

@@ -1,4 +1,5 @@
-//! Moments in JSON. The texts are those of RFC 3339, section 5.8, and their Unix time is that of GNU `date -u -d TEXT +%s`.
+//! Moments in JSON. The texts are those of RFC 3339, section 5.8, and their Unix time is that of
+//! GNU `date -u -d TEXT +%s`.
 use crate::values::{assert_text, assert_that};
 use serde::{Deserialize, Serialize};
 use serde_json::{from_str, to_string};
@@ -80,7 +81,8 @@ fn instants_are_in_utc(rt: HostRuntime) -> Result<(), Fail> {
     Ok(())
 }
 
-/// Section 5.8: 16:39:57 at -08:00 is 00:39:57 of the next day in UTC. An escape stands for its character.
+/// Section 5.8: 16:39:57 at -08:00 is 00:39:57 of the next day in UTC. An escape stands for its
+/// character.
 #[test]
 fn other_texts_of_a_moment_are_read(rt: HostRuntime) -> Result<(), Fail> {
     let alloc = rt.alloc();

@@ -1,5 +1,5 @@
-//! What `{}` prints of a value of each type is the text of a description. The laws of `time` say so of
-//! lists of items, and these rows of `text!`.
+//! What `{}` prints of a value of each type is the text of a description. The laws of `time` say so
+//! of lists of items, and these rows of `text!`.
 use crate::values::assert_that;
 use std::alloc::Global;
 use std::fmt::Display;

@@ -22,8 +22,8 @@ use time_describe::{Brackets, Strftime, Syntax};
 /// The most items of a text that is formatted in one call.
 const FEW: usize = 64;
 
-/// The items of the array that is tried first: one of all 64 costs more instructions. Where a text has
-/// more items, both arrays are on the stack.
+/// The items of the array that is tried first: one of all 64 costs more instructions. Where a text
+/// has more items, both arrays are on the stack.
 const USUAL: usize = 18;
 
 /// Reads the items of a text in brackets into an array.

@@ -14,7 +14,8 @@ pub struct ReadError {
     pub at: usize,
     /// What could have come after them.
     pub expected: u8,
-    /// The first digit that could have come, or the byte, or another number of what could have come.
+    /// The first digit that could have come, or the byte, or another number of what could have
+    /// come.
     pub first: u8,
     /// The last digit that could have come, or the byte, or another number of what could have come.
     pub last: u8,

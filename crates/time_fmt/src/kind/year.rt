@@ -1,7 +1,7 @@
 //! Whole years, of the calendar or of the week calendar.
 //!
-//! With `inline(always)` the text of a component that is met often is written without a call. `cold`
-//! and `inline(never)` keep long or rare bodies out of their callers.
+//! With `inline(always)` the text of a component that is met often is written without a call.
+//! `cold` and `inline(never)` keep long or rare bodies out of their callers.
 #![tactic(auto, using(crate::proofs::TextLemmas::signed_lengths))]
 
 ghost use Rattle.std.specs.Prelude.{◌≡◌, ◌<◌, ◌≤◌, IfErr, IfOk, length, unsigned_abs};

@@ -1,5 +1,5 @@
-//! Days by their number, days near a date, and dates of the week calendar. Julian day numbers and dates of weeks
-//! are those of Python's `datetime`, and -4713-11-24 is the day 0 of that count.
+//! Days by their number, days near a date, and dates of the week calendar. Julian day numbers and
+//! dates of weeks are those of Python's `datetime`, and -4713-11-24 is the day 0 of that count.
 use super::{date_on, refusal_of};
 use crate::texts::{assert_same, assert_that, some};
 use std::process::Abort;

@@ -1,7 +1,7 @@
 //! Each writer of a component is called once by its name, with what `docs/COMPONENTS.md` shows.
 //!
-//! What the writers take comes from calls without a clause. So the proof knows of it what its type says, and finds
-//! room for any text of that type.
+//! What the writers take comes from calls without a clause. So the proof knows of it what its type
+//! says, and finds room for any text of that type.
 use super::writers::{assert_written, empty};
 use time_below::format_description::modifier;
 use time_below::format_description::modifier::{Padding, SubsecondDigits};

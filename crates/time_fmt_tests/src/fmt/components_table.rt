@@ -96,8 +96,8 @@ const OTHER_CHOICES: &[(Component, &str, usize)] = components! {
     UnixTimestampMillisecond { sign_is_mandatory: true } "+879350106000" 18,
 };
 
-/// Weeks and weekdays that tell the three ways of counting apart, of 2005-01-02: a Sunday before the first Monday
-/// of its year, in the last week of 2004 (ISO 8601-1:2019, week date).
+/// Weeks and weekdays that tell the three ways of counting apart, of 2005-01-02: a Sunday before
+/// the first Monday of its year, in the last week of 2004 (ISO 8601-1:2019, week date).
 pub(super) const SUNDAY: &[(Component, &str, usize)] = components! {
     WeekdaySunday { one_indexed: true } "1" 1,
     WeekdayMonday { one_indexed: true } "7" 1,

@@ -18,8 +18,8 @@ const PADDED: Rows = padded! {
     Date(-50, 6, 15) => IsoYearLastTwo "50" "50" "50",
 };
 
-/// Rows of a year's June 15, the choices of its components, and the texts of the year and of its century,
-/// which are the same in both calendars and both ranges.
+/// Rows of a year's June 15, the choices of its components, and the texts of the year and of its
+/// century, which are the same in both calendars and both ranges.
 macro_rules! years {
     ($($year:literal $padding:ident $sign:literal $full:literal $century:literal,)+) => {
         signed! {$(

@@ -24,8 +24,8 @@ const CENTURY: Item<'static> = Item::Component(Component::CalendarYearCenturySta
     YEAR_CENTURY_STANDARD,
 ));
 
-/// Rows of a date, a list of which an item is refused, the bytes before that item, its name, and the bytes once
-/// the day is written behind them.
+/// Rows of a date, a list of which an item is refused, the bytes before that item, its name, and
+/// the bytes once the day is written behind them.
 macro_rules! refused {
     ($($date:tt => [$($item:expr),+] $before:literal $name:literal $after:literal,)+) => {
         &[$(($date, Item::Compound(&[$($item),+]), ($before, $name, $after))),+]

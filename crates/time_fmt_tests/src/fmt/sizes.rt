@@ -1,4 +1,5 @@
-//! Long texts, long outputs, long lists and deep trees. Memory is available, so no call is out of memory.
+//! Long texts, long outputs, long lists and deep trees. Memory is available, so no call is out of
+//! memory.
 use crate::items::{Tree, one};
 use crate::texts::{
     DAY, append_item, assert_item, assert_same, assert_that, long_text, made, repeated, some,
@@ -33,8 +34,8 @@ fn a_text_stands_behind_a_megabyte(rt: HostRuntime) {
     assert_that(&rt, output.as_slice().ends_with(b"x12".as_slice()));
 }
 
-/// Appends a text of this many bytes to an output of as many that has no room left, and makes it as a text of its
-/// own. Neither is out of memory, or holds more bytes than it has.
+/// Appends a text of this many bytes to an output of as many that has no room left, and makes it as
+/// a text of its own. Neither is out of memory, or holds more bytes than it has.
 fn assert_power(rt: &impl Abort, alloc: Global, length: usize) {
     let letters = repeated(rt, alloc, b'x', length);
     let item = BorrowedFormatItem::Literal(letters.as_slice());
@@ -158,7 +159,8 @@ fn last_of_four<K, T: Tree<K>>(alloc: Global, item: T) -> Result<T, AllocError> 
     Ok(T::list(items))
 }
 
-/// No list in a list is measured twice, of which no clause speaks: its time would double with each level.
+/// No list in a list is measured twice, of which no clause speaks: its time would double with each
+/// level.
 pub(super) fn assert_linear<K, T: Tree<K>>(
     rt: &impl Abort,
     alloc: Global,

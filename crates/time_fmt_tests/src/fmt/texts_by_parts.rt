@@ -1,5 +1,5 @@
-//! Texts by their parts, beside the lists of the same items, of every type of value: each kind of description
-//! as a part. The components are in `components_table`.
+//! Texts by their parts, beside the lists of the same items, of every type of value: each kind of
+//! description as a part. The components are in `components_table`.
 use crate::examples::append_clock;
 use crate::items::one;
 use crate::texts::{assert_refused, assert_same, assert_that, assert_value, some};

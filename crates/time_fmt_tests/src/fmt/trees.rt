@@ -113,7 +113,8 @@ fn assert_optionals<K, T: Tree<K>>(
     assert_optional::<K, T>(rt, alloc, false, NAME, name)
 }
 
-/// All that is compared of trees of a kind, at one call: each names what it asks of the kind once more.
+/// All that is compared of trees of a kind, at one call: each names what it asks of the kind once
+/// more.
 fn assert_trees<K, T: Tree<K>>(rt: &impl Abort, alloc: Global, left_out: [(&str, usize); 2]) {
     assert_lists::<K, T>(rt, alloc);
     assert_that(rt, assert_optionals::<K, T>(rt, alloc, left_out).is_ok());

@@ -25,8 +25,8 @@ fn written(rt: &impl Abort, alloc: Global, component: &Component, value: &Offset
     output.len()
 }
 
-/// -999999-09-12, a Wednesday, and -9999-10-10 have the longest texts between them, at 12:34:56.123456789
-/// -23:45:30: the most bytes that the component has of one of the two.
+/// -999999-09-12, a Wednesday, and -9999-10-10 have the longest texts between them, at
+/// 12:34:56.123456789 -23:45:30: the most bytes that the component has of one of the two.
 fn longest(rt: &impl Abort, alloc: Global, component: &Component) -> usize {
     let (time, offset) = ((12, 34, 56, 123_456_789), (-23, -45, -30));
     let extended = some(rt, moment((-999_999, 9, 12), time, offset));

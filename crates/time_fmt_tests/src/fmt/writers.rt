@@ -19,7 +19,8 @@ pub(super) fn empty(rt: &impl Abort, alloc: Global) -> Vec<u8>
     output
 }
 
-/// Compares what was appended to an empty vector, and the count. The vector is taken, so that no test gives it back.
+/// Compares what was appended to an empty vector, and the count. The vector is taken, so that no
+/// test gives it back.
 pub(super) fn assert_written(rt: &impl Abort, output: Vec<u8>, count: usize, text: &str) {
     assert_same(rt, output.as_slice(), text.as_bytes());
     assert_same(rt, count, text.len());

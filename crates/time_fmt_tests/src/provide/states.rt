@@ -1,5 +1,5 @@
-//! Which entries a state holds after the methods of each type. A state shows them by its `Debug` text, and two
-//! states of dates are equal if they hold the same.
+//! Which entries a state holds after the methods of each type. A state shows them by its `Debug`
+//! text, and two states of dates are equal if they hold the same.
 ghost use Rattle.std.specs.Prelude.{IsTrue};
 
 use crate::texts::{assert_same, some};
@@ -196,7 +196,8 @@ pub(crate) fn state_with(date: &Date, first: Kept, second: Kept, third: Kept) ->
     state
 }
 
-/// Whether the text of the state shows the day, the month, the week, its year, the date and the time.
+/// Whether the text of the state shows the day, the month, the week, its year, the date and the
+/// time.
 fn shown(rt: &impl Abort, alloc: Global, state: &impl Debug) -> [bool; 6] {
     let Ok(text) = format!(in alloc; "{state:?}") else {
         panic!(rt; "no text");
@@ -245,7 +246,8 @@ fn assert_shown(rt: &impl Abort, alloc: Global, date: Date) {
     }
 }
 
-/// The state holds the entries of two methods, and of each of these as the third, after they were called in turn.
+/// The state holds the entries of two methods, and of each of these as the third, after they were
+/// called in turn.
 fn assert_thirds<V: ComponentProvider<State = DateState>>(
     rt: &impl Abort,
     value: &V,
@@ -339,7 +341,8 @@ fn a_state_holds_what_three_methods_keep(rt: HostRuntime) {
     assert_triples(&rt, &value, date);
 }
 
-/// What the state of a moment holds after three methods, of which the second is called once more or the third is any.
+/// What the state of a moment holds after three methods, of which the second is called once more or
+/// the third is any.
 fn assert_moment(
     rt: &impl Abort,
     alloc: Global,
@@ -355,7 +358,8 @@ fn assert_moment(
     }
 }
 
-/// The first and the last moment, ends of years, a leap day, and days whose week is of another year.
+/// The first and the last moment, ends of years, a leap day, and days whose week is of another
+/// year.
 const MOMENTS: &[(i64, u32)] = &[
     (-31_619_087_596_800, 0),
     (31_494_784_780_799, 999_999_999),

@@ -1,5 +1,5 @@
-//! Readers that give few bytes, writers that take few, and ones that fail once: a run ends there, and makes
-//! no further call.
+//! Readers that give few bytes, writers that take few, and ones that fail once: a run ends there,
+//! and makes no further call.
 use crate::answers::{Sink, Source, assert_answers, assert_ends, repeated};
 use crate::format_texts::assert_same;
 use std::alloc::{AllocError, Global};
@@ -38,8 +38,8 @@ fn answers(alloc: Global, count: usize) -> Result<Vec<u8>, AllocError> {
     Ok(text)
 }
 
-/// A read that ends no line writes nothing, and each answer goes out by one write, or by several where
-/// the writer takes less.
+/// A read that ends no line writes nothing, and each answer goes out by one write, or by several
+/// where the writer takes less.
 #[test]
 fn answers_all_lines(rt: HostRuntime) -> Result<(), Fail> {
     let all = answers(rt.alloc(), ANSWERS.len())?;
@@ -56,7 +56,8 @@ fn answers_all_lines(rt: HostRuntime) -> Result<(), Fail> {
     Ok(())
 }
 
-/// Which read of three lines in two blocks fails, how the run ends, how many writes were made, and of what.
+/// Which read of three lines in two blocks fails, how the run ends, how many writes were made, and
+/// of what.
 const BLOCKS: &[(usize, Result<(), ShowError>, usize, &[u8])] = &[
     (0, Ok(()), 2, b"ok 10 18 00:00:00.0\nbad line\nbad line\n"),
     (2, Err(ShowError::Read), 1, b"ok 10 18 00:00:00.0\n"),
@@ -82,8 +83,8 @@ const KINDS: &[ErrorKind] = &[
     ErrorKind::WouldBlock,
 ];
 
-/// Runs over a reader of ten bytes at a call that fails at this one, and compares the answers to the lines
-/// before it.
+/// Runs over a reader of ten bytes at a call that fails at this one, and compares the answers to
+/// the lines before it.
 fn assert_read_ends(
     rt: &impl Abort,
     alloc: Global,

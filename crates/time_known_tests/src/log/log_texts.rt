@@ -8,11 +8,12 @@ use time_fmt::Format;
 use time_log::Decimals::{Microseconds, Milliseconds, Nanoseconds};
 use time_log::{Decimals, LogTime};
 
-/// The seconds since 1970 and the nanosecond, the hours and minutes of the offset, and the decimals.
+/// The seconds since 1970 and the nanosecond, the hours and minutes of the offset, and the
+/// decimals.
 type Parts = ((i64, u32), (i8, i8), Decimals);
 
-/// The examples of RFC 3339, section 5.8, but for those of leap seconds, a leap day, and the ends of the years. The
-/// seconds are those of `date +%s` of GNU coreutils.
+/// The examples of RFC 3339, section 5.8, but for those of leap seconds, a leap day, and the ends
+/// of the years. The seconds are those of `date +%s` of GNU coreutils.
 const TEXTS: &[(Parts, &str)] = &[
     (
         ((482_196_050, 520_000_000), (0, 0), Milliseconds),

@@ -1,4 +1,5 @@
-//! Texts of mail and of feeds with their values, and texts that are refused with the words of their place.
+//! Texts of mail and of feeds with their values, and texts that are refused with the words of their
+//! place.
 use crate::read::rows::{Parts, assert_place, assert_value};
 use std::process::Abort;
 use std::test::Fail;
@@ -9,8 +10,8 @@ fn read(text: &str) -> Result<OffsetDateTime, NotMail> {
     rfc2822::read_lenient(text.as_bytes())
 }
 
-/// Examples of RFC 5322, appendices A.1, A.5 and A.6, of RSS 2.0, and of headers as mailers write them. The
-/// seconds are those of Python's `datetime`.
+/// Examples of RFC 5322, appendices A.1, A.5 and A.6, of RSS 2.0, and of headers as mailers write
+/// them. The seconds are those of Python's `datetime`.
 const TEXTS: &[(&str, Parts)] = &[
     ("Fri, 21 Nov 1997 09:55:06 -0600", (880_127_706, 0, -6, 0)),
     ("Tue, 1 Jul 2003 10:52:37 +0200", (1_057_049_557, 0, 2, 0)),

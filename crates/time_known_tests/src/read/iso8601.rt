@@ -28,7 +28,8 @@ fn parts(parts: FormattedComponents) -> Config {
     Config::default().set_formatted_components(parts)
 }
 
-/// A configuration of dates: their kind, with or without separators, with six digits of the year or four.
+/// A configuration of dates: their kind, with or without separators, with six digits of the year or
+/// four.
 fn dates(kind: DateKind, separators: bool, six_digits: bool) -> Config {
     parts(FormattedComponents::Date)
         .set_date_kind(kind)
@@ -36,7 +37,8 @@ fn dates(kind: DateKind, separators: bool, six_digits: bool) -> Config {
         .set_year_is_six_digits(six_digits)
 }
 
-/// A configuration of times of day: the smallest whole unit and its decimals, with or without separators.
+/// A configuration of times of day: the smallest whole unit and its decimals, with or without
+/// separators.
 fn times(unit: Unit, decimals: u8, separators: bool) -> Config {
     let decimal_digits = ru8::new(decimals);
     let precision = match unit {
@@ -70,8 +72,8 @@ where
 /// The year, the month and the day of a text.
 type DateRow = (DateKind, bool, bool, &'static str, (i32, u8, u8));
 
-/// The examples of ISO 8601-1:2019, sections 5.2.2 to 5.2.4, and dates whose week is of another year
-/// by `date.isocalendar` of Python.
+/// The examples of ISO 8601-1:2019, sections 5.2.2 to 5.2.4, and dates whose week is of another
+/// year by `date.isocalendar` of Python.
 const DATES: &[DateRow] = &[
     (Calendar, false, false, "19850412", (1985, 4, 12)),
     (Calendar, true, false, "1985-04-12", (1985, 4, 12)),
@@ -216,8 +218,9 @@ fn refuses_a_text_of_no_date(rt: HostRuntime) {
     }
 }
 
-/// The time of a text. The decimals of ISO 8601:2004, section 4.2.2.4, are those of its examples. Those of an
-/// hour or a minute that the writer cuts have the fewest nanoseconds, by `fractions` of Python.
+/// The time of a text. The decimals of ISO 8601:2004, section 4.2.2.4, are those of its examples.
+/// Those of an hour or a minute that the writer cuts have the fewest nanoseconds, by `fractions` of
+/// Python.
 const TIMES: &[(Unit, u8, bool, &str, (u8, u8, u8, u32))] = &[
     (Second, 0, true, "23:20:50", (23, 20, 50, 0)),
     (Second, 0, false, "T232050", (23, 20, 50, 0)),

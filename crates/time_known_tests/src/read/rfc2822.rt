@@ -10,8 +10,8 @@ fn read(text: &str) -> Result<OffsetDateTime, NotRead> {
     rfc2822::read(text.as_bytes())
 }
 
-/// Examples of RFC 2822, appendix A, in its full form, and the ends of the ranges. The seconds are those of
-/// Python's `datetime`.
+/// Examples of RFC 2822, appendix A, in its full form, and the ends of the ranges. The seconds are
+/// those of Python's `datetime`.
 const TEXTS: &[(&str, Parts)] = &[
     ("Fri, 21 Nov 1997 09:55:06 -0600", (880_127_706, 0, -6, 0)),
     ("Tue, 01 Jul 2003 10:52:37 +0200", (1_057_049_557, 0, 2, 0)),

@@ -52,8 +52,8 @@ pub(crate) fn assert_place<V, E: Display + Drop>(
     }
 }
 
-/// The examples of RFC 3339, section 5.8, but for those of leap seconds, and the ends of the ranges. The seconds
-/// are those of `date +%s` of GNU coreutils.
+/// The examples of RFC 3339, section 5.8, but for those of leap seconds, and the ends of the
+/// ranges. The seconds are those of `date +%s` of GNU coreutils.
 const TEXTS: &[(&str, Parts)] = &[
     ("1985-04-12T23:20:50.52Z", (482_196_050, 520_000_000, 0, 0)),
     ("1996-12-19T16:39:57-08:00", (851_042_397, 0, -8, 0)),

@@ -8,8 +8,8 @@ use time_below::{Date, OffsetDateTime, PlainDateTime, Time, Timestamp, UtcDateTi
 use time_fmt::ComponentProvider;
 use time_known::iso8601::FormattedComponents;
 
-/// A type whose values are read. What `of_parts` answers is no part of what `Iso8601Reader` promises: it
-/// writes the value that it is given, and compares.
+/// A type whose values are read. What `of_parts` answers is no part of what `Iso8601Reader`
+/// promises: it writes the value that it is given, and compares.
 pub trait Readable: ComponentProvider + Sized {
     /// Whether texts that show these parts determine a value.
     ghost determined_by: { FormattedComponents → Bool };

@@ -2,7 +2,8 @@
 use crate::describe::texts::{assert_displays, fault_in_brackets};
 use time_describe::{BracketReason, InvalidDescription};
 
-/// Rows of a text, its first fault with the index of the byte, and the words that display it beside the text.
+/// Rows of a text, its first fault with the index of the byte, and the words that display it beside
+/// the text.
 const FAULTS: &[(&str, BracketReason, usize, &str)] = &[
     (
         "[year",

@@ -1,5 +1,5 @@
-//! Texts that are cut, changed, long or deep: each is a description, or the index of its fault is that of one of its
-//! bytes.
+//! Texts that are cut, changed, long or deep: each is a description, or the index of its fault is
+//! that of one of its bytes.
 use crate::describe::texts::{fault_in_brackets, fault_in_percents, repeated};
 use std::alloc::{AllocError, Global};
 use std::process::Abort;
@@ -16,8 +16,8 @@ const TEXTS: &[&[u8]] = &[
 /// Bytes that mean something in one of the syntaxes, and some that mean nothing in either.
 const BYTES: &[u8] = b"[]\\: %N0\n\0\xc3\xff";
 
-/// Long texts in brackets: what they begin with, what they repeat how often, what they end with, and the first
-/// fault or none.
+/// Long texts in brackets: what they begin with, what they repeat how often, what they end with,
+/// and the first fault or none.
 const LONG: &[(&[u8], &[u8], usize, &[u8], Option<(BracketReason, usize)>)] = &[
     (
         b"",

@@ -1,8 +1,9 @@
 //! Each component by both of its texts, which `docs/COMPONENTS.md` shows.
 use crate::describe::texts::{WEDNESDAY, assert_in_brackets, assert_in_percents};
 
-/// Rows of a component in brackets, its conversion of strftime or nothing, and the text of 1997-11-12 9:55:06.12
-/// -6:00 that the component's row in `docs/COMPONENTS.md` has, with the choices of that row.
+/// Rows of a component in brackets, its conversion of strftime or nothing, and the text of
+/// 1997-11-12 9:55:06.12 -6:00 that the component's row in `docs/COMPONENTS.md` has, with the
+/// choices of that row.
 const SPELLINGS: &[(&str, &str, &str)] = &[
     ("[day]", "%d", "12"),
     ("[day padding:space]", "%e", "12"),

@@ -1,12 +1,13 @@
-//! Descriptions in the syntax of strftime, and the texts that standards and GNU `date` 9.1 give for them.
+//! Descriptions in the syntax of strftime, and the texts that standards and GNU `date` 9.1 give for
+//! them.
 use crate::describe::texts::{
     Numbers, Row, assert_displays, assert_percents, fault_in_percents, repeated,
 };
 use std::alloc::AllocError;
 use time_describe::{InvalidStrftime, StrftimeReason};
 
-/// Examples of RFC 3339 (5.8), RFC 2822 (A.1.1), RFC 9110 (5.6.7), ISO 8601 (week date, ordinal date) and the
-/// documentation of Apache's log files.
+/// Examples of RFC 3339 (5.8), RFC 2822 (A.1.1), RFC 9110 (5.6.7), ISO 8601 (week date, ordinal
+/// date) and the documentation of Apache's log files.
 const OF_STANDARDS: &[Row] = &[
     (
         "%FT%T%:z",

@@ -1,5 +1,5 @@
-//! Descriptions from a text, and values that they format. No helper hands on a clause, so that a test proves no
-//! more than it compares.
+//! Descriptions from a text, and values that they format. No helper hands on a clause, so that a
+//! test proves no more than it compares.
 use std::alloc::{AllocError, Global};
 use std::convert::TryFrom;
 use std::default::Default;
@@ -13,11 +13,12 @@ use time_describe::{
 };
 use time_fmt::{DateState, Formattable};
 
-/// The local date of a year, a month and a day, the time of an hour, a minute, a second and a nanosecond, and the
-/// offset of hours, minutes and seconds.
+/// The local date of a year, a month and a day, the time of an hour, a minute, a second and a
+/// nanosecond, and the offset of hours, minutes and seconds.
 pub(crate) type Numbers = ((i32, u8, u8), (u8, u8, u8, u32), (i8, i8, i8));
 
-/// A text, the numbers of a moment, and what the description that the text is formats of the moment.
+/// A text, the numbers of a moment, and what the description that the text is formats of the
+/// moment.
 pub(crate) type Row = (&'static str, Numbers, &'static str);
 
 /// 1997-11-12 9:55:06.12 -6:00, a Wednesday.
@@ -109,7 +110,8 @@ pub(crate) fn assert_formats<D: Formattable>(
     }
 }
 
-/// Compares what a description appends of a moment, and the number of bytes that it returns, with bytes.
+/// Compares what a description appends of a moment, and the number of bytes that it returns, with
+/// bytes.
 pub(crate) fn assert_appends<D: Formattable>(
     rt: &impl Abort,
     alloc: Global,

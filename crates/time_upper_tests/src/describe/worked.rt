@@ -1,7 +1,9 @@
-//! Descriptions in brackets and in the syntax of strftime, and the texts that standards and documentation give.
+//! Descriptions in brackets and in the syntax of strftime, and the texts that standards and
+//! documentation give.
 use crate::describe::texts::{Numbers, Row, WEDNESDAY, assert_brackets};
 
-/// Examples of RFC 3339 (5.8), RFC 2822 (A.1.1), RFC 9110 (5.6.7) and ISO 8601 (week date, ordinal date).
+/// Examples of RFC 3339 (5.8), RFC 2822 (A.1.1), RFC 9110 (5.6.7) and ISO 8601 (week date, ordinal
+/// date).
 const OF_STANDARDS: &[Row] = &[
     (
         "[year]-[month]-[day]T[hour]:[minute]:[second][offset_hour sign:mandatory]:[offset_minute]",
