@@ -37,17 +37,26 @@ fn dates(kind: DateKind, separators: bool, six_digits: bool) -> Config {
         .set_year_is_six_digits(six_digits)
 }
 
+/// The smallest whole unit and so many decimals of it.
+fn precision(unit: Unit, decimals: u8) -> TimePrecision {
+    match unit {
+        Hour => TimePrecision::Hour {
+            decimal_digits: ru8::new(decimals),
+        },
+        Minute => TimePrecision::Minute {
+            decimal_digits: ru8::new(decimals),
+        },
+        Second => TimePrecision::Second {
+            decimal_digits: ru8::new(decimals),
+        },
+    }
+}
+
 /// A configuration of times of day: the smallest whole unit and its decimals, with or without
 /// separators.
 fn times(unit: Unit, decimals: u8, separators: bool) -> Config {
-    let decimal_digits = ru8::new(decimals);
-    let precision = match unit {
-        Hour => TimePrecision::Hour { decimal_digits },
-        Minute => TimePrecision::Minute { decimal_digits },
-        Second => TimePrecision::Second { decimal_digits },
-    };
     parts(FormattedComponents::Time)
-        .set_time_precision(precision)
+        .set_time_precision(precision(unit, decimals))
         .set_use_separators(separators)
 }
 
