@@ -18,6 +18,7 @@ mod jiff_values;
 mod parse_calls;
 #[cfg(test)]
 mod read_back;
+#[cfg(test)]
 mod read_leniently;
 #[cfg(test)]
 mod recipes;
