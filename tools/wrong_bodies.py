@@ -71,6 +71,13 @@ def with_cycles(crate, names):
     return names | {name for cycle, name in cycles if any((cycle, it) in cycles for it in names)}
 
 
+def is_told(edit, found, why):
+    """Returns whether an edit is refused in the functions that it names, where these were found refused, and what to say."""
+    is_well = not why and edit.functions <= found
+    where = "refused in" if is_well else f"refused in {', '.join(sorted(found))}, and not in" if found else "NOT REFUSED in"
+    return is_well, f"{edit.label}: {why or f'{where} ' + ', '.join(sorted(edit.alone.functions))}"
+
+
 def tried(crate, group, kept, given):
     """Returns for each edit of a group whether it is refused in the functions that it names, and what to say."""
     functions = set().union(*(it.functions for it in group))
@@ -78,11 +85,12 @@ def tried(crate, group, kept, given):
     names = with_cycles(crate, {it.rpartition("::")[2] for it in functions})
     others = [it for it in found if it.rpartition("::")[2] not in names]
     if len(group) > 1 and (why or others or not functions <= found):
-        print(f"{crate.name}: {why or f'{len(group)} joined edits, more {others}, less {functions - found}'}: each alone", flush=True)
-        return [it for edit in group for it in tried(crate, [edit.alone], kept, given)]
-    is_well = not why and functions <= found
-    where = "refused in" if is_well else f"refused in {', '.join(sorted(found))}, and not in" if found else "NOT REFUSED in"
-    return [(is_well, f"{it.label}: {why or f'{where} ' + ', '.join(sorted(it.alone.functions))}") for it in group]
+        left = group if why or others else [it for it in group if not it.functions <= found]
+        told = why or f"{len(group)} joined edits, more {others}, less {functions - found}"
+        print(f"{crate.name}: {told}: {len(left)} alone", flush=True)
+        own = [it for edit in left for it in tried(crate, [edit.alone], kept, given)]
+        return own + [is_told(it, found, "") for it in group if it not in left]
+    return [is_told(it, found, why) for it in group]
 
 
 def tried_unedited(crate, group, kept, given):
