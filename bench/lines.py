@@ -91,6 +91,15 @@ def cost(words, line):
     return round((counted(words, line, MORE + 1_000) - counted(words, line, 1_000)) / MORE)
 
 
+def cost_within(words, line, most):
+    """The instructions of a line, counted up to three times where they are more than so many: `now` makes a text for each
+    second in which it runs, and on a loaded machine it runs longer."""
+    counts = [cost(words, line)]
+    while most is not None and min(counts) > most and len(counts) < 3:
+        counts.append(cost(words, line))
+    return min(counts)
+
+
 def spent(words, given):
     """The user and system time of a run, in milliseconds."""
     before = resource.getrusage(resource.RUSAGE_CHILDREN)
@@ -115,7 +124,7 @@ def timed(rows):
 def check(program):
     """Whether each count is within its limit."""
     with futures.ThreadPoolExecutor(2) as pool:
-        counts = list(pool.map(lambda row: cost([program, *row[1]], row[2]), ROWS))
+        counts = list(pool.map(lambda row: cost_within([program, *row[1]], row[2], row[4]), ROWS))
     for (what, _, _, _, most), count in zip(ROWS, counts):
         print(f"a line of movaliren by {what}: {count} instructions, of at most {most or 'any'}")
     return all(most is None or count <= most for (*_, most), count in zip(ROWS, counts))
