@@ -3,10 +3,10 @@
 
 The exports of movaliren_c give the prototypes of movaliren.h, each in its place, and the functions and structs of
 `library.rs`; `answers/reason.rt` the reasons, also of C++, and `answers/library.rt` their words; `described/item.rt` the kinds of items
-and their choices, which `component.rt` of time_below documents and `fault.rt` of time_plan_read names; `described/syntax.rt` the faults of descriptions, which time_describe
+and their choices, which `component.rt` of time_below documents and measures, and `fault.rt` of time_plan_read names; `described/syntax.rt` the faults of descriptions, which time_describe
 documents.
 
-    bindings/interface.py           writes the three headers, `description.rs`, `parse.rs` and `library.rs`
+    bindings/interface.py           writes the three headers, and `description.rs`, `component.rs`, `parse.rs`, `library.rs`
     bindings/interface.py --check   ends with status 1 where one is not what would be written
 """
 
@@ -32,6 +32,8 @@ C_TYPES = {
     "isize": "ptrdiff_t",
 }
 FIELD = r"(\w+): (\w+|\[\w+; \d+\]),"
+# Widths that component.rs of the Rust crate says itself, by the choices.
+BY_CHOICE = {"Subsecond": 9}
 # What is written in a file that has more by hand.
 PROTOTYPE = r"^(?:struct )?\w+ (movaliren_\w+)\([^)]*\)(?:\s+MOVALIREN_(?:NONNULL_\(\d\)|CHECKED_))*;"
 ERRORS = r"enum movaliren_error \{.*?\n\};"
@@ -40,6 +42,7 @@ CASES = r"(?<=switch \(error\) \{\n)(?:    case MOVALIREN_ERROR_\w+:\n        re
 KINDS = r"enum movaliren_kind \{.*?\n\};"
 KIND_NAMES = r"static const char \*const kinds\[\] = \{.*?\};"
 KINDS_OF_RUST = r"pub enum Kind \{.*?\n\}"
+WIDTHS_OF_RUST = r"(?<=const fn width\(self\) -> usize \{\n        match self \{\n).*?(?=\n        \}\n)"
 FAULTS_OF_C = r"enum movaliren_parse_error_kind \{.*?\n\};"
 FAULTS_OF_RUST = r"pub enum FaultReason \{.*?\n\}"
 USES = "use crate::{Error, FaultReason, Kind, Moment, UtcMoment};"
@@ -228,6 +231,32 @@ def kinds_of_rust():
     return "pub enum Kind {\n" + "".join(rows) + "}"
 
 
+def widths():
+    """The width of each component that has the same one for all choices, by `width_of!` of time_below."""
+    table = re.search(r"macro_rules! width_of \{.*?\n\}", COMPONENT.read_text(), re.S)[0]
+    rows = re.findall(r"(one_of!\([^)]*\)|(?:Component::\w+\(_\)\s*\|?\s*)+)\s*=> (\d+),", table)
+    return {name: int(width) for names, width in rows for name in re.findall(r"\b(?!one_of|Component)[A-Z]\w+", names)}
+
+
+def widths_of_rust():
+    """The arms of the greatest lengths of a kind, as rustfmt lays them out."""
+    found = BY_CHOICE | widths()
+    of = {}
+    for _, name, _ in kinds():
+        of.setdefault(found[name], []).append(f"Kind::{short(name)}")
+    lines = []
+    for width, names in sorted(of.items()):
+        arm = f"            {names[0]}"
+        for name in names[1:]:
+            if len(f"{arm} | {name} => {width},") > 100:
+                lines.append(f"{arm} => {width},")
+                arm = f"            {name}"
+            else:
+                arm += f" | {name}"
+        lines.append(f"{arm} => {width},")
+    return "\n".join(lines)
+
+
 def names_of_kinds():
     """Each kind by its number with its name in brackets, as the errors of readers have it."""
     named = {}
@@ -337,10 +366,11 @@ def written():
     of_items = replaced(of_items, FAULTS_OF_C, faults_of_header())
     of_cpp = replaced(HEADER_OF_CPP.read_text(), ERRORS_OF_CPP, errors_of_cpp())
     description = replaced((RUST / "description.rs").read_text(), KINDS_OF_RUST, kinds_of_rust())
+    component = replaced((RUST / "component.rs").read_text(), WIDTHS_OF_RUST, widths_of_rust())
     parse = replaced((RUST / "parse.rs").read_text(), FAULTS_OF_RUST, faults_of_rust())
     return {
         HEADER: header, HEADER_OF_ITEMS: of_items, HEADER_OF_CPP: of_cpp, RUST / "description.rs": description, RUST / "parse.rs": parse,
-        RUST / "library.rs": library(declared),
+        RUST / "component.rs": component, RUST / "library.rs": library(declared),
     }
 
 

@@ -180,17 +180,17 @@ impl Kind {
     const fn width(self) -> usize {
         match self {
             Kind::WeekdayFromSunday | Kind::WeekdayFromMonday => 1,
-            Kind::Ordinal | Kind::MonthShort | Kind::WeekdayShort => 3,
-            Kind::Century | Kind::IsoCentury | Kind::OffsetHour => 3,
-            Kind::Year | Kind::IsoYear | Kind::CenturyExtended | Kind::IsoCenturyExtended => 5,
+            Kind::Day | Kind::Month | Kind::WeekIso | Kind::WeekSunday | Kind::WeekMonday => 2,
+            Kind::YearLastTwo | Kind::IsoYearLastTwo | Kind::Hour12 | Kind::Hour => 2,
+            Kind::Minute | Kind::Period | Kind::Second | Kind::OffsetMinute => 2,
+            Kind::OffsetSecond => 2,
+            Kind::MonthShort | Kind::Ordinal | Kind::WeekdayShort | Kind::Century => 3,
+            Kind::IsoCentury | Kind::OffsetHour => 3,
+            Kind::Year | Kind::CenturyExtended | Kind::IsoYear | Kind::IsoCenturyExtended => 5,
             Kind::YearExtended | Kind::IsoYearExtended => 7,
             Kind::MonthLong | Kind::WeekdayLong | Kind::Subsecond => 9,
             Kind::UnixSecond => 15,
             Kind::UnixMillisecond => 18,
-            Kind::Day | Kind::Month | Kind::WeekIso | Kind::WeekSunday | Kind::WeekMonday => 2,
-            Kind::YearLastTwo | Kind::IsoYearLastTwo => 2,
-            Kind::Hour12 | Kind::Hour | Kind::Minute | Kind::Second | Kind::Period => 2,
-            Kind::OffsetMinute | Kind::OffsetSecond => 2,
         }
     }
 }
