@@ -1,12 +1,12 @@
 -- Dates and times in UTC are in the order of their moments.
-use Rattle.std.proofs.Common.{◌≡◌, ℕ, ◌+◌, ◌*◌, ◌<◌, ap, sym, ◌∙◌, arith, rules, ℤ, pos, ◌+ℤ◌, unsigned_abs}
+use Rattle.std.proofs.Common.{◌≡◌, ℕ, ◌+◌, ◌*◌, ap, sym, ◌∙◌, arith, rules, ℤ, pos, ◌+ℤ◌, unsigned_abs}
 use Rattle.std.proofs.Common.{Bool, IsTrue, int_eq}
 use Rattle.std.specs.Prelude.{◌↔◌, ◌&&◌, ◌==◌}
 use Rattle.std.proofs.lemmas.Grind.{common_steps}
 use Rattle.std.proofs.lemmas.Int.{ints}
 use Rattle.std.proofs.lemmas.Bool.Decides.{nat_tests}
 use Rattle.std.specs.declared.cmp.Ordering.{Ordering}
-use Rattle.std.specs.declared.cmp.Ordering.TheVariants.{Less, Equal}
+use Rattle.std.specs.declared.cmp.Ordering.TheVariants.{Less}
 use Rattle.std.specs.Ordering.{nat_cmp, int_cmp, ordering_then}
 use Rattle.time_below.specs.Calendar.{OrdinalDate, IsDate, day_number, days_before}
 use Rattle.time_below.specs.Moment.{Moment, DateAndTime, IsBefore, moment_of, unix_seconds, day_seconds}

@@ -1,5 +1,5 @@
 -- The months of the calendar.
-use Rattle.std.specs.Prelude.{◌≡◌, ℕ, List, Result, MatchResult, codes}
+use Rattle.std.specs.Prelude.{◌≡◌, ℕ, Result, MatchResult, codes}
 use Rattle.std.specs.Int.{IsInRange}
 use Rattle.time_below.specs.ComponentRange.{range_refusal, unconditional_range}
 use Rattle.time_below.specs.declared.component_range.ComponentRange.{ComponentRange}
@@ -27,18 +27,3 @@ abbrev pub IsMadeOf : ℕ → Result Month ComponentRange → Type 0
 IsMadeOf number made =
     MatchResult made (λ month. month_number month ≡ number)
     (λ refusal. (¬ IsInRange 1 12 number) × (range_refusal refusal ≡ unconditional_range (codes "month")))
-
--- the English name of a month
-abbrev pub month_name : Month → List ℕ
-month_name January = codes "January"
-month_name February = codes "February"
-month_name March = codes "March"
-month_name April = codes "April"
-month_name May = codes "May"
-month_name June = codes "June"
-month_name July = codes "July"
-month_name August = codes "August"
-month_name September = codes "September"
-month_name October = codes "October"
-month_name November = codes "November"
-month_name December = codes "December"

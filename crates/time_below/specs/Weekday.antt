@@ -1,5 +1,5 @@
 -- The days of the week.
-use Rattle.std.specs.Prelude.{ℕ, List, codes}
+use Rattle.std.specs.Prelude.{ℕ}
 use Rattle.time_below.specs.Calendar.{from_sunday}
 use Rattle.time_below.specs.declared.weekday.Weekday.{Weekday}
 use Rattle.time_below.specs.declared.weekday.Weekday.TheVariants.{Monday, Tuesday, Wednesday, Thursday, Friday}
@@ -18,13 +18,3 @@ days_from_monday Sunday = 6
 -- how many days after Sunday, 0 to 6
 abbrev pub days_from_sunday : Weekday → ℕ
 days_from_sunday w = from_sunday (days_from_monday w)
-
--- the English name of a weekday
-abbrev pub weekday_name : Weekday → List ℕ
-weekday_name Monday = codes "Monday"
-weekday_name Tuesday = codes "Tuesday"
-weekday_name Wednesday = codes "Wednesday"
-weekday_name Thursday = codes "Thursday"
-weekday_name Friday = codes "Friday"
-weekday_name Saturday = codes "Saturday"
-weekday_name Sunday = codes "Sunday"

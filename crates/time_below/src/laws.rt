@@ -54,7 +54,8 @@ pub fn period_equality(a: Period, b: Period)
 
 /// Two refusals of a component are equal exactly if they have the same name and the same condition.
 pub fn range_equality(a: ComponentRange, b: ComponentRange)
-    ensures { IsTrue (⟦<ComponentRange as PartialEq>⟧.eq a b) ↔ (range_refusal a ≡ range_refusal b) }
+    ensures { IsTrue (⟦<ComponentRange as PartialEq>⟧.eq a b)
+        ↔ (range_refusal a ≡ range_refusal b) }
 {}
 
 /// A month is made of its number, and the number of a month is that of the definition.
@@ -65,7 +66,8 @@ pub fn month_conversions(number: u8, month: Month, made: Result<Month, Component
 
 /// A component becomes the current one in its place, and no other, in the third version.
 pub fn component_conversion(component: Component, inner: &FormatDescriptionV3Inner<'_>)
-    ensures { ⟦<FormatDescriptionV3Inner<'static> as From<Component>>⟧.from_gives component inner.now
+    ensures { ⟦<FormatDescriptionV3Inner<'static> as From<Component>>⟧.from_gives component
+        inner.now
         ↔ (v3_tree inner.now ≡ of_component (current_component component)) }
 {}
 
@@ -156,7 +158,8 @@ pub fn one_sign_for_each_offset()
 pub fn one_offset_for_each_number_of_seconds()
     ensures offset { (s : ℤ) → unsigned_abs s < 93_600 → IsOffset (offset_of_seconds s) }
     ensures seconds { (s : ℤ) → offset_seconds (offset_of_seconds s) ≡ s }
-    ensures only { (o p : Offset) → IsOffset o → IsOffset p → offset_seconds o ≡ offset_seconds p → o ≡ p }
+    ensures only { (o p : Offset) → IsOffset o → IsOffset p → offset_seconds o ≡ offset_seconds p
+        → o ≡ p }
 {}
 
 /// The date and time of a moment by clocks at an offset have its Unix seconds, and no others do.

@@ -11,6 +11,7 @@ mod invalid_variant;
 pub mod laws;
 pub mod moment;
 mod month;
+pub mod names;
 mod now;
 mod offset_date_time;
 mod period;

@@ -32,7 +32,12 @@ impl Model for Time {
         record { hour = t.hour; minute = t.minute; second = t.second; nanosecond = t.nanosecond } };
 
     ghost invariant = { λ t. IsTimeOfDay (
-        record { hour = t.hour; minute = t.minute; second = t.second; nanosecond = t.nanosecond }) };
+        record {
+          hour = t.hour;
+          minute = t.minute;
+          second = t.second;
+          nanosecond = t.nanosecond;
+        }) };
 
     ghost inverse = { λ t.
         record { hour = t.hour; minute = t.minute; second = t.second; nanosecond = t.nanosecond } };

@@ -165,7 +165,8 @@ impl Timestamp {
     /// The date and time of the moment by clocks at this offset, and the offset. Returns `None`
     /// where their year is outside -999,999 to 999,999.
     pub fn checked_to_offset(self, offset: UtcOffset) -> Option<OffsetDateTime>
-        ensures accepted { IsSome result ↔ IsTimestampSecond (self.seconds +ℤ offset_seconds offset) }
+        ensures accepted { IsSome result
+            ↔ IsTimestampSecond (self.seconds +ℤ offset_seconds offset) }
         ensures value { IfSome result (λ t. t ≡ local_at self offset) }
         ensures moment { IfSome result (λ t. local_unix_seconds t ≡ self.seconds) }
     {

@@ -137,7 +137,8 @@ impl UtcOffset {
         ensures accepted { IsOk result ↔ unsigned_abs seconds < 93_600 }
         ensures value { IfOk result (λ o. o ≡ offset_of_seconds seconds) }
         ensures seconds { IfOk result (λ o. offset_seconds o ≡ seconds) }
-        ensures refusal { IfErr result (λ e. range_refusal e ≡ unconditional_range (codes "seconds")) }
+        ensures refusal { IfErr result
+            (λ e. range_refusal e ≡ unconditional_range (codes "seconds")) }
     {
         let size = seconds.unsigned_abs();
         if size > 93_599 {

@@ -55,19 +55,22 @@ pub fn texts_of_tables()
 
 /// Two numbers of the type are equal exactly if they are the same, and a clone is the same number.
 pub fn ru8_equality<const MIN: u8, const MAX: u8>(a: ru8<MIN, MAX>, b: ru8<MIN, MAX>)
-    ensures equal { IsTrue (⟦<ru8<MIN, MAX> as PartialEq>⟧.eq a.entry b.entry) ↔ (a.entry ≡ b.entry) }
+    ensures equal { IsTrue (⟦<ru8<MIN, MAX> as PartialEq>⟧.eq a.entry b.entry)
+        ↔ (a.entry ≡ b.entry) }
     ensures clone { ⟦<ru8<MIN, MAX> as Clone>⟧.is_clone a.entry b.entry → b.entry ≡ a.entry }
 {}
 
 /// Two numbers of the type are equal exactly if they are the same, and a clone is the same number.
 pub fn ru16_equality<const MIN: u16, const MAX: u16>(a: ru16<MIN, MAX>, b: ru16<MIN, MAX>)
-    ensures equal { IsTrue (⟦<ru16<MIN, MAX> as PartialEq>⟧.eq a.entry b.entry) ↔ (a.entry ≡ b.entry) }
+    ensures equal { IsTrue (⟦<ru16<MIN, MAX> as PartialEq>⟧.eq a.entry b.entry)
+        ↔ (a.entry ≡ b.entry) }
     ensures clone { ⟦<ru16<MIN, MAX> as Clone>⟧.is_clone a.entry b.entry → b.entry ≡ a.entry }
 {}
 
 /// Two numbers of the type are equal exactly if they are the same, and a clone is the same number.
 pub fn ru32_equality<const MIN: u32, const MAX: u32>(a: ru32<MIN, MAX>, b: ru32<MIN, MAX>)
-    ensures equal { IsTrue (⟦<ru32<MIN, MAX> as PartialEq>⟧.eq a.entry b.entry) ↔ (a.entry ≡ b.entry) }
+    ensures equal { IsTrue (⟦<ru32<MIN, MAX> as PartialEq>⟧.eq a.entry b.entry)
+        ↔ (a.entry ≡ b.entry) }
     ensures clone { ⟦<ru32<MIN, MAX> as Clone>⟧.is_clone a.entry b.entry → b.entry ≡ a.entry }
 {}
 
@@ -96,7 +99,8 @@ pub fn clones_of_texts<const N: usize>(
     trailing: StackTrailingStr<N>,
     trailing_copy: StackTrailingStr<N>,
 )
-    ensures text { ⟦<StackStr<N> as Clone>⟧.is_clone text.entry copy.entry → shown copy.entry ≡ shown text.entry }
+    ensures text { ⟦<StackStr<N> as Clone>⟧.is_clone text.entry copy.entry
+        → shown copy.entry ≡ shown text.entry }
     ensures trailing { ⟦<StackTrailingStr<N> as Clone>⟧.is_clone trailing.entry trailing_copy.entry
         → shown_end trailing_copy.entry ≡ shown_end trailing.entry }
 {}

@@ -20,10 +20,12 @@ use time_below::{Date, OffsetDateTime, PlainDateTime, Time, Timestamp, UtcDateTi
 pub fn values_supply_their_components()
     ensures date { ⟦<Date as ComponentProvider>⟧.facts ≡ facts_of_date }
     ensures time { ⟦<Time as ComponentProvider>⟧.facts ≡ facts_of_time }
-    ensures plain_date_time { ⟦<PlainDateTime as ComponentProvider>⟧.facts ≡ facts_of_plain_date_time }
+    ensures plain_date_time { ⟦<PlainDateTime as ComponentProvider>⟧.facts
+        ≡ facts_of_plain_date_time }
     ensures offset { ⟦<UtcOffset as ComponentProvider>⟧.facts ≡ facts_of_offset }
     ensures utc_date_time { ⟦<UtcDateTime as ComponentProvider>⟧.facts ≡ facts_of_utc_date_time }
-    ensures offset_date_time { ⟦<OffsetDateTime as ComponentProvider>⟧.facts ≡ facts_of_offset_date_time }
+    ensures offset_date_time { ⟦<OffsetDateTime as ComponentProvider>⟧.facts
+        ≡ facts_of_offset_date_time }
     ensures timestamp { ⟦<Timestamp as ComponentProvider>⟧.facts ≡ facts_of_timestamp }
 {}
 
@@ -40,7 +42,8 @@ pub fn states_agree_with_their_values(state: DateState, of_moment: TimestampStat
     ensures utc_date_time { (v : DateAndTime)
         → ⟦<UtcDateTime as ComponentProvider>⟧.agrees state v ↔ Agrees state (date_facts v.date) }
     ensures offset_date_time { (v : OffsetDateAndTime)
-        → ⟦<OffsetDateTime as ComponentProvider>⟧.agrees state v ↔ Agrees state (date_facts v.date) }
+        → ⟦<OffsetDateTime as ComponentProvider>⟧.agrees state v
+        ↔ Agrees state (date_facts v.date) }
     ensures timestamp { (v : Moment)
         → ⟦<Timestamp as ComponentProvider>⟧.agrees of_moment v ↔ AgreesWithMoment of_moment v }
 {}
@@ -55,7 +58,8 @@ pub fn states_keep_what_they_held(
     ensures date { ⟦<Date as ComponentProvider>⟧.keeps old new ↔ Keeps old new }
     ensures plain_date_time { ⟦<PlainDateTime as ComponentProvider>⟧.keeps old new ↔ Keeps old new }
     ensures utc_date_time { ⟦<UtcDateTime as ComponentProvider>⟧.keeps old new ↔ Keeps old new }
-    ensures offset_date_time { ⟦<OffsetDateTime as ComponentProvider>⟧.keeps old new ↔ Keeps old new }
+    ensures offset_date_time { ⟦<OffsetDateTime as ComponentProvider>⟧.keeps old new
+        ↔ Keeps old new }
     ensures timestamp { ⟦<Timestamp as ComponentProvider>⟧.keeps old_of_moment new_of_moment
         ↔ KeepsOfMoment old_of_moment new_of_moment }
 {}

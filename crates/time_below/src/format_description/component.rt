@@ -135,19 +135,19 @@ macro_rules! width_of {
         match $component {
             Component::WeekdaySunday(_) | Component::WeekdayMonday(_) => 1,
             one_of!(
-                Day MonthNumerical WeekNumberIso WeekNumberSunday WeekNumberMonday CalendarYearLastTwo
-                IsoYearLastTwo Hour12 Hour24 Minute Period Second OffsetMinute OffsetSecond WeekNumber
-                Hour
+                Day MonthNumerical WeekNumberIso WeekNumberSunday WeekNumberMonday
+                CalendarYearLastTwo IsoYearLastTwo Hour12 Hour24 Minute Period Second OffsetMinute
+                OffsetSecond WeekNumber Hour
             ) => 2,
             one_of!(
                 MonthShort Ordinal WeekdayShort CalendarYearCenturyStandardRange
                 IsoYearCenturyStandardRange OffsetHour
             ) => 3,
             one_of!(
-                CalendarYearFullStandardRange CalendarYearCenturyExtendedRange IsoYearFullStandardRange
-                IsoYearCenturyExtendedRange
+                CalendarYearFullStandardRange CalendarYearCenturyExtendedRange
+                IsoYearFullStandardRange IsoYearCenturyExtendedRange
             ) => 5,
-            Component::CalendarYearFullExtendedRange(_) | Component::IsoYearFullExtendedRange(_) => 7,
+            one_of!(CalendarYearFullExtendedRange IsoYearFullExtendedRange) => 7,
             Component::MonthLong(_) | Component::WeekdayLong(_) => 9,
             Component::UnixTimestampSecond(_) => 15,
             Component::UnixTimestampMillisecond(_) => 18,

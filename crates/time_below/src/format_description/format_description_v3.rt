@@ -132,7 +132,10 @@ macro_rules! same_named {
             Ignore End
         ], $($other => $answer),+)
     };
-    (@arms $value:expr, $from:ident => $to:ident, [$($name:ident)+], $($other:pat => $answer:expr),+) => {
+    (
+        @arms $value:expr, $from:ident => $to:ident,
+        [$($name:ident)+], $($other:pat => $answer:expr),+
+    ) => {
         match $value {
             $($from::$name(choices) => $to::$name(choices),)+
             $($other => $answer,)+
@@ -165,7 +168,8 @@ impl Node for FormatDescriptionV3Inner<'_> {
 
 /// A deprecated component becomes the current one in its place.
 impl From<Component> for FormatDescriptionV3Inner<'_> {
-    ghost from_gives = { λ component inner. v3_tree inner ≡ of_component (current_component component) };
+    ghost from_gives = { λ component inner. v3_tree inner
+        ≡ of_component (current_component component) };
 
     fn from(component: Component) -> Self {
         same_named!(component.current(), Component => FormatDescriptionV3Inner,

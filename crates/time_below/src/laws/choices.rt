@@ -21,15 +21,23 @@ pub fn clones_of_dates()
 
 /// Clones of the choices of the year, its century and its last two digits.
 pub fn clones_of_years()
-    ensures calendar_year_full_extended_range { AreSame ⟦<modifier::CalendarYearFullExtendedRange as Clone>⟧.is_clone }
-    ensures calendar_year_full_standard_range { AreSame ⟦<modifier::CalendarYearFullStandardRange as Clone>⟧.is_clone }
-    ensures calendar_year_century_extended_range { AreSame ⟦<modifier::CalendarYearCenturyExtendedRange as Clone>⟧.is_clone }
-    ensures calendar_year_century_standard_range { AreSame ⟦<modifier::CalendarYearCenturyStandardRange as Clone>⟧.is_clone }
+    ensures calendar_year_full_extended_range { AreSame
+        ⟦<modifier::CalendarYearFullExtendedRange as Clone>⟧.is_clone }
+    ensures calendar_year_full_standard_range { AreSame
+        ⟦<modifier::CalendarYearFullStandardRange as Clone>⟧.is_clone }
+    ensures calendar_year_century_extended_range { AreSame
+        ⟦<modifier::CalendarYearCenturyExtendedRange as Clone>⟧.is_clone }
+    ensures calendar_year_century_standard_range { AreSame
+        ⟦<modifier::CalendarYearCenturyStandardRange as Clone>⟧.is_clone }
     ensures calendar_year_last_two { AreSame ⟦<modifier::CalendarYearLastTwo as Clone>⟧.is_clone }
-    ensures iso_year_full_extended_range { AreSame ⟦<modifier::IsoYearFullExtendedRange as Clone>⟧.is_clone }
-    ensures iso_year_full_standard_range { AreSame ⟦<modifier::IsoYearFullStandardRange as Clone>⟧.is_clone }
-    ensures iso_year_century_extended_range { AreSame ⟦<modifier::IsoYearCenturyExtendedRange as Clone>⟧.is_clone }
-    ensures iso_year_century_standard_range { AreSame ⟦<modifier::IsoYearCenturyStandardRange as Clone>⟧.is_clone }
+    ensures iso_year_full_extended_range { AreSame
+        ⟦<modifier::IsoYearFullExtendedRange as Clone>⟧.is_clone }
+    ensures iso_year_full_standard_range { AreSame
+        ⟦<modifier::IsoYearFullStandardRange as Clone>⟧.is_clone }
+    ensures iso_year_century_extended_range { AreSame
+        ⟦<modifier::IsoYearCenturyExtendedRange as Clone>⟧.is_clone }
+    ensures iso_year_century_standard_range { AreSame
+        ⟦<modifier::IsoYearCenturyStandardRange as Clone>⟧.is_clone }
     ensures iso_year_last_two { AreSame ⟦<modifier::IsoYearLastTwo as Clone>⟧.is_clone }
 {}
 
@@ -45,7 +53,8 @@ pub fn clones_of_times()
     ensures offset_minute { AreSame ⟦<modifier::OffsetMinute as Clone>⟧.is_clone }
     ensures offset_second { AreSame ⟦<modifier::OffsetSecond as Clone>⟧.is_clone }
     ensures unix_timestamp_second { AreSame ⟦<modifier::UnixTimestampSecond as Clone>⟧.is_clone }
-    ensures unix_timestamp_millisecond { AreSame ⟦<modifier::UnixTimestampMillisecond as Clone>⟧.is_clone }
+    ensures unix_timestamp_millisecond { AreSame
+        ⟦<modifier::UnixTimestampMillisecond as Clone>⟧.is_clone }
     ensures ignore { AreSame ⟦<modifier::Ignore as Clone>⟧.is_clone }
     ensures end { AreSame ⟦<modifier::End as Clone>⟧.is_clone }
 {}
@@ -70,5 +79,6 @@ pub fn clones_of_kinds()
     ensures week_number_repr { AreSame ⟦<modifier::WeekNumberRepr as Clone>⟧.is_clone }
     ensures year_repr { AreSame ⟦<modifier::YearRepr as Clone>⟧.is_clone }
     ensures year_range { AreSame ⟦<modifier::YearRange as Clone>⟧.is_clone }
-    ensures unix_timestamp_precision { AreSame ⟦<modifier::UnixTimestampPrecision as Clone>⟧.is_clone }
+    ensures unix_timestamp_precision { AreSame
+        ⟦<modifier::UnixTimestampPrecision as Clone>⟧.is_clone }
 {}

@@ -47,9 +47,11 @@ impl Ord for OffsetDateTime {
 }
 
 impl PartialOrd for OffsetDateTime {
-    ghost partial_cmp = { as_partial_cmp (then_cmp (on local_unix_seconds int_cmp) (on (λ t. t.time.nanosecond) nat_cmp)) };
+    ghost partial_cmp = { as_partial_cmp
+        (then_cmp (on local_unix_seconds int_cmp) (on (λ t. t.time.nanosecond) nat_cmp)) };
 
-    ghost laws = { partial_order_from_own_ties (Prim.search (comparing, rules)) (Prim.search (comparing, rules)) };
+    ghost laws = { partial_order_from_own_ties (Prim.search (comparing, rules))
+        (Prim.search (comparing, rules)) };
 
     fn partial_cmp(&self, other: &OffsetDateTime) -> Option<Ordering> {
         Some(self.cmp(other))

@@ -36,14 +36,22 @@ impl OffsetDateTime {
 
     /// The start of the millisecond by the local clock.
     pub fn truncate_to_millisecond(self) -> OffsetDateTime
-        ensures { result ≡ record self { time = record self.time { nanosecond = self.time.nanosecond / 1_000_000 * 1_000_000 } } }
+        ensures { result ≡ record self {
+          time = record self.time {
+            nanosecond = self.time.nanosecond / 1_000_000 * 1_000_000;
+          };
+        } }
     {
         self.replace_time(self.time.truncate_to_millisecond())
     }
 
     /// The start of the microsecond by the local clock.
     pub fn truncate_to_microsecond(self) -> OffsetDateTime
-        ensures { result ≡ record self { time = record self.time { nanosecond = self.time.nanosecond / 1_000 * 1_000 } } }
+        ensures { result ≡ record self {
+          time = record self.time {
+            nanosecond = self.time.nanosecond / 1_000 * 1_000;
+          };
+        } }
     {
         self.replace_time(self.time.truncate_to_microsecond())
     }

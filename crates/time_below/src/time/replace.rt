@@ -22,7 +22,8 @@ impl Time {
     pub fn replace_minute(self, minute: u8) -> Result<Time, ComponentRange>
         ensures accepted { IsOk result ↔ (minute < 60) }
         ensures value { IfOk result (λ t. t ≡ record self { minute = minute }) }
-        ensures refusal { IfErr result (λ e. range_refusal e ≡ unconditional_range (codes "minute")) }
+        ensures refusal { IfErr result
+            (λ e. range_refusal e ≡ unconditional_range (codes "minute")) }
     {
         if minute > 59 {
             return Err(ComponentRange::unconditional("minute"));
@@ -34,7 +35,8 @@ impl Time {
     pub fn replace_second(self, second: u8) -> Result<Time, ComponentRange>
         ensures accepted { IsOk result ↔ (second < 60) }
         ensures value { IfOk result (λ t. t ≡ record self { second = second }) }
-        ensures refusal { IfErr result (λ e. range_refusal e ≡ unconditional_range (codes "second")) }
+        ensures refusal { IfErr result
+            (λ e. range_refusal e ≡ unconditional_range (codes "second")) }
     {
         if second > 59 {
             return Err(ComponentRange::unconditional("second"));
@@ -46,7 +48,8 @@ impl Time {
     /// of the millisecond. Refuses any other as `millisecond`.
     pub fn replace_millisecond(self, millisecond: u16) -> Result<Time, ComponentRange>
         ensures accepted { IsOk result ↔ (millisecond < 1_000) }
-        ensures value { IfOk result (λ t. t ≡ record self { nanosecond = millisecond * 1_000_000 }) }
+        ensures value { IfOk result
+            (λ t. t ≡ record self { nanosecond = millisecond * 1_000_000 }) }
         ensures refusal { IfErr result (λ e. range_refusal e
             ≡ unconditional_range (codes "millisecond")) }
     {

@@ -36,14 +36,22 @@ impl UtcDateTime {
 
     /// The start of the millisecond.
     pub fn truncate_to_millisecond(self) -> UtcDateTime
-        ensures { result ≡ record self { time = record self.time { nanosecond = self.time.nanosecond / 1_000_000 * 1_000_000 } } }
+        ensures { result ≡ record self {
+          time = record self.time {
+            nanosecond = self.time.nanosecond / 1_000_000 * 1_000_000;
+          };
+        } }
     {
         self.replace_time(self.time.truncate_to_millisecond())
     }
 
     /// The start of the microsecond.
     pub fn truncate_to_microsecond(self) -> UtcDateTime
-        ensures { result ≡ record self { time = record self.time { nanosecond = self.time.nanosecond / 1_000 * 1_000 } } }
+        ensures { result ≡ record self {
+          time = record self.time {
+            nanosecond = self.time.nanosecond / 1_000 * 1_000;
+          };
+        } }
     {
         self.replace_time(self.time.truncate_to_microsecond())
     }
