@@ -11,7 +11,7 @@ use Rattle.time_describe.specs.declared.items.Nest.{Nest}
 use Rattle.time_describe.specs.declared.items.Nest.TheVariants as nests
 use Rattle.time_describe.specs.Literal.{literal_of}
 use Rattle.time_describe.specs.Marks.{past}
-use Rattle.time_describe.specs.Reading.{◌>>=◌, Frame, Place, outside, escape, brackets, between, read, fails, at_fault, with_word, nest_of, word_place, after_word, ended, finished, nested, takes_list, after_list, with_literal, is_special, is_escapable, within_limit, described}
+use Rattle.time_describe.specs.Reading.{◌>>=◌, Frame, BytePlace, outside, escape, brackets, between, read, fails, at_fault, with_word, nest_of, word_place, after_word, ended, finished, nested, takes_list, after_list, with_literal, is_special, is_escapable, within_limit, described}
 use Rattle.time_describe.proofs.CaseLemmas.{by_test, by_result}
 
 -- a fault, if there is one, is within so many bytes
@@ -37,7 +37,7 @@ abbrev FramesIn : ℕ → List Frame → Type 0
 FramesIn n [] = Unit {0}
 FramesIn n (f ∷ fs) = (0 < f.opened) × (f.opened ≤ n) × (0 < f.opened_list) × (f.opened_list ≤ n) × FramesIn n fs
 
-abbrev PlaceIn : ℕ → Place → ℕ → Type 0
+abbrev PlaceIn : ℕ → BytePlace → ℕ → Type 0
 PlaceIn n outside left = left ≤ n
 PlaceIn n escape left = left < n
 PlaceIn n (brackets o c word) left = (0 < o) × (o ≤ n) × (length word + left ≤ n)
@@ -58,7 +58,7 @@ made_at : (r : Result Component (Fault BracketReason)) (f : Fault BracketReason)
 made_at (Ok x) f e = absurd cc
 made_at (Err x) f e = let g : x ≡ f = same_fault (Err x) x f refl e in ap (λ (y : Fault BracketReason). Err y) g
 
-ended_at : (place : Place) (left : ℕ) (f : Fault BracketReason) → ended place left ≡ Err f → left ≡ f.left
+ended_at : (place : BytePlace) (left : ℕ) (f : Fault BracketReason) → ended place left ≡ Err f → left ≡ f.left
 ended_at outside left f e = ap (λ (y : Fault BracketReason). y.left) (same_fault (fails _ left) (record { reason = _; left = left }) f refl e)
 ended_at escape left f e = ap (λ (y : Fault BracketReason). y.left) (same_fault (fails _ left) (record { reason = _; left = left }) f refl e)
 ended_at (brackets o c word) left f e = reason_at (finished c) left f (made_at (at_fault (finished c) left) f e)
@@ -76,21 +76,21 @@ word_at : (o : ℕ) (c : Option Component) (word : List ℕ) (left : ℕ) (f : F
 word_at o c [] left f e = absurd cc
 word_at o c (b ∷ bs) left f e = place_at o c (b ∷ bs) (nest_of c (b ∷ bs)) left f e
 
-worded_in : (n m o : ℕ) (r : Result Component (Fault BracketReason)) (place : Place) → 0 < o → o ≤ n → m ≤ n → (r >>= λ c. Ok (brackets o (Some c) [])) ≡ Ok place → PlaceIn n place m
-worded_in n m o (Ok x) place some fits left e = let g : brackets o (Some x) [] ≡ place = cc in subst (λ (p : Place). PlaceIn n p m) g (some, fits, omega arith)
+worded_in : (n m o : ℕ) (r : Result Component (Fault BracketReason)) (place : BytePlace) → 0 < o → o ≤ n → m ≤ n → (r >>= λ c. Ok (brackets o (Some c) [])) ≡ Ok place → PlaceIn n place m
+worded_in n m o (Ok x) place some fits left e = let g : brackets o (Some x) [] ≡ place = cc in subst (λ (p : BytePlace). PlaceIn n p m) g (some, fits, omega arith)
 worded_in n m o (Err x) place some fits left e = absurd cc
 
-place_in : (n m o : ℕ) (c : Option Component) (word : List ℕ) (k : Option Nest) (left : ℕ) (place : Place) → 0 < o → o ≤ n → m ≤ n → word_place o c word k left ≡ Ok place → PlaceIn n place m
-place_in n m o c word (Some k) left place some fits after e = let g : between k o [] ≡ place = cc in subst (λ (p : Place). PlaceIn n p m) g (some, fits, after)
+place_in : (n m o : ℕ) (c : Option Component) (word : List ℕ) (k : Option Nest) (left : ℕ) (place : BytePlace) → 0 < o → o ≤ n → m ≤ n → word_place o c word k left ≡ Ok place → PlaceIn n place m
+place_in n m o c word (Some k) left place some fits after e = let g : between k o [] ≡ place = cc in subst (λ (p : BytePlace). PlaceIn n p m) g (some, fits, after)
 place_in n m o c word None left place some fits after e = worded_in n m o (at_fault (with_word c word) left) place some fits after e
 
-word_in : (n m o : ℕ) (c : Option Component) (word : List ℕ) (left : ℕ) (place : Place) → 0 < o → o ≤ n → m ≤ n → after_word o c word left ≡ Ok place → PlaceIn n place m
-word_in n m o c [] left place some fits after e = let g : brackets o c [] ≡ place = cc in subst (λ (p : Place). PlaceIn n p m) g (some, fits, omega arith)
+word_in : (n m o : ℕ) (c : Option Component) (word : List ℕ) (left : ℕ) (place : BytePlace) → 0 < o → o ≤ n → m ≤ n → after_word o c word left ≡ Ok place → PlaceIn n place m
+word_in n m o c [] left place some fits after e = let g : brackets o c [] ≡ place = cc in subst (λ (p : BytePlace). PlaceIn n p m) g (some, fits, omega arith)
 word_in n m o c (b ∷ bs) left place some fits after e = place_in n m o c (b ∷ bs) (nest_of c (b ∷ bs)) left place some fits after e
 
 -- ---- so each fault lies within the text
 
-pub read_in : (bs : List ℕ) (n : ℕ) (fs : List Frame) (place : Place) (items : List Tree) (literal : List ℕ) → FramesIn n fs → PlaceIn n place (length bs) → In n (read fs place items literal bs)
+pub read_in : (bs : List ℕ) (n : ℕ) (fs : List Frame) (place : BytePlace) (items : List Tree) (literal : List ℕ) → FramesIn n fs → PlaceIn n place (length bs) → In n (read fs place items literal bs)
 unfolding read
 read_in [] n [] outside items literal hf hp = ok_in _ n
 read_in [] n (f ∷ fs) outside items literal hf hp = fault_in _ n hf.2 hf.3

@@ -8,7 +8,7 @@ use Rattle.time_describe.specs.Conversions.{byte, component_of, composed, compos
 use Rattle.time_describe.specs.Items.{are_leaves}
 use Rattle.time_describe.specs.Literal.{literal_of}
 use Rattle.time_describe.specs.Strftime.{described, is_percent}
-use Rattle.time_describe.specs.StrftimeGrammar.{Means, Part, converted, digit_and_n, colon_and_z, flag_and_letter, letter, literal, numbered, part_meaning}
+use Rattle.time_describe.specs.StrftimeGrammar.{Means, SpelledPart, converted, digit_and_n, colon_and_z, flag_and_letter, letter, literal, numbered, part_meaning}
 use Rattle.time_describe.proofs.LeafLemmas.{composed_leaves, leaves_more, literal_before, offset_leaves}
 use Rattle.time_describe.proofs.StrftimeLaws.{read_spelled}
 
@@ -47,7 +47,7 @@ literal_or_none : (has_percent : Bool) (bytes : List ℕ) → AreLeaves (if has_
 literal_or_none true bytes = no_leaves
 literal_or_none false bytes = some_leaves (literal_of bytes ∷ []) (literal_before bytes [] refl)
 
-meaning_leaves : (p : Part) → AreLeaves (part_meaning p)
+meaning_leaves : (p : SpelledPart) → AreLeaves (part_meaning p)
 meaning_leaves (literal []) = no_leaves
 meaning_leaves (literal (b ∷ bs)) = literal_or_none (list_any is_percent (b ∷ bs)) (b ∷ bs)
 meaning_leaves (converted (letter c)) = letter_leaves c
@@ -55,7 +55,7 @@ meaning_leaves (converted (flag_and_letter f c)) = numbered_leaves c (flag_named
 meaning_leaves (converted colon_and_z) = some_leaves (offset true) (offset_leaves true)
 meaning_leaves (converted (digit_and_n d)) = mapped_leaves (λ n. fraction (Some n) ∷ []) (width d) (λ n. refl)
 
-means_leaves : (ps : List Part) (before all : List Tree) → IsTrue (are_leaves before) → Means before ps all → IsTrue (are_leaves all)
+means_leaves : (ps : List SpelledPart) (before all : List Tree) → IsTrue (are_leaves before) → Means before ps all → IsTrue (are_leaves all)
 means_leaves [] before all h m = subst (λ (ts : List Tree). IsTrue (are_leaves ts)) m h
 means_leaves (p ∷ ps) before all h m = means_leaves ps (before ++ m.0) all (leaves_more before m.0 h (meaning_leaves p m.0 m.1)) m.3
 

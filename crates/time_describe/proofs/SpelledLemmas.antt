@@ -16,7 +16,7 @@ use Rattle.time_describe.specs.Literal.{literal_of}
 use Rattle.time_describe.specs.Marks.{past}
 use Rattle.time_describe.specs.Names.{named}
 use Rattle.time_describe.specs.Pieces.{ends_literal}
-use Rattle.time_describe.specs.Reading.{◌>>=◌, Frame, Place, outside, escape, brackets, between, read, at_fault, of_name, with_word, keyword, word_place, ended, is_whole, nested, takes_list, after_list, with_literal, is_special, is_escapable, ends_word, within_limit, IsWithinLimit, described}
+use Rattle.time_describe.specs.Reading.{◌>>=◌, Frame, BytePlace, outside, escape, brackets, between, read, at_fault, of_name, with_word, keyword, word_place, ended, is_whole, nested, takes_list, after_list, with_literal, is_special, is_escapable, ends_word, within_limit, IsWithinLimit, described}
 use Rattle.time_describe.proofs.CaseLemmas.{by_test}
 
 -- what holds where reading gives these items
@@ -128,7 +128,7 @@ InBrackets depth E None (x ∷ xs) items bs = InName depth E (x ∷ xs) items bs
 InBrackets depth E (Some c) [] items bs = Loose depth E c items bs
 InBrackets depth E (Some c) (x ∷ xs) items bs = InWord depth E c (x ∷ xs) items bs
 
-abbrev Spelled : List Tree → List Frame → Place → List Tree → List ℕ → List ℕ → Type 0
+abbrev Spelled : List Tree → List Frame → BytePlace → List Tree → List ℕ → List ℕ → Type 0
 Spelled all fs outside items literal bs = Out (length fs) (Ends all fs) items literal bs
 Spelled all fs escape items literal bs = Behind (length fs) (Ends all fs) items bs
 Spelled all fs (brackets o c word) items literal bs = InBrackets (length fs) (Ends all fs) c word items bs
@@ -353,14 +353,14 @@ lists_closed b bs n ts items left go e later = lists_step (nested n ts left) b b
 -- ---- where a word ends
 
 -- where a name has ended, reading goes on from the place behind it
-component_step : {depth : ℕ} {E : List Tree → List ℕ → Type 0} {all : List Tree} (made : Option Component) (word : List ℕ) (o left : ℕ) (items : List Tree) (bs : List ℕ) (go : Place → Result (List Tree) (Fault BracketReason))
+component_step : {depth : ℕ} {E : List Tree → List ℕ → Type 0} {all : List Tree} (made : Option Component) (word : List ℕ) (o left : ℕ) (items : List Tree) (bs : List ℕ) (go : BytePlace → Result (List Tree) (Fault BracketReason))
     → named word ≡ made → keyword word ≡ None
     → ((c : Component) → Gives all (Strict depth E c items bs) (go (brackets o (Some c) [])))
     → Gives all (InName depth E word items bs) ((at_fault (of_name made) left >>= λ c. Ok (brackets o (Some c) [])) >>= go)
 component_step {all = all} None word o left items bs go is none later = never all _
 component_step (Some c) word o left items bs go is none later = along (λ h. name_ended word (inl (none, c, is, h))) (later c)
 
-name_step : {depth : ℕ} {E : List Tree → List ℕ → Type 0} {all : List Tree} (k : Option Nest) (word : List ℕ) (o left : ℕ) (items : List Tree) (bs : List ℕ) (go : Place → Result (List Tree) (Fault BracketReason))
+name_step : {depth : ℕ} {E : List Tree → List ℕ → Type 0} {all : List Tree} (k : Option Nest) (word : List ℕ) (o left : ℕ) (items : List Tree) (bs : List ℕ) (go : BytePlace → Result (List Tree) (Fault BracketReason))
     → keyword word ≡ k
     → ((c : Component) → Gives all (Strict depth E c items bs) (go (brackets o (Some c) [])))
     → ((n : Nest) → Gives all ((h : Between depth E n [] items bs) × IsApart h.lists) (go (between n o [])))
@@ -368,7 +368,7 @@ name_step : {depth : ℕ} {E : List Tree → List ℕ → Type 0} {all : List Tr
 name_step (Some n) word o left items bs go is later lists = along (λ h. name_ended word (inr (n, is, record { between = h.0; apart = h.1 }))) (lists n)
 name_step None word o left items bs go is later lists = component_step (named word) word o left items bs go refl is later
 
-choice_step : {depth : ℕ} {E : List Tree → List ℕ → Type 0} {all : List Tree} (r : Result Component BracketReason) (c : Component) (word : List ℕ) (o left : ℕ) (items : List Tree) (bs : List ℕ) (go : Place → Result (List Tree) (Fault BracketReason))
+choice_step : {depth : ℕ} {E : List Tree → List ℕ → Type 0} {all : List Tree} (r : Result Component BracketReason) (c : Component) (word : List ℕ) (o left : ℕ) (items : List Tree) (bs : List ℕ) (go : BytePlace → Result (List Tree) (Fault BracketReason))
     → with_word (Some c) word ≡ r
     → ((next : Component) → Gives all (Strict depth E next items bs) (go (brackets o (Some next) [])))
     → Gives all (InWord depth E c word items bs) ((at_fault r left >>= λ c. Ok (brackets o (Some c) [])) >>= go)
@@ -407,7 +407,7 @@ list_opened all f fs b bs e takes deep h =
       out = w.out;
     }
 
-spelled : (bs : List ℕ) (all : List Tree) (fs : List Frame) (place : Place) (items : List Tree) (literal : List ℕ) → Gives all (Spelled all fs place items literal bs) (read fs place items literal bs)
+spelled : (bs : List ℕ) (all : List Tree) (fs : List Frame) (place : BytePlace) (items : List Tree) (literal : List ℕ) → Gives all (Spelled all fs place items literal bs) (read fs place items literal bs)
 unfolding read
 spelled [] all [] outside items literal = record { at = λ e. record { parts = done; inner = with_literal items literal; after = []; spelled = refl; means = refl; ends = (refl, cc) } }
 spelled [] all (f ∷ fs) outside items literal = never all _

@@ -12,17 +12,17 @@ use Rattle.time_describe.specs.Description.{LiesWithin}
 use Rattle.time_describe.specs.declared.fault.Fault.{Fault}
 use Rattle.time_describe.specs.declared.strftime.reason.StrftimeReason.TheVariants.{TooManyItems}
 use Rattle.time_describe.specs.Strftime.{Front, is_percent, first_part, bounded, read, described, fails, ◌>>=◌}
-use Rattle.time_describe.specs.StrftimeGrammar.{letter, Part, literal, converted, part_spelling, spelling, part_meaning, begins_with_literal, is_literal, Means}
+use Rattle.time_describe.specs.StrftimeGrammar.{letter, SpelledPart, literal, converted, part_spelling, spelling, part_meaning, begins_with_literal, is_literal, Means}
 use Rattle.time_describe.proofs.StrftimeLemmas.{read_end, part_read, part_exceeds}
 use Rattle.time_describe.proofs.StrftimeParts.{part_found, part_fits, part_first}
 
 -- ---- what is spelled is read
 
-grows : (ps : List Part) (before all : List Tree) → Means before ps all → length before ≤ length all
+grows : (ps : List SpelledPart) (before all : List Tree) → Means before ps all → length before ≤ length all
 grows [] before all h = let same : length before ≡ length all = ap length h in omega arith
 grows (p ∷ ps) before all h = omega (arith, grows ps (before ++ h.0) all h.3, length-append before h.0)
 
-pub spelled_read : (ps : List Part) (before all : List Tree) → Means before ps all → length all ≤ most_items → read before 0 (spelling ps) ≡ Ok all
+pub spelled_read : (ps : List SpelledPart) (before all : List Tree) → Means before ps all → length all ≤ most_items → read before 0 (spelling ps) ≡ Ok all
 spelled_read [] before all h few = read_end before 0 ∙ ap (λ (v : List Tree). Ok v) h
 spelled_read (p ∷ ps) before all h few =
     let w = part_first p ps h.0 h.1 h.2 in
@@ -35,7 +35,7 @@ spelled_read (p ∷ ps) before all h few =
 abbrev Exceeds : Result (List Tree) (Fault StrftimeReason) → Type 0
 Exceeds r = (left : ℕ) × (r ≡ fails TooManyItems left)
 
-exceeds_by : (test : Bool) (p : Part) (ps : List Part) (before items all : List Tree) → nat_le (length (before ++ items)) most_items ≡ test → part_meaning p ≡ Some items → (is_literal p && begins_with_literal ps) ≡ false
+exceeds_by : (test : Bool) (p : SpelledPart) (ps : List SpelledPart) (before items all : List Tree) → nat_le (length (before ++ items)) most_items ≡ test → part_meaning p ≡ Some items → (is_literal p && begins_with_literal ps) ≡ false
     → (length (before ++ items) ≤ most_items → Exceeds (read (before ++ items) 0 (spelling ps))) → Exceeds (read before 0 (spelling (p ∷ ps)))
 exceeds_by true p ps before items all test means ends later =
     let fits : length (before ++ items) ≤ most_items = leb-true _ _ test in
@@ -46,7 +46,7 @@ exceeds_by false p ps before items all test means ends later =
     let w = part_first p ps items means ends in
     (length (spelling (p ∷ ps)), part_exceeds before (before ++ items) (spelling (p ∷ ps)) (record { items = items; behind = w.behind }) w.some w.part refl (leb-false _ _ test))
 
-pub spelled_exceeds : (ps : List Part) (before all : List Tree) → Means before ps all → most_items < length all → length before ≤ most_items → Exceeds (read before 0 (spelling ps))
+pub spelled_exceeds : (ps : List SpelledPart) (before all : List Tree) → Means before ps all → most_items < length all → length before ≤ most_items → Exceeds (read before 0 (spelling ps))
 spelled_exceeds [] before all h many few = let same : length before ≡ length all = ap length h in absurd (omega arith)
 spelled_exceeds (p ∷ ps) before all h many few =
     exceeds_by (nat_le (length (before ++ h.0)) most_items) p ps before h.0 all refl h.1 h.2 (λ fits. spelled_exceeds ps (before ++ h.0) all h.3 many fits)
@@ -93,10 +93,10 @@ step_by (Ok now) before all b bs f is room e =
     ap (λ (v : List Tree). read v f.behind bs) (sym w.0) ∙ g
 
 abbrev Spelled : List Tree → List ℕ → List Tree → Type 0
-Spelled before text all = (ps : List Part) × (spelling ps ≡ text) × Means before ps all
+Spelled before text all = (ps : List SpelledPart) × (spelling ps ≡ text) × Means before ps all
 
 -- two literals side by side would have a byte between them
-apart : (p : Part) (ps : List Part) (before all : List Tree) (rest : List ℕ) → spelling ps ≡ rest → Means before ps all → (is_literal p ≡ true → (d : ℕ) (ds : List ℕ) → rest ≡ d ∷ ds → is_percent d ≡ true)
+apart : (p : SpelledPart) (ps : List SpelledPart) (before all : List Tree) (rest : List ℕ) → spelling ps ≡ rest → Means before ps all → (is_literal p ≡ true → (d : ℕ) (ds : List ℕ) → rest ≡ d ∷ ds → is_percent d ≡ true)
     → (is_literal p && begins_with_literal ps) ≡ false
 apart (converted v) ps before all rest is h ends = refl
 apart (literal bytes) [] before all rest is h ends = refl
@@ -129,7 +129,7 @@ none_dropped : (n : ℕ) → drop n nothing_left ≡ []
 none_dropped zero = refl
 none_dropped (suc n) = refl
 
-pub read_spelled : (text : List ℕ) (n : ℕ) (before all : List Tree) → read before n text ≡ Ok all → (ps : List Part) × (spelling ps ≡ drop n text) × Means before ps all
+pub read_spelled : (text : List ℕ) (n : ℕ) (before all : List Tree) → read before n text ≡ Ok all → (ps : List SpelledPart) × (spelling ps ≡ drop n text) × Means before ps all
 read_spelled [] n before all e =
     let g = sym (read_end before n) ∙ e in
     let same : before ≡ all = cc in

@@ -13,7 +13,7 @@ use Rattle.time_describe.specs.declared.strftime.reason.StrftimeReason.{Strftime
 use Rattle.time_describe.specs.Description.{LiesWithin}
 use Rattle.time_describe.specs.declared.fault.Fault.{Fault}
 use Rattle.time_describe.specs.Strftime.{Front, is_percent, front, conversion, first_part}
-use Rattle.time_describe.specs.StrftimeGrammar.{Part, literal, converted, letter, behind_percent, part_spelling, spelling, part_meaning, begins_with_literal, is_literal}
+use Rattle.time_describe.specs.StrftimeGrammar.{SpelledPart, literal, converted, letter, behind_percent, part_spelling, spelling, part_meaning, begins_with_literal, is_literal}
 use Rattle.time_describe.proofs.PlaceLemmas.{place_inside}
 use Rattle.time_describe.proofs.ReadLemmas.{stops}
 use Rattle.time_describe.proofs.StrftimeConversions.{Spells, conversion_found, conversion_fits, conversion_read}
@@ -38,7 +38,7 @@ letter_first c bs x is =
 
 -- a part and what follows it: behind a literal a percent sign or nothing
 pub record Found (b : ℕ) (bs : List ℕ) (f : Front) : Type 0 where
-  pub found : Part
+  pub found : SpelledPart
   pub spelled : part_spelling found ++ drop f.behind bs ≡ b ∷ bs
   pub means : part_meaning found ≡ Some f.items
   pub ends : is_literal found ≡ true → (d : ℕ) (ds : List ℕ) → drop f.behind bs ≡ d ∷ ds → is_percent d ≡ true
@@ -117,12 +117,12 @@ run [] ys none = omega arith
 run (x ∷ xs) ys none = run_step (is_percent x) x xs ys refl none (λ g. run xs ys g)
 
 -- a text that does not begin with a literal begins with a percent sign, or is empty
-no_run : (ps : List Part) → begins_with_literal ps ≡ false → position_or_len is_percent (spelling ps) ≡ 0
+no_run : (ps : List SpelledPart) → begins_with_literal ps ≡ false → position_or_len is_percent (spelling ps) ≡ 0
 no_run [] e = refl
 no_run (literal bytes ∷ ps) e = absurd cc
 no_run (converted v ∷ ps) e = refl
 
-literal_first : (any : Bool) (b : ℕ) (xs : List ℕ) (ps : List Part) (items : List Tree) → list_any is_percent (b ∷ xs) ≡ any → part_meaning (literal (b ∷ xs)) ≡ Some items → begins_with_literal ps ≡ false
+literal_first : (any : Bool) (b : ℕ) (xs : List ℕ) (ps : List SpelledPart) (items : List Tree) → list_any is_percent (b ∷ xs) ≡ any → part_meaning (literal (b ∷ xs)) ≡ Some items → begins_with_literal ps ≡ false
     → IsFirst ((b ∷ xs) ++ spelling ps) items (spelling ps)
 literal_first true b xs ps items any means ends = let g : None ≡ Some items = rw any at means in absurd cc
 literal_first false b xs ps items any means ends =
@@ -145,7 +145,7 @@ literal_first false b xs ps items any means ends =
     neither true y e = absurd cc
     neither false y e = (refl, e)
 
-pub part_first : (p : Part) (ps : List Part) (items : List Tree) → part_meaning p ≡ Some items → (is_literal p && begins_with_literal ps) ≡ false
+pub part_first : (p : SpelledPart) (ps : List SpelledPart) (items : List Tree) → part_meaning p ≡ Some items → (is_literal p && begins_with_literal ps) ≡ false
     → IsFirst (spelling (p ∷ ps)) items (spelling ps)
 part_first (literal []) ps items means ends = absurd cc
 part_first (literal (b ∷ xs)) ps items means ends = literal_first (list_any is_percent (b ∷ xs)) b xs ps items refl means ends

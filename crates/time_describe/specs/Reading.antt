@@ -91,18 +91,18 @@ pub record Frame : Type 0 where
 
 -- Where the next byte stands: outside of brackets; behind a backslash; in brackets, with how many bytes are left from
 -- the opening one on, the component so far, and the word so far; between lists of items, with these before it.
-pub data Place : Type 0 where
-  outside : Place
-  escape : Place
-  brackets : ℕ → Option Component → List ℕ → Place
-  between : Nest → ℕ → List Tree → Place
+pub data BytePlace : Type 0 where
+  outside : BytePlace
+  escape : BytePlace
+  brackets : ℕ → Option Component → List ℕ → BytePlace
+  between : Nest → ℕ → List Tree → BytePlace
 
 -- where a word ends, if it has bytes
-abbrev pub word_place : ℕ → Option Component → List ℕ → Option Nest → ℕ → Result Place (Fault BracketReason)
+abbrev pub word_place : ℕ → Option Component → List ℕ → Option Nest → ℕ → Result BytePlace (Fault BracketReason)
 word_place opened c word (Some n) left = Ok (between n opened [])
 word_place opened c word None left = at_fault (with_word c word) left >>= λ c. Ok (brackets opened (Some c) [])
 
-abbrev pub after_word : ℕ → Option Component → List ℕ → ℕ → Result Place (Fault BracketReason)
+abbrev pub after_word : ℕ → Option Component → List ℕ → ℕ → Result BytePlace (Fault BracketReason)
 after_word opened c [] left = Ok (brackets opened c [])
 after_word opened c (b ∷ bs) left = word_place opened c (b ∷ bs) (nest_of c (b ∷ bs)) left
 
@@ -128,7 +128,7 @@ finished None = Err MissingName
 finished (Some c) = if is_whole c then Ok (current_component c) else Err MissingModifier
 
 -- the item that ends there
-abbrev pub ended : Place → ℕ → Result Tree (Fault BracketReason)
+abbrev pub ended : BytePlace → ℕ → Result Tree (Fault BracketReason)
 ended (brackets opened c word) left = at_fault (finished c) left >>= λ made. Ok (of_component made)
 ended (between n opened lists) left = nested n lists left
 ended outside left = fails MissingName left
@@ -140,11 +140,11 @@ with_literal items [] = items
 with_literal items (b ∷ bs) = items ++ literal_of (b ∷ bs) ∷ []
 
 -- the place behind a list that is closed
-abbrev pub after_list : Frame → List Tree → List ℕ → Place
+abbrev pub after_list : Frame → List Tree → List ℕ → BytePlace
 after_list f items literal = between f.nest f.opened (f.lists ++ all_of (trees (with_literal items literal)) ∷ [])
 
 -- the items of a text whose next byte stands there, in these lists, after these items and a literal so far
-unfoldable pub read : List Frame → Place → List Tree → List ℕ → List ℕ → Result (List Tree) (Fault BracketReason)
+unfoldable pub read : List Frame → BytePlace → List Tree → List ℕ → List ℕ → Result (List Tree) (Fault BracketReason)
 read [] outside items literal [] = Ok (with_literal items literal)
 read (f ∷ fs) outside items literal [] = fails UnclosedBracket f.opened_list
 read fs escape items literal [] = fails InvalidEscape 1

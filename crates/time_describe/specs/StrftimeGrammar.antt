@@ -15,9 +15,9 @@ pub data Conversion : Type 0 where
   digit_and_n : ℕ → Conversion
 
 -- a text is literals and conversions
-pub data Part : Type 0 where
-  literal : List ℕ → Part
-  converted : Conversion → Part
+pub data SpelledPart : Type 0 where
+  literal : List ℕ → SpelledPart
+  converted : Conversion → SpelledPart
 
 abbrev pub behind_percent : Conversion → List ℕ
 behind_percent (letter c) = c ∷ []
@@ -25,11 +25,11 @@ behind_percent (flag_and_letter f c) = f ∷ c ∷ []
 behind_percent colon_and_z = colon ∷ byte (codes "z") ∷ []
 behind_percent (digit_and_n d) = d ∷ byte (codes "N") ∷ []
 
-abbrev pub part_spelling : Part → List ℕ
+abbrev pub part_spelling : SpelledPart → List ℕ
 part_spelling (literal bytes) = bytes
 part_spelling (converted v) = byte (codes "%") ∷ behind_percent v
 
-abbrev pub spelling : List Part → List ℕ
+abbrev pub spelling : List SpelledPart → List ℕ
 spelling [] = []
 spelling (p ∷ ps) = part_spelling p ++ spelling ps
 
@@ -47,23 +47,23 @@ meaning colon_and_z = Some (offset true)
 meaning (digit_and_n d) = option_map (λ n. fraction (Some n) ∷ []) (width d)
 
 -- a literal has bytes, and no percent sign
-abbrev pub part_meaning : Part → Option (List Tree)
+abbrev pub part_meaning : SpelledPart → Option (List Tree)
 part_meaning (literal []) = None
 part_meaning (literal (b ∷ bs)) = if list_any is_percent (b ∷ bs) then None else Some (literal_of (b ∷ bs) ∷ [])
 part_meaning (converted v) = meaning v
 
 -- two literals side by side are one
-abbrev pub begins_with_literal : List Part → Bool
+abbrev pub begins_with_literal : List SpelledPart → Bool
 begins_with_literal [] = false
 begins_with_literal (literal bytes ∷ ps) = true
 begins_with_literal (converted v ∷ ps) = false
 
-abbrev pub is_literal : Part → Bool
+abbrev pub is_literal : SpelledPart → Bool
 is_literal (literal bytes) = true
 is_literal (converted v) = false
 
 -- these items, after others
-abbrev pub Means : List Tree → List Part → List Tree → Type 0
+abbrev pub Means : List Tree → List SpelledPart → List Tree → Type 0
 Means before [] all = before ≡ all
 Means before (p ∷ ps) all =
     (items : List Tree) × (part_meaning p ≡ Some items) × ((is_literal p && begins_with_literal ps) ≡ false)

@@ -10,11 +10,11 @@ use Rattle.time_describe.specs.Strftime.{Front, read}
 use Rattle.time_describe.specs.declared.fault.Fault.{Fault}
 use Rattle.time_describe.specs.declared.fault.Failure.{Failure}
 use Rattle.time_describe.specs.declared.strftime.reason.StrftimeReason.{StrftimeReason}
-use Rattle.time_describe.specs.declared.strftime.part.Part.{Part}
-use Rattle.time_describe.specs.declared.strftime.part.Part.TheVariants as part
+use Rattle.time_describe.specs.declared.strftime.part.StrftimePart.{StrftimePart}
+use Rattle.time_describe.specs.declared.strftime.part.StrftimePart.TheVariants as part
 
 -- the items of a part to which these bytes belong
-abbrev pub items_of_part : List ℕ → Part → List Tree
+abbrev pub items_of_part : List ℕ → StrftimePart → List Tree
 items_of_part own part.Literal = literal_of own ∷ []
 items_of_part own (part.Byte b) = literal_of (b ∷ []) ∷ []
 items_of_part own (part.Component c) = of_component c ∷ []
@@ -22,7 +22,7 @@ items_of_part own (part.Offset with_colon) = offset with_colon
 items_of_part own (part.Composition text) = composed text.now
 
 -- the part at the front of a text and how many bytes belong to it behind its first one, or its fault
-abbrev pub front_of : List ℕ → Result (Part × ℕ) (Fault StrftimeReason) → Result Front (Fault StrftimeReason)
+abbrev pub front_of : List ℕ → Result (StrftimePart × ℕ) (Fault StrftimeReason) → Result Front (Fault StrftimeReason)
 front_of text (Ok x) = Ok (record { items = items_of_part (take (x.1 + 1) text) x.0; behind = x.1 })
 front_of text (Err fault) = Err fault
 

@@ -62,12 +62,14 @@ pub trait Items {
     /// alone.
     fn len(&self) -> usize
         ensures { (text : List ℕ) (all : List Tree)
-            → IsTrue (are_leaves all) → Holds text [] self.now all → result ≡ min (length all) 0xffff_ffff_ffff_ffff };
+            → IsTrue (are_leaves all) → Holds text [] self.now all
+            → result ≡ min (length all) 0xffff_ffff_ffff_ffff };
 
     /// Begins brackets with lists.
     fn begin_lists(&mut self) -> Result<(), AllocError>
-        ensures begun { OnOk result ((text : List ℕ) (fs : List Frame) (nest : Nest) (items : List Tree)
-            → Holds text fs self.old items → HoldsLists text fs nest items self.new []) }
+        ensures begun { OnOk result ((text : List ℕ) (fs : List Frame) (nest : Nest)
+            (items : List Tree) → Holds text fs self.old items
+            → HoldsLists text fs nest items self.new []) }
         ensures refusal { IfErr result (λ _. IsTrue can_refuse) }
         ensures lender { lender self.new ≡ lender self.old };
 
@@ -80,16 +82,17 @@ pub trait Items {
 
     /// Closes the innermost list, if one is open, which stands in so many others.
     fn close_list(&mut self, depth: usize) -> Result<(), AllocError>
-        ensures closed { OnOk result ((text : List ℕ) (f : Frame) (fs : List Frame) (items : List Tree)
-            → depth ≡ length fs → Holds text (f ∷ fs) self.old items
+        ensures closed { OnOk result ((text : List ℕ) (f : Frame) (fs : List Frame)
+            (items : List Tree) → depth ≡ length fs → Holds text (f ∷ fs) self.old items
             → HoldsLists text fs f.nest f.items self.new (f.lists ++ all_of (trees items) ∷ [])) }
         ensures refusal { IfErr result (λ _. IsTrue can_refuse) }
         ensures lender { lender self.new ≡ lender self.old };
 
     /// Ends brackets with lists, if some were begun, and adds the item that they are.
     fn end_lists(&mut self, nest: Nest) -> Result<(), AllocError>
-        ensures ended { OnOk result ((text : List ℕ) (fs : List Frame) (items lists : List Tree) (left : ℕ) (item : Tree)
-            → HoldsLists text fs nest items self.old lists → reading.nested nest lists left ≡ Ok item
+        ensures ended { OnOk result ((text : List ℕ) (fs : List Frame) (items lists : List Tree)
+            (left : ℕ) (item : Tree) → HoldsLists text fs nest items self.old lists
+            → reading.nested nest lists left ≡ Ok item
             → Holds text fs self.new (items ++ item ∷ [])) }
         ensures refusal { IfErr result (λ _. IsTrue can_refuse) }
         ensures lender { lender self.new ≡ lender self.old };

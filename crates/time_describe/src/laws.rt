@@ -9,8 +9,8 @@ ghost use Rattle.time_describe.specs.Limit.{most_items};
 ghost use Rattle.time_describe.specs.Reading.{described, IsWithinLimit};
 ghost use Rattle.time_describe.specs.Strftime as strftime;
 ghost use Rattle.time_describe.specs.StrftimeGrammar as strftime_grammar;
-ghost use Rattle.time_describe.specs.StrftimeGrammar.{Part};
-ghost use Rattle.time_describe.specs.declared.strftime.reason.StrftimeReason.TheVariants as StrftimeReason;
+ghost use Rattle.time_describe.specs.StrftimeGrammar.{SpelledPart};
+ghost use Rattle.time_describe.specs.declared.strftime.reason.StrftimeReason.TheVariants as reasons;
 
 use crate::brackets::in_text::InText;
 use crate::brackets::reason::BracketReason;
@@ -20,7 +20,8 @@ use crate::strftime::reason::StrftimeReason;
 
 /// Each text that the grammar spells is a description, of the items that the grammar says.
 pub fn what_is_spelled_is_described()
-    ensures { (ps : Parts) (all : List Tree) → Means 0 [] [] ps all → IsWithinLimit (spelling ps []) → described (spelling ps []) ≡ Ok all }
+    ensures { (ps : Parts) (all : List Tree) → Means 0 [] [] ps all
+        → IsWithinLimit (spelling ps []) → described (spelling ps []) ≡ Ok all }
 {}
 
 /// Nothing else is: each description is what the grammar spells, with these items.
@@ -32,20 +33,22 @@ pub fn what_is_described_is_spelled()
 /// Each text that the grammar of strftime spells is a description, of the items that the grammar
 /// says, where they are at most 65,536.
 pub fn what_strftime_spells_is_described()
-    ensures { (ps : List Part) (all : List Tree) → strftime_grammar.Means [] ps all → length all ≤ most_items
-        → strftime.described (strftime_grammar.spelling ps) ≡ Ok all }
+    ensures { (ps : List SpelledPart) (all : List Tree) → strftime_grammar.Means [] ps all
+        → length all ≤ most_items → strftime.described (strftime_grammar.spelling ps) ≡ Ok all }
 {}
 
 /// Where they are more, that alone is the fault.
 pub fn what_strftime_spells_may_have_too_many_items()
-    ensures { (ps : List Part) (all : List Tree) → strftime_grammar.Means [] ps all → most_items < length all
-        → (left : ℕ) × (strftime.described (strftime_grammar.spelling ps) ≡ strftime.fails StrftimeReason.TooManyItems left) }
+    ensures { (ps : List SpelledPart) (all : List Tree) → strftime_grammar.Means [] ps all
+        → most_items < length all → (left : ℕ) × (strftime.described (strftime_grammar.spelling ps)
+        ≡ strftime.fails reasons.TooManyItems left) }
 {}
 
 /// Nothing else is: each description is what the grammar of strftime spells, with these items.
 pub fn what_strftime_describes_is_spelled()
     ensures { (text : List ℕ) (all : List Tree) → strftime.described text ≡ Ok all
-        → (ps : List Part) × (strftime_grammar.spelling ps ≡ text) × strftime_grammar.Means [] ps all × (length all ≤ most_items) }
+        → (ps : List SpelledPart) × (strftime_grammar.spelling ps ≡ text)
+        × strftime_grammar.Means [] ps all × (length all ≤ most_items) }
 {}
 
 /// No item of a text in the syntax of strftime is a list.
@@ -56,7 +59,8 @@ pub fn what_strftime_describes_has_no_list()
 
 /// A composition is what its text describes.
 pub fn what_a_composition_means()
-    ensures { (letter : ℕ) (text : List ℕ) → composition letter ≡ Some text → strftime.described text ≡ Ok (composed text) }
+    ensures { (letter : ℕ) (text : List ℕ) → composition letter ≡ Some text
+        → strftime.described text ≡ Ok (composed text) }
 {}
 
 /// A clone of what is wrong, of an error or of what lists in brackets are is the same.

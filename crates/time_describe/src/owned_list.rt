@@ -55,7 +55,8 @@ fn put_literal(
     items: &mut Vec<OwnedFormatItem>,
     bytes: &[u8],
 ) -> Result<(), AllocError>
-    ensures { OnOk result (map owned_tree items.new.items ≡ map owned_tree items.old.items ++ literal_of bytes.now ∷ []) }
+    ensures { OnOk result (map owned_tree items.new.items
+        ≡ map owned_tree items.old.items ++ literal_of bytes.now ∷ []) }
 {
     items.push(literal(alloc, bytes)?)?;
     Ok(())
@@ -63,7 +64,8 @@ fn put_literal(
 
 /// Adds a component.
 fn put_component(items: &mut Vec<OwnedFormatItem>, component: Component) -> Result<(), AllocError>
-    ensures { OnOk result (map owned_tree items.new.items ≡ map owned_tree items.old.items ++ of_component component ∷ []) }
+    ensures { OnOk result (map owned_tree items.new.items
+        ≡ map owned_tree items.old.items ++ of_component component ∷ []) }
 {
     items.push(OwnedFormatItem::Component(component))?;
     Ok(())
@@ -76,7 +78,8 @@ fn nested(
     mut lists: Vec<OwnedFormatItem>,
 ) -> Result<OwnedFormatItem, AllocError>
     ensures { IfOk result (λ item. (left : ℕ) (tree : Tree)
-        → reading.nested nest (map owned_tree lists.items) left ≡ Ok tree → owned_tree item ≡ tree) }
+        → reading.nested nest (map owned_tree lists.items) left ≡ Ok tree
+        → owned_tree item ≡ tree) }
 {
     match nest {
         Nest::Optional if !lists.is_empty() => {
@@ -90,7 +93,8 @@ fn nested(
 impl Items for OwnedList {
     ghost Holds = { λ _ fs list items. HoldsOwned fs list.items list.outer items };
 
-    ghost HoldsLists = { λ _ fs _ items list lists. HoldsOwnedLists fs items list.items list.outer lists };
+    ghost HoldsLists = { λ _ fs _ items list lists.
+        HoldsOwnedLists fs items list.items list.outer lists };
 
     ghost can_refuse = { true };
 

@@ -28,7 +28,7 @@ mod conversions;
 pub mod part;
 pub mod reason;
 
-use part::{Part, component_of, first_part};
+use part::{StrftimePart, component_of, first_part};
 use reason::StrftimeReason;
 
 /// The syntax of strftime.
@@ -87,7 +87,7 @@ fn put_part<I: Items>(
     text: &[u8],
     start: usize,
     len: usize,
-    part: Part<'_>,
+    part: StrftimePart<'_>,
 ) -> Result<(), AllocError>
     requires within { start + len ≤ length text.now }
     ensures put { OnOk result (Adds (I.Holds text.now []) items.old items.new
@@ -96,11 +96,11 @@ fn put_part<I: Items>(
     ensures lender { I.lender items.new ≡ I.lender items.old }
 {
     match part {
-        Part::Literal => items.put_literal(text, start, len)?,
-        Part::Byte(byte) => items.put_byte(byte)?,
-        Part::Component(component) => items.put_component(component)?,
-        Part::Offset(with_colon) => put_offset(items, with_colon)?,
-        Part::Composition(composition) => put_composed(items, composition)?,
+        StrftimePart::Literal => items.put_literal(text, start, len)?,
+        StrftimePart::Byte(byte) => items.put_byte(byte)?,
+        StrftimePart::Component(component) => items.put_component(component)?,
+        StrftimePart::Offset(with_colon) => put_offset(items, with_colon)?,
+        StrftimePart::Composition(composition) => put_composed(items, composition)?,
     }
     Ok(())
 }
@@ -193,7 +193,8 @@ fn put_front<I: Items>(
 /// Reads the part at a position of the text, and returns the position after it.
 fn step<I: Items>(items: &mut I, text: &[u8], at: usize) -> Result<usize, Failure<StrftimeReason>>
     requires { at < length text.now }
-    ensures goes_on { (before : List Tree) → IsTrue (are_leaves before) → I.Holds text.now [] items.old before
+    ensures goes_on { (before : List Tree) → IsTrue (are_leaves before)
+        → I.Holds text.now [] items.old before
         → GoesOn I.can_refuse text.now (I.Holds text.now [] items.new) result
         (read before 0 (drop at text.now)) }
     ensures further { IfOk result (λ next. at < next) }

@@ -9,7 +9,7 @@ use Rattle.time_fmt.specs.Outcome.{Outcome, done, join}
 use Rattle.time_fmt.specs.Runs.{three_parts}
 use Rattle.time_plan.specs.Shown.{part_component}
 use Rattle.time_plan.specs.Steps.{IsAlike, Begins}
-use Rattle.time_plan.specs.declared.shown.Part.{Part}
+use Rattle.time_plan.specs.declared.shown.RunPart.{RunPart}
 use Rattle.time_plan.proofs.StepLemmas.{join_assoc, join_nothing}
 
 -- what is joined to three parts is joined to the last of them
@@ -24,7 +24,7 @@ regrouped a x b y c o =
     ∙ ap (join y) (ap (λ z. join z o) (join_nothing c))))))
 
 -- a component, a text of one byte and so on: three parts, and what is left
-three_begin : (p q r : Part) (x y : ℕ) (a b c : Tree) (left : Trees) → IsAlike a (of_component (part_component p))
+three_begin : (p q r : RunPart) (x y : ℕ) (a b c : Tree) (left : Trees) → IsAlike a (of_component (part_component p))
     → IsAlike b (of_component (part_component q)) → IsAlike c (of_component (part_component r))
     → Begins (more a (more (text_literal (x ∷ [])) (more b (more (text_literal (y ∷ [])) (more c left)))))
     (three_parts (part_component p) x (part_component q) y (part_component r)) left
@@ -43,7 +43,7 @@ three_begin p q r x y a b c left is_a is_b is_c = record {
 }
 
 -- so where the trees are those of five nodes
-pub run_begins : (p q r is_p is_q is_r : Part) (x y : ℕ) (a s b t c : Tree) (left : Trees)
+pub run_begins : (p q r is_p is_q is_r : RunPart) (x y : ℕ) (a s b t c : Tree) (left : Trees)
     → IsAlike a (of_component (part_component p)) → s ≡ text_literal (x ∷ [])
     → IsAlike b (of_component (part_component q)) → t ≡ text_literal (y ∷ [])
     → IsAlike c (of_component (part_component r)) → p ≡ is_p → q ≡ is_q → r ≡ is_r

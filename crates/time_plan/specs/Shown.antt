@@ -2,13 +2,13 @@
 use Rattle.time_below.specs.declared.format_description.component.Component.{Component}
 use Rattle.time_below.specs.Tree.{Tree, of_component}
 use Rattle.time_fmt.specs.Runs.{year_part, month_part, day_part, hour_part, minute_part, second_part, run_tree}
-use Rattle.time_plan.specs.declared.shown.Part.{Part}
-use Rattle.time_plan.specs.declared.shown.Part.TheVariants as part
+use Rattle.time_plan.specs.declared.shown.RunPart.{RunPart}
+use Rattle.time_plan.specs.declared.shown.RunPart.TheVariants as part
 use Rattle.time_plan.specs.declared.shown.Shown.{Shown}
 use Rattle.time_plan.specs.declared.shown.Shown.TheVariants as shown
 
 -- a part of a date or of a time of day
-abbrev pub part_component : Part → Component
+abbrev pub part_component : RunPart → Component
 part_component part.Year = year_part
 part_component part.Month = month_part
 part_component part.Day = day_part

@@ -19,16 +19,24 @@ pub fn plans_give_what_they_were_made_of(
     borrowed_list: BorrowedItems<'_>,
     owned_list: OwnedItems<'_>,
 )
-    ensures borrowed { (f : Facts) → ⟦<Plan as Formattable>⟧.outcome_of plan.now f ≡ tree_outcome (borrowed_tree borrowed.now) f
-        → ⟦<Plan as Formattable>⟧.outcome_of plan.now f ≡ ⟦<BorrowedFormatItem<'static> as Formattable>⟧.outcome_of borrowed.now f }
-    ensures owned { (f : Facts) → ⟦<Plan as Formattable>⟧.outcome_of plan.now f ≡ tree_outcome (owned_tree owned.now) f
-        → ⟦<Plan as Formattable>⟧.outcome_of plan.now f ≡ ⟦<OwnedFormatItem as Formattable>⟧.outcome_of owned.now f }
-    ensures v3 { (f : Facts) → ⟦<Plan as Formattable>⟧.outcome_of plan.now f ≡ tree_outcome (v3_tree v3.now) f
-        → ⟦<Plan as Formattable>⟧.outcome_of plan.now f ≡ ⟦<FormatDescriptionV3<'static> as Formattable>⟧.outcome_of v3.now f }
+    ensures borrowed { (f : Facts) → ⟦<Plan as Formattable>⟧.outcome_of plan.now f
+        ≡ tree_outcome (borrowed_tree borrowed.now) f
+        → ⟦<Plan as Formattable>⟧.outcome_of plan.now f
+        ≡ ⟦<BorrowedFormatItem<'static> as Formattable>⟧.outcome_of borrowed.now f }
+    ensures owned { (f : Facts) → ⟦<Plan as Formattable>⟧.outcome_of plan.now f
+        ≡ tree_outcome (owned_tree owned.now) f
+        → ⟦<Plan as Formattable>⟧.outcome_of plan.now f
+        ≡ ⟦<OwnedFormatItem as Formattable>⟧.outcome_of owned.now f }
+    ensures v3 { (f : Facts) → ⟦<Plan as Formattable>⟧.outcome_of plan.now f
+        ≡ tree_outcome (v3_tree v3.now) f
+        → ⟦<Plan as Formattable>⟧.outcome_of plan.now f
+        ≡ ⟦<FormatDescriptionV3<'static> as Formattable>⟧.outcome_of v3.now f }
     ensures borrowed_list { (f : Facts) → ⟦<Plan as Formattable>⟧.outcome_of plan.now f
         ≡ tree_outcome (all_of (trees (map borrowed_tree borrowed_list.entry.0.now))) f
-        → ⟦<Plan as Formattable>⟧.outcome_of plan.now f ≡ ⟦<BorrowedItems<'static> as Formattable>⟧.outcome_of borrowed_list.entry f }
+        → ⟦<Plan as Formattable>⟧.outcome_of plan.now f
+        ≡ ⟦<BorrowedItems<'static> as Formattable>⟧.outcome_of borrowed_list.entry f }
     ensures owned_list { (f : Facts) → ⟦<Plan as Formattable>⟧.outcome_of plan.now f
         ≡ tree_outcome (all_of (trees (map owned_tree owned_list.entry.0.now))) f
-        → ⟦<Plan as Formattable>⟧.outcome_of plan.now f ≡ ⟦<OwnedItems<'static> as Formattable>⟧.outcome_of owned_list.entry f }
+        → ⟦<Plan as Formattable>⟧.outcome_of plan.now f
+        ≡ ⟦<OwnedItems<'static> as Formattable>⟧.outcome_of owned_list.entry f }
 {}

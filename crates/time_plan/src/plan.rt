@@ -1,6 +1,6 @@
 //! Plans: descriptions that were flattened, with what is known of their texts.
 //!
-//! `cold` and `inline(never)` keep long or rare bodies out of their callers.
+//! `cold` keeps a rare body out of its callers.
 ghost use Rattle.std.specs.Prelude.{◌≡◌};
 ghost use Rattle.time_below.specs.Metadata.{trees_metadata};
 ghost use Rattle.time_below.specs.Width.{trees_width, are_guaranteed_text};
@@ -69,8 +69,10 @@ impl Plan {
     /// The steps, in order: a component or a run of them, and the literal after it.
     pub fn steps(&self) -> &[Step]
         ensures steps { result.now ≡ steps_of self.now }
-        ensures outcome { ⟦<Plan as Formattable>⟧.outcome_of self.now ≡ trees_outcome (step_trees result.now) }
-        ensures width { ⟦<Plan as ComputeMetadata>⟧.width_of self.now ≡ trees_width (step_trees result.now) }
+        ensures outcome { ⟦<Plan as Formattable>⟧.outcome_of self.now
+            ≡ trees_outcome (step_trees result.now) }
+        ensures width { ⟦<Plan as ComputeMetadata>⟧.width_of self.now
+            ≡ trees_width (step_trees result.now) }
     {
         self.steps.as_slice()
     }
@@ -110,7 +112,6 @@ fn likely_steps(items: usize) -> usize {
 
 /// The error of a refusal.
 #[cold]
-#[inline(never)]
 fn named(refused: Refused) -> Format
     ensures { Names result (refusal_of refused) }
 {

@@ -12,15 +12,14 @@ ghost use Rattle.time_fmt.specs.Runs.{run_tree};
 ghost use Rattle.time_plan.specs.Shown.{part_component};
 ghost use Rattle.time_plan.specs.Steps.{IsAlike, Begins};
 
-use crate::shown::Part;
+use crate::shown::RunPart;
 use time_below::format_description::{Component, Layer, Node, component_width};
 use time_fmt::{Run, Separators};
 
 /// The date or the time of day at the front of the nodes, and the nodes after it.
-#[inline(always)]
 pub(crate) fn run_of<T: Node>(nodes: &[T]) -> Option<(Run, &[T])>
-    ensures begins { IfSome result (λ found. Begins (trees (map T.tree nodes.now)) (run_tree found.0)
-        (trees (map T.tree found.1.now))) }
+    ensures begins { IfSome result (λ found. Begins (trees (map T.tree nodes.now))
+        (run_tree found.0) (trees (map T.tree found.1.now))) }
     ensures behind { IfSome result (λ found. found.1.now ≡ drop 5 nodes.now) }
 {
     let [first, before_second, second, before_third, third, ..] = nodes else {
@@ -33,7 +32,6 @@ pub(crate) fn run_of<T: Node>(nodes: &[T]) -> Option<(Run, &[T])>
 }
 
 /// The date or the time of day that five nodes are, if they are one.
-#[inline(always)]
 fn run_between<T: Node>(
     first: &T,
     before_second: &T,
@@ -41,8 +39,9 @@ fn run_between<T: Node>(
     before_third: &T,
     third: &T,
 ) -> Option<Run>
-    ensures { IfSome result (λ run. (left : Trees) → Begins (more (T.tree first.now) (more (T.tree before_second.now)
-        (more (T.tree second.now) (more (T.tree before_third.now) (more (T.tree third.now) left))))) (run_tree run) left) }
+    ensures { IfSome result (λ run. (left : Trees) → Begins
+        (more (T.tree first.now) (more (T.tree before_second.now) (more (T.tree second.now)
+        (more (T.tree before_third.now) (more (T.tree third.now) left))))) (run_tree run) left) }
 {
     let first = part_of(first)?;
     let between = Separators {
@@ -50,19 +49,20 @@ fn run_between<T: Node>(
         second: byte_of(before_third)?,
     };
     match (first, part_of(second)?, part_of(third)?) {
-        (Part::Year, Part::Month, Part::Day) => Some(Run::Date(between)),
-        (Part::Hour, Part::Minute, Part::Second) => Some(Run::Time(between)),
+        (RunPart::Year, RunPart::Month, RunPart::Day) => Some(Run::Date(between)),
+        (RunPart::Hour, RunPart::Minute, RunPart::Second) => Some(Run::Time(between)),
         _ => None,
     }
 }
 
 /// The part that a node is, if it is one.
 #[inline(always)]
-fn part_of<T: Node>(node: &T) -> Option<Part>
-    ensures { IfSome result (λ part. IsAlike (T.tree node.now) (of_component (part_component part))) }
+fn part_of<T: Node>(node: &T) -> Option<RunPart>
+    ensures { IfSome result (λ part. IsAlike (T.tree node.now)
+        (of_component (part_component part))) }
 {
     match node.layer() {
-        Layer::Component(component) => Part::of(kept_of(component)),
+        Layer::Component(component) => RunPart::of(kept_of(component)),
         _ => None,
     }
 }

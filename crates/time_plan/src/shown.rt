@@ -1,6 +1,4 @@
 //! What a step shows of a value.
-//!
-//! Without `inline` the compiler leaves a call of the function that has it.
 ghost use Rattle.std.specs.Prelude.{◌≡◌, IfSome};
 
 use time_below::format_description::modifier::Padding;
@@ -33,7 +31,7 @@ impl Shown {
 
 /// A part of a date or of a time of day, with zeros before it and no sign that is not needed.
 #[derive(Clone, Copy)]
-pub enum Part {
+pub enum RunPart {
     /// `[year]`.
     Year,
     /// `[month]`.
@@ -48,12 +46,11 @@ pub enum Part {
     Second,
 }
 
-impl Part {
+impl RunPart {
     ghost use Rattle.time_plan.specs.Shown.{part_component};
 
     /// The part that a component is, if it is one.
-    #[inline]
-    pub(crate) fn of(component: Component) -> Option<Part>
+    pub(crate) fn of(component: Component) -> Option<RunPart>
         ensures { IfSome result (λ part. component ≡ part_component part) }
     {
         match component {
@@ -62,32 +59,32 @@ impl Part {
                     padding: Padding::Zero,
                     sign_is_mandatory: false,
                 },
-            ) => Some(Part::Year),
+            ) => Some(RunPart::Year),
             Component::MonthNumerical(
                 modifier::MonthNumerical {
                     padding: Padding::Zero,
                 },
-            ) => Some(Part::Month),
+            ) => Some(RunPart::Month),
             Component::Day(
                 modifier::Day {
                     padding: Padding::Zero,
                 },
-            ) => Some(Part::Day),
+            ) => Some(RunPart::Day),
             Component::Hour24(
                 modifier::Hour24 {
                     padding: Padding::Zero,
                 },
-            ) => Some(Part::Hour),
+            ) => Some(RunPart::Hour),
             Component::Minute(
                 modifier::Minute {
                     padding: Padding::Zero,
                 },
-            ) => Some(Part::Minute),
+            ) => Some(RunPart::Minute),
             Component::Second(
                 modifier::Second {
                     padding: Padding::Zero,
                 },
-            ) => Some(Part::Second),
+            ) => Some(RunPart::Second),
             _ => None,
         }
     }

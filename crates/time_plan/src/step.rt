@@ -36,7 +36,8 @@ impl Step {
 
     /// Whether there is plainly no literal after what is shown.
     pub(crate) fn has_no_literal(&self) -> bool
-        ensures { IsTrue result → (literal_bytes self.now.literal ≡ []) × (self.now.is_text ≡ true) }
+        ensures { IsTrue result
+            → (literal_bytes self.now.literal ≡ []) × (self.now.is_text ≡ true) }
     {
         self.is_text && self.literal.is_nothing()
     }

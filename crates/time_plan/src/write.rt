@@ -60,7 +60,6 @@ impl WriteStep for Step {
         }
     }
 
-    #[inline(always)]
     fn write_seldom<S: Sink, V: ComponentProvider>(
         &self,
         output: &mut S,

@@ -195,8 +195,8 @@ pub fn step<'a, I: Items>(
     requires end { IsEnd text.now rest.now }
     ensures goes_on { (fs : List reading.Frame) (before : List Tree)
         → AreOpen (λ gs. I.Holds text.now gs items.old) frames.old.items fs before
-        → GoesOn I.can_refuse (AreOpen (λ gs. I.Holds text.now gs items.new) frames.new.items) result
-        (read fs outside before [] rest.now) }
+        → GoesOn I.can_refuse (AreOpen (λ gs. I.Holds text.now gs items.new) frames.new.items)
+        result (read fs outside before [] rest.now) }
     ensures shorter { IfOk result (λ after. length after.now < length rest.now) }
     ensures end { IfOk result (λ after. IsEnd rest.now after.now) }
     ensures lender { I.lender items.new ≡ I.lender items.old }

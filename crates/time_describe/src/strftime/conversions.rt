@@ -1,7 +1,6 @@
 //! The conversions of strftime, by the letter that each one has.
 //!
-//! Without `inline(always)` the compiler leaves calls of the functions that have it.
-//! `inline(never)` keeps long or rare bodies out of their callers.
+//! Without `inline(always)` the compiler leaves calls of the function that has it.
 ghost use Rattle.std.specs.Prelude.{◌≡◌, ◌∷◌, [], option_map};
 ghost use Rattle.time_describe.specs.Conversions.{flag_named, number, word, sign, composition};
 ghost use Rattle.time_describe.specs.Conversions.{width, refusal};
@@ -137,7 +136,6 @@ pub fn word(letter: u8) -> Option<Component>
 }
 
 /// The other conversions that a letter stands for.
-#[inline(always)]
 #[tactic(auto, unfolding(crate::specs::Conversions::composition))]
 pub fn composition(letter: u8) -> Option<&'static [u8]>
     ensures { option_map (λ text. text.now) result ≡ composition letter }
@@ -182,7 +180,6 @@ pub fn width(digit: u8) -> Option<SubsecondDigits>
 }
 
 /// Why a letter is refused that stands for nothing here.
-#[inline(never)]
 #[tactic(auto, unfolding(crate::specs::Conversions::refusal))]
 pub fn refusal(letter: u8) -> StrftimeReason
     ensures { result ≡ refusal letter }

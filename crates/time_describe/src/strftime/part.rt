@@ -1,6 +1,6 @@
 //! The parts of a text in the syntax of strftime, before anything is made of them.
 //!
-//! Without `inline(always)` the compiler leaves calls of the functions that have it.
+//! Without `inline(always)` the compiler leaves calls of the function that has it.
 //! `inline(never)` keeps long or rare bodies out of their callers.
 ghost use Rattle.std.specs.Prelude.{◌≡◌, ◌≤◌, ◌<◌, ◌+◌, ℕ, List, length, IfOk, option_map};
 ghost use Rattle.std.specs.Prelude.{position};
@@ -20,7 +20,7 @@ use time_below::format_description::{Component, modifier};
 
 /// A part of a text.
 #[derive(Clone, Copy)]
-pub enum Part<'a> {
+pub enum StrftimePart<'a> {
     /// The bytes that belong to it, which stand for themselves.
     Literal,
     /// One byte.
@@ -45,7 +45,6 @@ pub fn component_of(letter: u8) -> Option<Component>
 }
 
 /// Whether a letter stands for something that is no number.
-#[inline(never)]
 fn is_offered(letter: u8) -> bool
     ensures { result ≡ is_offered letter }
 {
@@ -67,25 +66,28 @@ fn refusal_behind_flag(letter: u8) -> StrftimeReason
 }
 
 /// What a letter stands for that has no flag.
-fn part_of(letter: u8) -> Option<Part<'static>>
+fn part_of(letter: u8) -> Option<StrftimePart<'static>>
     ensures { (own : List ℕ) → option_map (items_of_part own) result ≡ items_of letter }
 {
     if let Some(component) = component_of(letter) {
-        return Some(Part::Component(component));
+        return Some(StrftimePart::Component(component));
     }
     if let Some(byte) = sign(letter) {
-        return Some(Part::Byte(byte));
+        return Some(StrftimePart::Byte(byte));
     }
     if letter == b'z' {
-        return Some(Part::Offset(false));
+        return Some(StrftimePart::Offset(false));
     }
-    composition(letter).map(Part::Composition)
+    composition(letter).map(StrftimePart::Composition)
 }
 
 /// What is after a flag, and that it takes two bytes after the `%`.
 #[inline(never)]
 #[tactic(auto, unfolding(crate::specs::Strftime::flagged))]
-fn flagged<'a>(flag: Padding, bytes: &'a [u8]) -> Result<(Part<'a>, usize), Fault<StrftimeReason>>
+fn flagged<'a>(
+    flag: Padding,
+    bytes: &'a [u8],
+) -> Result<(StrftimePart<'a>, usize), Fault<StrftimeReason>>
     ensures part { (text : List ℕ) → front_of text result ≡ flagged (Some flag) bytes.now }
     ensures within { IfOk result (λ x. x.1 ≤ length bytes.now + 1) }
 {
@@ -96,7 +98,7 @@ fn flagged<'a>(flag: Padding, bytes: &'a [u8]) -> Result<(Part<'a>, usize), Faul
         });
     };
     match number(letter, Some(flag)) {
-        Some(component) => Ok((Part::Component(component), 2)),
+        Some(component) => Ok((StrftimePart::Component(component), 2)),
         None => {
             Err(Fault {
                 reason: refusal_behind_flag(letter),
@@ -107,15 +109,17 @@ fn flagged<'a>(flag: Padding, bytes: &'a [u8]) -> Result<(Part<'a>, usize), Faul
 }
 
 /// What is after a colon, which stands `left` bytes before the end.
-#[inline(never)]
 #[tactic(auto, unfolding(crate::specs::Strftime::with_colon))]
-fn with_colon<'a>(left: usize, bytes: &'a [u8]) -> Result<(Part<'a>, usize), Fault<StrftimeReason>>
+fn with_colon<'a>(
+    left: usize,
+    bytes: &'a [u8],
+) -> Result<(StrftimePart<'a>, usize), Fault<StrftimeReason>>
     requires { left ≡ length bytes.now + 1 }
     ensures part { (text : List ℕ) → front_of text result ≡ with_colon bytes.now }
     ensures within { IfOk result (λ x. x.1 ≤ length bytes.now + 1) }
 {
     match first_and_rest(bytes) {
-        Some((letter, _)) if letter == b'z' => Ok((Part::Offset(true), 2)),
+        Some((letter, _)) if letter == b'z' => Ok((StrftimePart::Offset(true), 2)),
         _ => {
             Err(Fault {
                 reason: StrftimeReason::UnknownConversion(b':'),
@@ -126,22 +130,22 @@ fn with_colon<'a>(left: usize, bytes: &'a [u8]) -> Result<(Part<'a>, usize), Fau
 }
 
 /// What is after a width, whose digit stands `left` bytes before the end.
-#[inline(never)]
 #[tactic(auto, unfolding(crate::specs::Strftime::with_width))]
 fn with_width<'a>(
     digit: u8,
     digits: SubsecondDigits,
     left: usize,
     bytes: &'a [u8],
-) -> Result<(Part<'a>, usize), Fault<StrftimeReason>>
+) -> Result<(StrftimePart<'a>, usize), Fault<StrftimeReason>>
     requires { left ≡ length bytes.now + 1 }
-    ensures part { (text : List ℕ) → front_of text result ≡ with_width digit (Some digits) bytes.now }
+    ensures part { (text : List ℕ)
+        → front_of text result ≡ with_width digit (Some digits) bytes.now }
     ensures within { IfOk result (λ x. x.1 ≤ length bytes.now + 1) }
 {
     match first_and_rest(bytes) {
         Some((letter, _)) if letter == b'N' => {
             Ok((
-                Part::Component(Component::Subsecond(modifier::Subsecond { digits })),
+                StrftimePart::Component(Component::Subsecond(modifier::Subsecond { digits })),
                 2,
             ))
         }
@@ -158,7 +162,7 @@ fn with_width<'a>(
 /// without a call.
 #[inline(never)]
 #[tactic(auto, unfolding(crate::specs::Strftime::conversion))]
-fn conversion<'a>(bytes: &'a [u8]) -> Result<(Part<'a>, usize), Fault<StrftimeReason>>
+fn conversion<'a>(bytes: &'a [u8]) -> Result<(StrftimePart<'a>, usize), Fault<StrftimeReason>>
     ensures part { (text : List ℕ) → front_of text result ≡ conversion bytes.now }
     ensures within { IfOk result (λ x. x.1 ≤ length bytes.now) }
 {
@@ -208,7 +212,7 @@ fn literal_len(bytes: &[u8]) -> usize
 
 /// The first part of a text, and how many bytes belong to it after the first one.
 #[tactic(auto, unfolding(crate::specs::Strftime::first_part))]
-pub fn first_part<'a>(text: &'a [u8]) -> Result<(Part<'a>, usize), Fault<StrftimeReason>>
+pub fn first_part<'a>(text: &'a [u8]) -> Result<(StrftimePart<'a>, usize), Fault<StrftimeReason>>
     requires { 0 < length text.now }
     ensures part { front_of text.now result ≡ first_part text.now }
     ensures within { IfOk result (λ x. x.1 < length text.now) }
@@ -220,5 +224,5 @@ pub fn first_part<'a>(text: &'a [u8]) -> Result<(Part<'a>, usize), Fault<Strftim
         return conversion(rest);
     }
     let behind = literal_len(rest);
-    Ok((Part::Literal, behind))
+    Ok((StrftimePart::Literal, behind))
 }

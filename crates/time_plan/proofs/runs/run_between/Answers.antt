@@ -1,5 +1,5 @@
 use Rattle.std.proofs.Common.{refl}
-use Rattle.time_plan.specs.declared.shown.Part.TheVariants as part
+use Rattle.time_plan.specs.declared.shown.RunPart.TheVariants as part
 use Rattle.time_plan.proofs.ThreeLemmas.{run_begins}
 use Rattle.time_plan.proofs.runs.run_between.Goals as goal
 
