@@ -1,5 +1,5 @@
 -- A component that is not deprecated is its own current one, with its outcome; that of a deprecated one is no wider.
-use Rattle.std.proofs.Common.{◌≡◌, ◌∙◌, ◌≤◌, IsTrue, true, false, ap, refl, arith}
+use Rattle.std.proofs.Common.{◌≡◌, ◌∙◌, ◌≤◌, IsTrue, true, ap, refl, arith}
 use Rattle.std.proofs.lemmas.Grind.{common_steps}
 use Rattle.time_below.specs.Conversion.{current_component, is_current}
 use Rattle.time_below.specs.declared.format_description.component.Component.{Component}
@@ -7,7 +7,6 @@ use Rattle.time_below.specs.Facts.{Facts}
 use Rattle.time_below.specs.Group.{group_of}
 use Rattle.time_below.specs.Width.{component_width}
 use Rattle.time_fmt.specs.Description.{has_group, supplied_outcome, current_outcome, component_outcome}
-use Rattle.time_fmt.specs.Outcome.{refused, insufficient}
 
 -- a component that is not deprecated stays
 pub current_is_kept : (c : Component) → IsTrue (is_current c) → current_component c ≡ c
@@ -17,10 +16,6 @@ current_is_kept c h = grind (arith, common_steps)
 pub outcome_with_group : (c : Component) (f : Facts) → IsTrue (is_current c) → true ≡ has_group (group_of c) f
     → component_outcome c f ≡ supplied_outcome c f
 outcome_with_group c f current has = ap (λ d. current_outcome d f) (current_is_kept c current) ∙ rw (← has) refl
-
-pub outcome_without_group : (c : Component) (f : Facts) → IsTrue (is_current c) → false ≡ has_group (group_of c) f
-    → component_outcome c f ≡ refused insufficient
-outcome_without_group c f current has = ap (λ d. current_outcome d f) (current_is_kept c current) ∙ rw (← has) refl
 
 -- no conversion is followed by another
 pub current_is_current : (c : Component) → current_component (current_component c) ≡ current_component c

@@ -1,13 +1,10 @@
 -- How a text of the engine ends: by the text or the refusal of a component, and as the answer of a public call.
-use Rattle.std.proofs.Common.{◌≡◌, ◌∙◌, ap, arith, append_assoc, length-append, ℕ, ◌+◌, ◌-◌, ◌++◌, ◌≤◌, ◌<◌, true, false, List, length, Result, Ok, Err, Vec, vec_len}
+use Rattle.std.proofs.Common.{◌≡◌, ◌∙◌, ap, arith, append_assoc, length-append, ℕ, ◌+◌, ◌-◌, ◌++◌, ◌≤◌, List, length, Result, Ok, Err, Vec, vec_len}
 use Rattle.std.proofs.lemmas.List.{append-nil}
 use Rattle.std.specs.Global.{Global}
-use Rattle.std.specs.Prelude.{nat_le}
 use Rattle.time_fmt.specs.declared.error.Format.{Format}
 use Rattle.time_fmt.specs.declared.refused.Refused.{Refused}
-use Rattle.time_fmt.specs.declared.refused.Refused.TheVariants as reason
-use Rattle.time_fmt.specs.Ends.{Ends, EndsWhole, refusal_of}
-use Rattle.time_fmt.specs.Kind.{in_standard_range}
+use Rattle.time_fmt.specs.Ends.{Ends, refusal_of}
 use Rattle.time_fmt.specs.Outcome.{Outcome, Names, Appends, done, refused}
 use Rattle.time_fmt.specs.Sink.{Buffer, Puts, vec_buffer}
 
@@ -36,17 +33,6 @@ whole_text w h = grind arith
 pub ends_refused : {width : ℕ} (output : Buffer) (r : Refused)
     → Ends width output output (Err r) (refused (refusal_of r))
 ends_refused output r = grind (arith, append-nil)
-
--- a year or a century in the standard range is written
-pub in_range : {width : ℕ} (greatest n : ℕ) (text : List ℕ) {old new : Buffer} → n ≤ greatest
-    → EndsWhole width old new text → Ends width old new (Ok tt) (in_standard_range greatest n text)
-in_range greatest n text below ends = let is : nat_le n greatest ≡ true = grind arith in rw is ends
-
--- a number beyond its range is refused
-pub beyond_range : {width : ℕ} (greatest n : ℕ) (text : List ℕ) (output : Buffer)
-    → greatest < n → Ends width output output (Err reason.YearOutOfRange) (in_standard_range greatest n text)
-beyond_range greatest n text output above =
-    let is : nat_le n greatest ≡ false = grind arith in rw is (ends_refused output reason.YearOutOfRange)
 
 -- ---- what a public call answers
 

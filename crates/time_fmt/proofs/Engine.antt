@@ -94,12 +94,6 @@ pub list_refused : {reason : Refused} (f : Facts) (all left others : Trees) (t :
     → AppendsTree t f mid new (Err reason) → AppendsTree (all_of all) f old new (Err reason)
 list_refused f all left others t old mid new so_far next step = grind (arith, join_refused)
 
--- so does one whose rest is refused
-pub rest_refused : {reason : Refused} (f : Facts) (all left : Trees) (old mid new : Buffer)
-    → IsWrittenUpTo f all left old mid → AppendsTree (all_of left) f mid new (Err reason)
-    → AppendsTree (all_of all) f old new (Err reason)
-rest_refused f all left old mid new so_far rest = grind arith
-
 -- what was written before a step, and what the step wrote, is followed by what is left
 pub written_more : (f : Facts) (all left others : Trees) (t : Tree) (old mid new : Buffer)
     → IsWrittenUpTo f all left old mid → left ≡ more t others → AppendsTree t f mid new (Ok tt)

@@ -20,7 +20,10 @@ use time_provide::ComponentProvider;
 
 // A match in which the choices of each of these components have this answer. The other arms follow.
 macro_rules! each {
-    ($component:ident, [$($name:ident)+], $part:ident => $answer:expr, $($other:pat => $rest:expr),+ $(,)?) => {
+    (
+        $component:ident, [$($name:ident)+],
+        $part:ident => $answer:expr, $($other:pat => $rest:expr),+ $(,)?
+    ) => {
         match $component {
             $(Component::$name($part) => Some($answer),)+
             $($other => $rest,)+
@@ -38,10 +41,12 @@ pub fn write_often<S: Sink, V: ComponentProvider>(
     value: &V,
     state: &mut V::State,
 ) -> Option<Result<(), Refused>>
-    requires ready { Ready (S.buffer output.old) (component_width component) (V.agrees state.old value.now) }
+    requires ready { Ready (S.buffer output.old) (component_width component)
+        (V.agrees state.old value.now) }
     ensures writes { MatchOption result (S.buffer output.new ≡ S.buffer output.old)
-        (λ answer. Ends (component_width component) (S.buffer output.old) (S.buffer output.new) answer
-        (component_outcome component (V.facts value.now))) × V.agrees state.new value.now }
+        (λ answer. Ends (component_width component) (S.buffer output.old) (S.buffer output.new)
+        answer (component_outcome component (V.facts value.now)))
+        × V.agrees state.new value.now }
 {
     each!(component, [
         Day MonthShort MonthLong MonthNumerical WeekdayShort WeekdayMonday
@@ -59,10 +64,13 @@ pub(crate) fn write_current<S: Sink, V: ComponentProvider>(
     value: &V,
     state: &mut V::State,
 ) -> Option<Result<(), Refused>>
-    requires ready { Ready (S.buffer output.old) (component_width component) (V.agrees state.old value.now) }
-    ensures writes { MatchOption result ((S.buffer output.new ≡ S.buffer output.old) × (is_current component ≡ false))
-        (λ answer. Ends (component_width component) (S.buffer output.old) (S.buffer output.new) answer
-        (component_outcome component (V.facts value.now))) × V.agrees state.new value.now }
+    requires ready { Ready (S.buffer output.old) (component_width component)
+        (V.agrees state.old value.now) }
+    ensures writes { MatchOption result
+        ((S.buffer output.new ≡ S.buffer output.old) × (is_current component ≡ false))
+        (λ answer. Ends (component_width component) (S.buffer output.old) (S.buffer output.new)
+        answer (component_outcome component (V.facts value.now)))
+        × V.agrees state.new value.now }
 {
     each!(component, [
         Day MonthShort MonthLong MonthNumerical Ordinal WeekdayShort WeekdayLong WeekdaySunday
@@ -94,8 +102,8 @@ fn write_rare<M: Modifier, S: Sink, V: ComponentProvider>(
 ) -> Result<(), Refused>
     requires ready { Ready (S.buffer output.old) (component_width (M.component_of part))
         (V.agrees state.old value.now) }
-    ensures writes { Ends (component_width (M.component_of part)) (S.buffer output.old) (S.buffer output.new) result
-        (component_outcome (M.component_of part) (V.facts value.now))
+    ensures writes { Ends (component_width (M.component_of part)) (S.buffer output.old)
+        (S.buffer output.new) result (component_outcome (M.component_of part) (V.facts value.now))
         × V.agrees state.new value.now }
 {
     write_part(part, output, value, state)
@@ -111,8 +119,8 @@ pub fn end_component<S: Sink, V: ComponentProvider>(
 ) -> Result<(), Refused>
     requires room { Fits (S.buffer output.old) (component_width component) }
     requires agrees { V.agrees state.old value.now }
-    ensures ends { Ends (component_width component) (S.buffer output.old) (S.buffer output.new) result
-        (component_outcome component (V.facts value.now)) }
+    ensures ends { Ends (component_width component) (S.buffer output.old) (S.buffer output.new)
+        result (component_outcome component (V.facts value.now)) }
     ensures agrees { V.agrees state.new value.now }
 {
     match write_current(component.current(), output, value, state) {

@@ -93,7 +93,8 @@ pub trait Formattable: ComputeMetadata {
         ensures text { result ≢ Err Format.OutOfMemory
             → IsTextIf (Self.is_guaranteed self.now) (outcome_of self.now (V.facts value.now)) }
         ensures agrees { V.agrees state.new value.now }
-        ensures reserves { Reserves output.old (Self.width_of self.now) (vec_capacity output.new) (is_out_of_memory result) }
+        ensures reserves { Reserves output.old (Self.width_of self.now) (vec_capacity output.new)
+            (is_out_of_memory result) }
 
         // `OutOfMemory` changes nothing, and is never returned if the maximum length fits.
         ensures unchanged { result ≡ Err Format.OutOfMemory → output.new.items ≡ output.old.items }

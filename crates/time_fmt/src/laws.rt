@@ -147,7 +147,8 @@ pub fn clones_of_lists<const N: usize>(
     owned_copy: OwnedItems<'_>,
     literal_copy: Literal<N>,
 )
-    ensures borrowed { ⟦<BorrowedItems<'static> as Clone>⟧.is_clone borrowed.entry borrowed_copy.entry
+    ensures borrowed { ⟦<BorrowedItems<'static> as Clone>⟧.is_clone borrowed.entry
+        borrowed_copy.entry
         → borrowed_copy.entry.0.now ≡ borrowed.entry.0.now }
     ensures owned { ⟦<OwnedItems<'static> as Clone>⟧.is_clone owned.entry owned_copy.entry
         → owned_copy.entry.0.now ≡ owned.entry.0.now }

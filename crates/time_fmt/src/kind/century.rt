@@ -67,7 +67,8 @@ impl TextKind for TwoDigitCentury {
 // Appends a sign and all digits of a century from 100 on.
 fn write_long_century<S: Sink>(output: &mut S, century: ru16<0, 9_999>, is_negative: bool) -> usize
     requires long { 100 ≤ century }
-    requires room { Fits (S.buffer output.old) (length (sign_text is_negative true ++ decimal century)) }
+    requires room { Fits (S.buffer output.old)
+        (length (sign_text is_negative true ++ decimal century)) }
     ensures writes { Puts (S.buffer output.old) (S.buffer output.new) result
         (sign_text is_negative true ++ decimal century) }
 {

@@ -3,15 +3,14 @@
 //! With `inline(always)` the text of a component that is met often is written without a call.
 #![tactic(auto, using(crate::proofs::TextLemmas::text_lengths))]
 
-ghost use Rattle.std.specs.Prelude.{◌≡◌, ◌≤◌, length, take};
 ghost use Rattle.time_below.specs.Month.{month_number};
 ghost use Rattle.time_below.specs.Weekday.{days_from_monday};
-ghost use Rattle.time_fmt.specs.DateText.{month_name, short_name, weekday_name};
 ghost use Rattle.time_fmt.specs.Kind as kind;
 
 use crate::kind::TextKind;
 use crate::sink::Sink;
-use crate::writers::{format_single_digit, write_each, write_first, write_three};
+use crate::writers::{format_single_digit, write_first, write_three};
+use time_below::names::{padded_month_name, padded_weekday_name};
 use time_below::{Month, Weekday};
 use time_digits::ru8;
 
@@ -24,8 +23,8 @@ impl TextKind for MonthName {
 
     #[inline(always)]
     fn put<S: Sink>(self, output: &mut S) -> usize {
-        let (letters, count) = name_of_month(self.0);
-        write_first(output, letters, count)
+        let (name, len) = padded_month_name(self.0);
+        write_first(output, name, len)
     }
 }
 
@@ -38,8 +37,8 @@ impl TextKind for ShortMonthName {
 
     #[inline(always)]
     fn put<S: Sink>(self, output: &mut S) -> usize {
-        let (letters, _) = name_of_month(self.0);
-        write_three(output, &letters[..3])
+        let (name, _) = padded_month_name(self.0);
+        write_three(output, &name.as_bytes()[..3])
     }
 }
 
@@ -52,18 +51,8 @@ impl TextKind for WeekdayName {
 
     #[inline(always)]
     fn put<S: Sink>(self, output: &mut S) -> usize {
-        let mut taken = output.take_out();
-        let count = match self.0 {
-            Weekday::Monday => write_each(&mut taken, b"Monday"),
-            Weekday::Tuesday => write_each(&mut taken, b"Tuesday"),
-            Weekday::Wednesday => write_each(&mut taken, b"Wednesday"),
-            Weekday::Thursday => write_each(&mut taken, b"Thursday"),
-            Weekday::Friday => write_each(&mut taken, b"Friday"),
-            Weekday::Saturday => write_each(&mut taken, b"Saturday"),
-            Weekday::Sunday => write_each(&mut taken, b"Sunday"),
-        };
-        output.put_back(taken);
-        count
+        let (name, len) = padded_weekday_name(self.0);
+        write_first(output, name, len)
     }
 }
 
@@ -76,7 +65,8 @@ impl TextKind for ShortWeekdayName {
 
     #[inline(always)]
     fn put<S: Sink>(self, output: &mut S) -> usize {
-        write_three(output, &name_of_weekday(self.0).as_bytes()[..3])
+        let (name, _) = padded_weekday_name(self.0);
+        write_three(output, &name.as_bytes()[..3])
     }
 }
 
@@ -93,43 +83,5 @@ impl TextKind for WeekdayDigit {
     fn put<S: Sink>(self, output: &mut S) -> usize {
         let number = self.days.get() + u8::from(self.one_indexed);
         format_single_digit(output, ru8::within(number))
-    }
-}
-
-// The English name of a month with spaces after it, in nine bytes, and the number of its letters.
-fn name_of_month(month: Month) -> (&'static [u8; 9], usize)
-    ensures name { take result.1 result.0.now ≡ month_name (month_number month) }
-    ensures short { take 3 result.0.now ≡ short_name (month_name (month_number month)) }
-    ensures length { result.1 ≡ length (month_name (month_number month)) }
-{
-    match month {
-        Month::January => (b"January  ", 7),
-        Month::February => (b"February ", 8),
-        Month::March => (b"March    ", 5),
-        Month::April => (b"April    ", 5),
-        Month::May => (b"May      ", 3),
-        Month::June => (b"June     ", 4),
-        Month::July => (b"July     ", 4),
-        Month::August => (b"August   ", 6),
-        Month::September => (b"September", 9),
-        Month::October => (b"October  ", 7),
-        Month::November => (b"November ", 8),
-        Month::December => (b"December ", 8),
-    }
-}
-
-// The English name of a weekday, of at least three letters.
-fn name_of_weekday(weekday: Weekday) -> &'static str
-    ensures name { result.now ≡ weekday_name (days_from_monday weekday) }
-    ensures least { 3 ≤ length result.now }
-{
-    match weekday {
-        Weekday::Monday => "Monday",
-        Weekday::Tuesday => "Tuesday",
-        Weekday::Wednesday => "Wednesday",
-        Weekday::Thursday => "Thursday",
-        Weekday::Friday => "Friday",
-        Weekday::Saturday => "Saturday",
-        Weekday::Sunday => "Sunday",
     }
 }

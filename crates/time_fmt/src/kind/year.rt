@@ -98,7 +98,8 @@ fn write_signed_year<S: Sink>(
 #[tactic(auto, using(crate::proofs::TextLemmas::whole_year))]
 fn write_year_digits<S: Sink>(output: &mut S, year: ru32<0, 999_999>, padding: Padding) -> usize
     requires room { Fits (S.buffer output.old) (length (padded_text padding 4 year)) }
-    ensures writes { Puts (S.buffer output.old) (S.buffer output.new) result (padded_text padding 4 year) }
+    ensures writes { Puts (S.buffer output.old) (S.buffer output.new) result
+        (padded_text padding 4 year) }
 {
     let number = year.get();
     if number < 10_000 {

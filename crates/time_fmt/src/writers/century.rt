@@ -226,7 +226,8 @@ pub fn fmt_calendar_year_last_two<S: Sink>(
     modifier: modifier::CalendarYearLastTwo,
 ) -> usize
     requires room { Fits (S.buffer output.old) (length (padded_text modifier.padding 2 last_two)) }
-    ensures writes { Puts (S.buffer output.old) (S.buffer output.new) result (padded_text modifier.padding 2 last_two) }
+    ensures writes { Puts (S.buffer output.old) (S.buffer output.new) result
+        (padded_text modifier.padding 2 last_two) }
     ensures ends { EndsWhole 2 (S.buffer output.old) (S.buffer output.new)
         (padded_text modifier.padding 2 last_two) }
 {
@@ -257,7 +258,8 @@ pub fn fmt_iso_year_last_two<S: Sink>(
     modifier: modifier::IsoYearLastTwo,
 ) -> usize
     requires room { Fits (S.buffer output.old) (length (padded_text modifier.padding 2 last_two)) }
-    ensures writes { Puts (S.buffer output.old) (S.buffer output.new) result (padded_text modifier.padding 2 last_two) }
+    ensures writes { Puts (S.buffer output.old) (S.buffer output.new) result
+        (padded_text modifier.padding 2 last_two) }
     ensures ends { EndsWhole 2 (S.buffer output.old) (S.buffer output.new)
         (padded_text modifier.padding 2 last_two) }
 {
@@ -294,7 +296,8 @@ fn century_of(year: Year) -> (ru16<0, 9_999>, bool)
 // The same of a year of at most four digits.
 fn standard_century_of(year: Year) -> Option<(ru8<0, 99>, bool)>
     ensures { MatchOption result (99 < century_of year)
-        (λ both. (both.0 ≡ century_of year) × (both.1 ≡ int_lt year (pos 0)) × (century_of year ≤ 99)) }
+        (λ both. (both.0 ≡ century_of year) × (both.1 ≡ int_lt year (pos 0))
+        × (century_of year ≤ 99)) }
 {
     let number = year.get();
     let century = number.unsigned_abs() / 100;

@@ -23,7 +23,8 @@ use time_provide::ranges::{Day, Ordinal};
 /// Appends the day of the month, 1 to 31, padded to two places as `modifier` says.
 pub fn fmt_day<S: Sink>(output: &mut S, day: Day, modifier: modifier::Day) -> usize
     requires room { Fits (S.buffer output.old) (length (padded_text modifier.padding 2 day)) }
-    ensures writes { Puts (S.buffer output.old) (S.buffer output.new) result (padded_text modifier.padding 2 day) }
+    ensures writes { Puts (S.buffer output.old) (S.buffer output.new) result
+        (padded_text modifier.padding 2 day) }
     ensures ends { EndsWhole 2 (S.buffer output.old) (S.buffer output.new)
         (padded_text modifier.padding 2 day) }
 {
@@ -51,7 +52,8 @@ pub fn fmt_month_short<S: Sink>(
     month: Month,
     modifier: modifier::MonthShort,
 ) -> usize
-    requires room { Fits (S.buffer output.old) (length (short_name (month_name (month_number month)))) }
+    requires room { Fits (S.buffer output.old)
+        (length (short_name (month_name (month_number month)))) }
     ensures writes { Puts (S.buffer output.old) (S.buffer output.new) result
         (short_name (month_name (month_number month))) }
 {
@@ -76,7 +78,8 @@ impl Modifier for modifier::MonthShort {
 /// Appends the month's English name.
 pub fn fmt_month_long<S: Sink>(output: &mut S, month: Month, modifier: modifier::MonthLong) -> usize
     requires room { Fits (S.buffer output.old) (length (month_name (month_number month))) }
-    ensures writes { Puts (S.buffer output.old) (S.buffer output.new) result (month_name (month_number month)) }
+    ensures writes { Puts (S.buffer output.old) (S.buffer output.new) result
+        (month_name (month_number month)) }
 {
     let _ = modifier;
     MonthName(month).put(output)
@@ -132,7 +135,8 @@ impl Modifier for modifier::MonthNumerical {
 /// Appends the day of the year, 1 to 366, padded to three places as `modifier` says.
 pub fn fmt_ordinal<S: Sink>(output: &mut S, ordinal: Ordinal, modifier: modifier::Ordinal) -> usize
     requires room { Fits (S.buffer output.old) (length (padded_text modifier.padding 3 ordinal)) }
-    ensures writes { Puts (S.buffer output.old) (S.buffer output.new) result (padded_text modifier.padding 3 ordinal) }
+    ensures writes { Puts (S.buffer output.old) (S.buffer output.new) result
+        (padded_text modifier.padding 3 ordinal) }
     ensures ends { EndsWhole 3 (S.buffer output.old) (S.buffer output.new)
         (padded_text modifier.padding 3 ordinal) }
 {

@@ -14,7 +14,8 @@ pub fn format_decimals<S: Sink>(output: &mut S, rest: u64, unit: u64, digits: ru
     requires part { rest < unit }
     requires unit { unit ≤ 3_600_000_000_000 }
     requires room { Fits (S.buffer output.old) digits }
-    ensures writes { Puts (S.buffer output.old) (S.buffer output.new) result (decimals rest unit digits) }
+    ensures writes { Puts (S.buffer output.old) (S.buffer output.new) result
+        (decimals rest unit digits) }
 {
     let count = digits.get();
     let mut left = rest;

@@ -22,7 +22,8 @@ use time_digits::{ru8, ru16, ru32};
 /// Appends a minus if the number is negative, else a plus if a sign is mandatory, else nothing.
 pub fn fmt_sign<S: Sink>(output: &mut S, is_negative: bool, sign_is_mandatory: bool) -> usize
     requires room { Fits (S.buffer output.old) (length (sign_text is_negative sign_is_mandatory)) }
-    ensures writes { Puts (S.buffer output.old) (S.buffer output.new) result (sign_text is_negative sign_is_mandatory) }
+    ensures writes { Puts (S.buffer output.old) (S.buffer output.new) result
+        (sign_text is_negative sign_is_mandatory) }
 {
     if is_negative {
         output.put_byte(b'-');
@@ -57,8 +58,10 @@ pub fn format_two_digits_pad_zero<S: Sink>(output: &mut S, value: ru8<0, 99>) ->
 #[inline(always)]
 pub fn format_two_digits<S: Sink>(output: &mut S, value: ru8<0, 99>, padding: Padding) -> usize
     requires room { Fits (S.buffer output.old) (length (padded_text padding 2 value)) }
-    ensures writes { Puts (S.buffer output.old) (S.buffer output.new) result (padded_text padding 2 value) }
-    ensures ends { EndsWhole 2 (S.buffer output.old) (S.buffer output.new) (padded_text padding 2 value) }
+    ensures writes { Puts (S.buffer output.old) (S.buffer output.new) result
+        (padded_text padding 2 value) }
+    ensures ends { EndsWhole 2 (S.buffer output.old) (S.buffer output.new)
+        (padded_text padding 2 value) }
 {
     match padding {
         Padding::Zero => write_pair(output, two_digits_zero_padded(value)),
@@ -74,7 +77,8 @@ pub(crate) fn write_two_rarely<S: Sink>(
     padding: Padding,
 ) -> usize
     requires room { Fits (S.buffer output.old) (length (padded_text padding 2 value)) }
-    ensures writes { Puts (S.buffer output.old) (S.buffer output.new) result (padded_text padding 2 value) }
+    ensures writes { Puts (S.buffer output.old) (S.buffer output.new) result
+        (padded_text padding 2 value) }
 {
     let mut taken = output.take_out();
     let count = write_two_places(&mut taken, value, padding);
@@ -87,7 +91,8 @@ pub(crate) fn write_two_rarely<S: Sink>(
 #[inline(never)]
 fn write_two_places<S: Sink>(output: &mut S, value: ru8<0, 99>, padding: Padding) -> usize
     requires room { Fits (S.buffer output.old) (length (padded_text padding 2 value)) }
-    ensures writes { Puts (S.buffer output.old) (S.buffer output.new) result (padded_text padding 2 value) }
+    ensures writes { Puts (S.buffer output.old) (S.buffer output.new) result
+        (padded_text padding 2 value) }
 {
     match padding {
         Padding::Zero => write(output, two_digits_zero_padded(value)),
@@ -100,8 +105,10 @@ fn write_two_places<S: Sink>(output: &mut S, value: ru8<0, 99>, padding: Padding
 #[tactic(auto, using(crate::proofs::TextLemmas::text_lengths))]
 pub fn format_three_digits<S: Sink>(output: &mut S, value: ru16<0, 999>, padding: Padding) -> usize
     requires room { Fits (S.buffer output.old) (length (padded_text padding 3 value)) }
-    ensures writes { Puts (S.buffer output.old) (S.buffer output.new) result (padded_text padding 3 value) }
-    ensures ends { EndsWhole 3 (S.buffer output.old) (S.buffer output.new) (padded_text padding 3 value) }
+    ensures writes { Puts (S.buffer output.old) (S.buffer output.new) result
+        (padded_text padding 3 value) }
+    ensures ends { EndsWhole 3 (S.buffer output.old) (S.buffer output.new)
+        (padded_text padding 3 value) }
 {
     match padding {
         Padding::Zero => write_many(output, &three_digits_zero_padded(value)),
@@ -115,7 +122,8 @@ pub fn format_three_digits<S: Sink>(output: &mut S, value: ru16<0, 999>, padding
 #[tactic(auto, using(crate::proofs::NumberLemmas::number_lengths))]
 pub fn format_four_digits<S: Sink>(output: &mut S, value: ru16<0, 9_999>, padding: Padding) -> usize
     requires room { Fits (S.buffer output.old) (length (padded_text padding 4 value)) }
-    ensures writes { Puts (S.buffer output.old) (S.buffer output.new) result (padded_text padding 4 value) }
+    ensures writes { Puts (S.buffer output.old) (S.buffer output.new) result
+        (padded_text padding 4 value) }
 {
     match padding {
         Padding::Zero => format_four_digits_pad_zero(output, value),
@@ -127,7 +135,8 @@ pub fn format_four_digits<S: Sink>(output: &mut S, value: ru16<0, 9_999>, paddin
 // in front.
 fn write_four_rarely<S: Sink>(output: &mut S, value: ru16<0, 9_999>, padding: Padding) -> usize
     requires room { Fits (S.buffer output.old) (length (padded_text padding 4 value)) }
-    ensures writes { Puts (S.buffer output.old) (S.buffer output.new) result (padded_text padding 4 value) }
+    ensures writes { Puts (S.buffer output.old) (S.buffer output.new) result
+        (padded_text padding 4 value) }
 {
     let mut taken = output.take_out();
     let count = write_four_places(&mut taken, value, padding);
@@ -140,7 +149,8 @@ fn write_four_rarely<S: Sink>(output: &mut S, value: ru16<0, 9_999>, padding: Pa
 #[inline(never)]
 fn write_four_places<S: Sink>(output: &mut S, value: ru16<0, 9_999>, padding: Padding) -> usize
     requires room { Fits (S.buffer output.old) (length (padded_text padding 4 value)) }
-    ensures writes { Puts (S.buffer output.old) (S.buffer output.new) result (padded_text padding 4 value) }
+    ensures writes { Puts (S.buffer output.old) (S.buffer output.new) result
+        (padded_text padding 4 value) }
 {
     match padding {
         Padding::Zero => format_four_digits_pad_zero(output, value),
@@ -228,7 +238,8 @@ pub(super) fn write_eight_digits<S: Sink>(output: &mut S, value: u32) -> usize
 pub fn format_int_padded<S: Sink>(output: &mut S, value: u64, width: u8) -> usize
     requires digits { length (decimal value) ≤ width }
     requires room { Fits (S.buffer output.old) (length (zero_padded width value)) }
-    ensures writes { Puts (S.buffer output.old) (S.buffer output.new) result (zero_padded width value) }
+    ensures writes { Puts (S.buffer output.old) (S.buffer output.new) result
+        (zero_padded width value) }
 {
     let digits = u64_pad_none(value);
     let zeros = write_zeros(output, width as usize - digits.len());

@@ -184,16 +184,29 @@ pub(crate) fn write_three<S: Sink>(output: &mut S, bytes: &[u8]) -> usize
 
 // Appends the first of nine bytes, as of a name. Mostly there is room for all nine.
 #[inline(always)]
-pub(crate) fn write_first<S: Sink>(output: &mut S, bytes: &[u8; 9], count: usize) -> usize
+pub(crate) fn write_first<S: Sink>(output: &mut S, padded: &str, count: usize) -> usize
+    requires padded { length padded.now ≡ 9 }
     requires most { count ≤ 9 }
     requires room { Fits (S.buffer output.old) count }
-    ensures writes { Puts (S.buffer output.old) (S.buffer output.new) result (take count bytes.now) }
+    ensures writes { Puts (S.buffer output.old) (S.buffer output.new) result
+        (take count padded.now) }
 {
+    let bytes = padded.as_bytes();
     if output.room() < 9 {
         return write_long_literal(output, &bytes[..count]);
     }
-    output.put_first(*bytes, count);
+    output.put_first(nine_of(bytes), count);
     count
+}
+
+// Nine bytes, as an array.
+fn nine_of(bytes: &[u8]) -> [u8; 9]
+    requires { length bytes.now ≡ 9 }
+    ensures { result ≡ bytes.now }
+{
+    [
+        bytes[0], bytes[1], bytes[2], bytes[3], bytes[4], bytes[5], bytes[6], bytes[7], bytes[8],
+    ]
 }
 
 /// Appends the texts one after another, and returns the number of their bytes.
@@ -212,7 +225,8 @@ pub fn write_many<S: Sink>(output: &mut S, texts: &[&str]) -> usize
 /// Appends the text if it is wanted, and returns the number of bytes appended.
 pub fn write_if<S: Sink>(output: &mut S, is_wanted: bool, text: &str) -> usize
     requires room { Fits (S.buffer output.old) (length (if is_wanted then text.now else [])) }
-    ensures writes { Puts (S.buffer output.old) (S.buffer output.new) result (if is_wanted then text.now else []) }
+    ensures writes { Puts (S.buffer output.old) (S.buffer output.new) result
+        (if is_wanted then text.now else []) }
 {
     if is_wanted { write(output, text) } else { 0 }
 }
@@ -220,7 +234,8 @@ pub fn write_if<S: Sink>(output: &mut S, is_wanted: bool, text: &str) -> usize
 /// Appends the first text if it is wanted, else the other, and returns the number of bytes
 /// appended.
 pub fn write_if_else<S: Sink>(output: &mut S, is_wanted: bool, text: &str, other: &str) -> usize
-    requires room { Fits (S.buffer output.old) (length (if is_wanted then text.now else other.now)) }
+    requires room { Fits (S.buffer output.old)
+        (length (if is_wanted then text.now else other.now)) }
     ensures writes { Puts (S.buffer output.old) (S.buffer output.new) result
         (if is_wanted then text.now else other.now) }
 {

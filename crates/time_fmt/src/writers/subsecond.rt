@@ -27,7 +27,8 @@ pub(crate) fn write_rare_decimals<S: Sink>(
     digits: SubsecondDigits,
 ) -> usize
     requires room { Fits (S.buffer output.old) (length (subsecond_text digits nanosecond)) }
-    ensures writes { Puts (S.buffer output.old) (S.buffer output.new) result (subsecond_text digits nanosecond) }
+    ensures writes { Puts (S.buffer output.old) (S.buffer output.new) result
+        (subsecond_text digits nanosecond) }
 {
     let mut taken = output.take_out();
     let count = write_first_decimals(&mut taken, nanosecond, digits);
@@ -44,7 +45,8 @@ fn write_first_decimals<S: Sink>(
     digits: SubsecondDigits,
 ) -> usize
     requires room { Fits (S.buffer output.old) (length (subsecond_text digits nanosecond)) }
-    ensures writes { Puts (S.buffer output.old) (S.buffer output.new) result (subsecond_text digits nanosecond) }
+    ensures writes { Puts (S.buffer output.old) (S.buffer output.new) result
+        (subsecond_text digits nanosecond) }
 {
     let number = nanosecond.get();
     match digits {
@@ -76,7 +78,8 @@ fn write_first_decimals<S: Sink>(
 #[inline(always)]
 pub fn write_three_decimals<S: Sink>(output: &mut S, nanosecond: Nanoseconds) -> usize
     requires room { Fits (S.buffer output.old) 3 }
-    ensures writes { Puts (S.buffer output.old) (S.buffer output.new) 3 (take 3 (fixed 9 nanosecond)) }
+    ensures writes { Puts (S.buffer output.old) (S.buffer output.new) 3
+        (take 3 (fixed 9 nanosecond)) }
     ensures count { result ≡ 3 }
 {
     let number = nanosecond.get() / 1_000_000;
@@ -103,7 +106,8 @@ fn write_three_digits<S: Sink>(output: &mut S, number: ru16<0, 999>) -> usize
 #[inline(always)]
 pub fn write_fraction<S: Sink>(output: &mut S, nanosecond: Nanoseconds) -> usize
     requires room { Fits (S.buffer output.old) (length (trimmed_fraction nanosecond)) }
-    ensures writes { Puts (S.buffer output.old) (S.buffer output.new) result (trimmed_fraction nanosecond) }
+    ensures writes { Puts (S.buffer output.old) (S.buffer output.new) result
+        (trimmed_fraction nanosecond) }
 {
     let number = nanosecond.get();
     if number % 10 != 0 {
@@ -122,7 +126,8 @@ pub fn write_fraction<S: Sink>(output: &mut S, nanosecond: Nanoseconds) -> usize
 // digits.
 fn write_rare_fraction<S: Sink>(output: &mut S, nanosecond: Nanoseconds) -> usize
     requires room { Fits (S.buffer output.old) (length (trimmed_fraction nanosecond)) }
-    ensures writes { Puts (S.buffer output.old) (S.buffer output.new) result (trimmed_fraction nanosecond) }
+    ensures writes { Puts (S.buffer output.old) (S.buffer output.new) result
+        (trimmed_fraction nanosecond) }
 {
     let mut taken = output.take_out();
     let count = write_trimmed_fraction(&mut taken, nanosecond);
@@ -135,7 +140,8 @@ fn write_rare_fraction<S: Sink>(output: &mut S, nanosecond: Nanoseconds) -> usiz
 /// Returns the number of bytes appended.
 pub fn write_six_decimals<S: Sink>(output: &mut S, nanosecond: Nanoseconds) -> usize
     requires room { Fits (S.buffer output.old) 6 }
-    ensures writes { Puts (S.buffer output.old) (S.buffer output.new) 6 (take 6 (fixed 9 nanosecond)) }
+    ensures writes { Puts (S.buffer output.old) (S.buffer output.new) 6
+        (take 6 (fixed 9 nanosecond)) }
     ensures count { result ≡ 6 }
 {
     let number = nanosecond.get() / 1_000;
@@ -168,7 +174,8 @@ pub fn write_nine_digits<S: Sink>(output: &mut S, nanosecond: Nanoseconds) -> us
 #[inline(never)]
 fn write_trimmed_fraction<S: Sink>(output: &mut S, nanosecond: Nanoseconds) -> usize
     requires room { Fits (S.buffer output.old) (length (trimmed_fraction nanosecond)) }
-    ensures writes { Puts (S.buffer output.old) (S.buffer output.new) result (trimmed_fraction nanosecond) }
+    ensures writes { Puts (S.buffer output.old) (S.buffer output.new) result
+        (trimmed_fraction nanosecond) }
 {
     let digits = truncated_subsecond_from_nanos(nanosecond);
     write(output, digits.as_str())

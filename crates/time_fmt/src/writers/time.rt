@@ -20,7 +20,8 @@ use time_provide::ranges::{Hours, Minutes, Nanoseconds, Seconds};
 
 /// Appends the hour of the 12-hour clock, 1 to 12, padded to two places as `modifier` says.
 pub fn fmt_hour_12<S: Sink>(output: &mut S, hour: Hours, modifier: modifier::Hour12) -> usize
-    requires room { Fits (S.buffer output.old) (length (padded_text modifier.padding 2 (hour_12 hour))) }
+    requires room { Fits (S.buffer output.old)
+        (length (padded_text modifier.padding 2 (hour_12 hour))) }
     ensures writes { Puts (S.buffer output.old) (S.buffer output.new) result
         (padded_text modifier.padding 2 (hour_12 hour)) }
     ensures ends { EndsWhole 2 (S.buffer output.old) (S.buffer output.new)
@@ -46,7 +47,8 @@ impl Modifier for modifier::Hour12 {
 /// Appends the hour, 0 to 23, padded to two places as `modifier` says.
 pub fn fmt_hour_24<S: Sink>(output: &mut S, hour: Hours, modifier: modifier::Hour24) -> usize
     requires room { Fits (S.buffer output.old) (length (padded_text modifier.padding 2 hour)) }
-    ensures writes { Puts (S.buffer output.old) (S.buffer output.new) result (padded_text modifier.padding 2 hour) }
+    ensures writes { Puts (S.buffer output.old) (S.buffer output.new) result
+        (padded_text modifier.padding 2 hour) }
     ensures ends { EndsWhole 2 (S.buffer output.old) (S.buffer output.new)
         (padded_text modifier.padding 2 hour) }
 {
@@ -71,7 +73,8 @@ impl Modifier for modifier::Hour24 {
 /// Appends the minute, 0 to 59, padded to two places as `modifier` says.
 pub fn fmt_minute<S: Sink>(output: &mut S, minute: Minutes, modifier: modifier::Minute) -> usize
     requires room { Fits (S.buffer output.old) (length (padded_text modifier.padding 2 minute)) }
-    ensures writes { Puts (S.buffer output.old) (S.buffer output.new) result (padded_text modifier.padding 2 minute) }
+    ensures writes { Puts (S.buffer output.old) (S.buffer output.new) result
+        (padded_text modifier.padding 2 minute) }
     ensures ends { EndsWhole 2 (S.buffer output.old) (S.buffer output.new)
         (padded_text modifier.padding 2 minute) }
 {
@@ -126,7 +129,8 @@ impl Modifier for modifier::Period {
 /// Appends the second, 0 to 59, padded to two places as `modifier` says.
 pub fn fmt_second<S: Sink>(output: &mut S, second: Seconds, modifier: modifier::Second) -> usize
     requires room { Fits (S.buffer output.old) (length (padded_text modifier.padding 2 second)) }
-    ensures writes { Puts (S.buffer output.old) (S.buffer output.new) result (padded_text modifier.padding 2 second) }
+    ensures writes { Puts (S.buffer output.old) (S.buffer output.new) result
+        (padded_text modifier.padding 2 second) }
     ensures ends { EndsWhole 2 (S.buffer output.old) (S.buffer output.new)
         (padded_text modifier.padding 2 second) }
 {
@@ -154,7 +158,8 @@ pub fn fmt_subsecond<S: Sink>(
     nanosecond: Nanoseconds,
     modifier: modifier::Subsecond,
 ) -> usize
-    requires room { Fits (S.buffer output.old) (length (subsecond_text modifier.digits nanosecond)) }
+    requires room { Fits (S.buffer output.old)
+        (length (subsecond_text modifier.digits nanosecond)) }
     ensures writes { Puts (S.buffer output.old) (S.buffer output.new) result
         (subsecond_text modifier.digits nanosecond) }
 {

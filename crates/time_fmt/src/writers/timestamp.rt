@@ -13,8 +13,7 @@ use time_below::format_description::{Component, modifier};
 use time_provide::ComponentProvider;
 
 /// Appends all digits of the seconds since 1970-01-01T00:00:00 UTC, after a sign if they are
-/// negative or
-/// `modifier` wants one.
+/// negative or `modifier` wants one.
 pub fn fmt_unix_timestamp_second<S: Sink>(
     output: &mut S,
     seconds: i64,
@@ -50,8 +49,7 @@ impl Modifier for modifier::UnixTimestampSecond {
 }
 
 /// Appends all digits of the milliseconds since 1970-01-01T00:00:00 UTC, after a sign if they are
-/// negative or
-/// `modifier` wants one.
+/// negative or `modifier` wants one.
 pub fn fmt_unix_timestamp_millisecond<S: Sink>(
     output: &mut S,
     milliseconds: i64,

@@ -55,7 +55,8 @@ pub fn fmt_weekday_long<S: Sink>(
     modifier: modifier::WeekdayLong,
 ) -> usize
     requires room { Fits (S.buffer output.old) (length (weekday_name (days_from_monday weekday))) }
-    ensures writes { Puts (S.buffer output.old) (S.buffer output.new) result (weekday_name (days_from_monday weekday)) }
+    ensures writes { Puts (S.buffer output.old) (S.buffer output.new) result
+        (weekday_name (days_from_monday weekday)) }
 {
     let _ = modifier;
     WeekdayName(weekday).put(output)
@@ -157,7 +158,8 @@ pub fn fmt_week_number_iso<S: Sink>(
     modifier: modifier::WeekNumberIso,
 ) -> usize
     requires room { Fits (S.buffer output.old) (length (padded_text modifier.padding 2 week)) }
-    ensures writes { Puts (S.buffer output.old) (S.buffer output.new) result (padded_text modifier.padding 2 week) }
+    ensures writes { Puts (S.buffer output.old) (S.buffer output.new) result
+        (padded_text modifier.padding 2 week) }
     ensures ends { EndsWhole 2 (S.buffer output.old) (S.buffer output.new)
         (padded_text modifier.padding 2 week) }
 {
@@ -179,15 +181,15 @@ impl Modifier for modifier::WeekNumberIso {
 }
 
 /// Appends the week of the year, 0 to 53, where week 1 begins on the first Sunday, padded to two
-/// places as
-/// `modifier` says.
+/// places as `modifier` says.
 pub fn fmt_week_number_sunday<S: Sink>(
     output: &mut S,
     week: SundayBasedWeek,
     modifier: modifier::WeekNumberSunday,
 ) -> usize
     requires room { Fits (S.buffer output.old) (length (padded_text modifier.padding 2 week)) }
-    ensures writes { Puts (S.buffer output.old) (S.buffer output.new) result (padded_text modifier.padding 2 week) }
+    ensures writes { Puts (S.buffer output.old) (S.buffer output.new) result
+        (padded_text modifier.padding 2 week) }
     ensures ends { EndsWhole 2 (S.buffer output.old) (S.buffer output.new)
         (padded_text modifier.padding 2 week) }
 {
@@ -209,15 +211,15 @@ impl Modifier for modifier::WeekNumberSunday {
 }
 
 /// Appends the week of the year, 0 to 53, where week 1 begins on the first Monday, padded to two
-/// places as
-/// `modifier` says.
+/// places as `modifier` says.
 pub fn fmt_week_number_monday<S: Sink>(
     output: &mut S,
     week: MondayBasedWeek,
     modifier: modifier::WeekNumberMonday,
 ) -> usize
     requires room { Fits (S.buffer output.old) (length (padded_text modifier.padding 2 week)) }
-    ensures writes { Puts (S.buffer output.old) (S.buffer output.new) result (padded_text modifier.padding 2 week) }
+    ensures writes { Puts (S.buffer output.old) (S.buffer output.new) result
+        (padded_text modifier.padding 2 week) }
     ensures ends { EndsWhole 2 (S.buffer output.old) (S.buffer output.new)
         (padded_text modifier.padding 2 week) }
 {
