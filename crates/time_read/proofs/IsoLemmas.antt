@@ -1,6 +1,6 @@
 -- Texts of the default configuration of ISO 8601, of which stamps are some, as texts of RFC 3339.
 use Rattle.std.proofs.Common.{◌≡◌, ℕ, ◌-◌, ◌≤◌, List, [], ◌++◌, replicate, get_or}
-use Rattle.std.proofs.Common.{refl, sym, ap, ap₂, subst, ◌∙◌, arith, append_assoc, inl, inr, true, false, unsigned_abs}
+use Rattle.std.proofs.Common.{refl, sym, ap, ap₂, subst, ◌∙◌, arith, inl, inr, true, false, unsigned_abs}
 use Rattle.std.specs.Prelude.{codes}
 use Rattle.std.proofs.lemmas.List.{append-nil}
 use Rattle.time_below.specs.Moment.{DateAndTime}
@@ -10,9 +10,9 @@ use Rattle.time_known.specs.Config.{default_choices}
 use Rattle.time_known.specs.Iso8601.{iso8601_of}
 use Rattle.time_known.specs.Iso8601Grammar.{CanonicalIsoDate, CanonicalIsoOffset, IsoShift, IsCanonicalIso8601}
 use Rattle.time_known.specs.Laws.{IsValue}
-use Rattle.time_known.specs.Parts.{SignedOffset, UtcOr}
+use Rattle.time_known.specs.Parts.{ClockTime, SignedOffset, UtcOr}
 use Rattle.time_known.specs.Rfc3339Grammar.{FullDate, TimeSecfrac, TimeOffset, ColonMinute, Rfc3339Spells}
-use Rattle.time_known.specs.Rules.{Digits, Literal, ◌▹◌}
+use Rattle.time_known.specs.Rules.{Rule, Digits, Literal, ◌▹◌}
 use Rattle.time_known.specs.Stamps.{HasStamp, stamp_text}
 use Rattle.time_known.specs.Values.{OrdinalDate, OffsetDateAndTime, Offset, utc}
 use Rattle.time_read.specs.Profiles.{in_utc}
@@ -20,6 +20,7 @@ use Rattle.time_known.proofs.Rules.Offsets.{one_signed}
 use Rattle.time_known.proofs.Rules.Texts.{one_after, reads_digits, two_zeros}
 use Rattle.time_known.proofs.StampLemmas.{default_is_whole, stamps_are_completed}
 use Rattle.time_known.proofs.iso8601.WholeLemmas.{iso8601_is_written}
+use Rattle.time_read.proofs.Regroup.{both_as, rest_as, to_right}
 
 -- a date of four digits of the year
 pub date_as : (d : OrdinalDate) (text : List ℕ) → CanonicalIsoDate default_choices d text → FullDate d text
@@ -27,13 +28,7 @@ date_as d text f = record {
   year = f.year;
   month = f.month;
   day = f.day;
-  spelled = record {
-    front = f.spelled.front;
-    rest = f.spelled.rest;
-    whole = f.spelled.whole;
-    first = f.spelled.first.0;
-    second = f.spelled.second;
-  };
+  spelled = both_as f.spelled (λ t y. y.0) (λ t r. r);
   month_fits = f.month_fits;
   day_fits = f.day_fits;
   is = f.is;
@@ -99,38 +94,21 @@ offset_as o text small f = at f.0 f.1 where
       } in
       inr (s, λ e. zed (short (one_offset text s (subst (SignedOffset 23 ColonMinute utc) (sym e) minus_zero))) e)
 
--- a canonical text of an offset below 24 hours
+-- a canonical text, part after part
+abbrev pub Nine : ℕ → Rule
+Nine n = Literal (codes ".") ▹ Digits 9 n ▹ Literal []
+
+pub in_parts : (v : OffsetDateAndTime) {text : List ℕ} → IsCanonicalIso8601 default_choices v text
+    → (CanonicalIsoDate default_choices v.date ▹ Literal (codes "T") ▹ ClockTime (codes ":") v.time ▹ Nine v.time.nanosecond
+    ▹ CanonicalIsoOffset default_choices v.offset) text
+in_parts v s = rest_as s (λ t a. rest_as (to_right a) (λ u b. to_right b))
+
+-- one of an offset below 24 hours
 iso_as : (v : OffsetDateAndTime) (text : List ℕ) → unsigned_abs v.offset.hours ≤ 23 → IsCanonicalIso8601 default_choices v text
     → Rfc3339Spells v text
 iso_as v text small s =
-    let t = s.second in
-    let u = t.first in
-    let c = u.second in
-    record {
-      front = s.front;
-      rest = s.rest;
-      whole = s.whole;
-      first = date_as v.date s.front s.first;
-      second = record {
-        front = u.front;
-        rest = u.rest ++ t.rest;
-        whole = t.whole ∙ ap (λ x. x ++ t.rest) u.whole ∙ append_assoc u.front u.rest t.rest;
-        first = u.first;
-        second = record {
-          front = c.front;
-          rest = c.rest ++ t.rest;
-          whole = ap (λ x. x ++ t.rest) c.whole ∙ append_assoc c.front c.rest t.rest;
-          first = c.first;
-          second = record {
-            front = c.rest;
-            rest = t.rest;
-            whole = refl;
-            first = inr (fraction_as v.time.nanosecond c.rest c.second);
-            second = offset_as v.offset t.rest small t.second;
-          };
-        };
-      };
-    }
+    both_as (in_parts v s) (λ t d. date_as v.date t d) (λ t a. rest_as a (λ u b. rest_as b (λ w c.
+    both_as c (λ x n. inr (fraction_as v.time.nanosecond x n)) (λ x o. offset_as v.offset x small o))))
 
 -- what is completed by the default configuration
 pub iso_is_rfc : (v : OffsetDateAndTime) (text : List ℕ) → IsValue v → unsigned_abs v.offset.hours ≤ 23

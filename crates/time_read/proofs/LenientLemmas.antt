@@ -16,6 +16,7 @@ use Rattle.time_read.specs.declared.fault.Profile.TheVariants as profile
 use Rattle.time_read.proofs.IsoLemmas.{one_offset}
 use Rattle.time_read.proofs.OffsetEnds.{itself, no_small_z}
 use Rattle.time_read.proofs.PartLemmas.{reads_full_date}
+use Rattle.time_read.proofs.Regroup.{both_as, rest_as}
 use Rattle.time_read.proofs.Tails.{after_lead, after_offset_alone, same_front}
 
 -- ---- fractions
@@ -113,31 +114,4 @@ means_secfrac {text = text} f = record {
 
 pub means_itself : (v : OffsetDateAndTime) (text : List ℕ) → Rfc3339Spells v text → Rfc3339Means v text
 means_itself v text s =
-    let t = s.second in
-    let c = t.second in
-    let f = c.second in
-    record {
-      front = s.front;
-      rest = s.rest;
-      whole = s.whole;
-      first = s.first;
-      second = record {
-        front = t.front;
-        rest = t.rest;
-        whole = t.whole;
-        first = inl t.first;
-        second = record {
-          front = c.front;
-          rest = c.rest;
-          whole = c.whole;
-          first = c.first;
-          second = record {
-            front = f.front;
-            rest = f.rest;
-            whole = f.whole;
-            first = means_secfrac f.first;
-            second = itself f.second;
-          };
-        };
-      };
-    }
+    rest_as s (λ t a. both_as a (λ u e. inl e) (λ u b. rest_as b (λ w c. both_as c (λ x f. means_secfrac f) (λ x o. itself o))))

@@ -12,13 +12,15 @@ use Rattle.time_read.specs.Front.{Front, FieldFault}
 use Rattle.time_read.specs.Mail.{ClockAfter, DateAfter, DayAfter, FourthDigit, HoursMinutes, LastOfLeap, LastOfYear, MonthAfter}
 use Rattle.time_read.specs.Mail.{NamedParts, SignAfter, YearAfter, ZoneAfter, first_fourth, last_fourth}
 use Rattle.time_read.specs.Names.{NameOf}
-use Rattle.time_read.specs.Shapes.{OneDigit, Seq, Two, TwoAfter, least_minute, month_days}
+use Rattle.time_read.specs.Shapes.{OfClock, OneDigit, Seq, Two, TwoAfter, least_minute, month_days}
 use Rattle.time_read.specs.declared.fault.Fault.{Fault}
 use Rattle.time_read.specs.declared.fault.Names.TheVariants as names
 use Rattle.time_read.specs.declared.fault.Expected.TheVariants as expected
 use Rattle.time_read.proofs.Fields.{CanGoOn, begins_first, field_as, field_first, field_after, front_as, front_then}
 use Rattle.time_read.proofs.NameLemmas.{reads_name_of, begins_name}
 use Rattle.time_read.proofs.Numbers.{reads_one, reads_two, reads_two_after, begins_two, begins_two_after, begins_byte, two_of, two_is, to_four, four_to}
+use Rattle.time_read.proofs.OffsetEnds.{least_small}
+use Rattle.time_read.proofs.PartLemmas.{begins_clock, reads_clock}
 use Rattle.time_read.proofs.Seqs.{goes, reads_seq}
 
 -- ---- leap years by their digits
@@ -315,40 +317,11 @@ reads_named =
 
 -- ---- times of day
 
-minute_goes_on : CanGoOn 3 (TwoAfter 58 0 59) (λ _. TwoAfter 58 0 59)
-minute_goes_on = goes (reads_two_after 58 0 59) (λ m front s. begins_two_after 58 0 59 (omega arith, omega arith))
-
-hour_goes_on : CanGoOn 3 (TwoAfter 32 0 23) (λ _. Seq (TwoAfter 58 0 59) (λ _. TwoAfter 58 0 59))
-hour_goes_on = goes (reads_two_after 32 0 23) (λ h front s. begins_first minute_goes_on (begins_two_after 58 0 59 (omega arith, omega arith)))
-
 pub reads_clock_after : Reads 9 ClockAfter
-reads_clock_after =
-    reads_seq {Q = λ _. Seq (TwoAfter 58 0 59) (λ _. TwoAfter 58 0 59)} (reads_two_after 32 0 23)
-    (λ _. reads_seq {Q = λ _. TwoAfter 58 0 59} (reads_two_after 58 0 59) (λ _. reads_two_after 58 0 59))
+reads_clock_after = reads_after (codes " ") reads_clock
 
 pub begins_clock_after : Begins (SpellsSome ClockAfter) []
-begins_clock_after = begins_first hour_goes_on (begins_two_after 32 0 23 (omega arith, omega arith))
-
-pub clock_hour : (text : List ℕ) (e : Fault) → FieldFault 3 (SpellsSome (TwoAfter 32 0 23)) text e
-    → FieldFault 9 (SpellsSome ClockAfter) text e
-clock_hour text e f = field_first 6 hour_goes_on f
-
-pub clock_minute : (h : ℕ) (text rest : List ℕ) (e : Fault) → Front (TwoAfter 32 0 23 h) text rest
-    → FieldFault 3 (SpellsSome (TwoAfter 58 0 59)) rest e → FieldFault 9 (SpellsSome ClockAfter) text e
-clock_minute h text rest e p f =
-    field_after {Q = λ _. Seq (TwoAfter 58 0 59) (λ _. TwoAfter 58 0 59)} (reads_two_after 32 0 23) h p (field_first 3 minute_goes_on f)
-
-pub clock_second : (h m : ℕ) (text rest last : List ℕ) (e : Fault) → Front (TwoAfter 32 0 23 h) text rest
-    → Front (TwoAfter 58 0 59 m) rest last → FieldFault 3 (SpellsSome (TwoAfter 58 0 59)) last e
-    → FieldFault 9 (SpellsSome ClockAfter) text e
-clock_second h m text rest last e p q f =
-    field_after {Q = λ _. Seq (TwoAfter 58 0 59) (λ _. TwoAfter 58 0 59)} (reads_two_after 32 0 23) h p
-    (field_after {Q = λ _. TwoAfter 58 0 59} (reads_two_after 58 0 59) m q f)
-
-pub clock_front : (h m s : ℕ) (text rest last end : List ℕ) → Front (TwoAfter 32 0 23 h) text rest → Front (TwoAfter 58 0 59 m) rest last
-    → Front (TwoAfter 58 0 59 s) last end → Front (ClockAfter (h, (m, s))) text end
-clock_front h m s text rest last end p q r =
-    front_then {Q = λ _. Seq (TwoAfter 58 0 59) (λ _. TwoAfter 58 0 59)} h (m, s) p (front_then {Q = λ _. TwoAfter 58 0 59} m s q r)
+begins_clock_after = begins_byte OfClock 32 begins_clock
 
 -- ---- zones
 
@@ -383,9 +356,6 @@ reads_sign_after = reads_after (codes " ") reads_sign
 
 pub begins_sign_after : Begins (SpellsSome SignAfter) []
 begins_sign_after = begins_byte Sign 32 begins_sign
-
-least_small : (b : Bool) (hour : ℕ) → least_minute b hour ≤ 1
-least_small b hour = grind (arith, nat_tests)
 
 hours_go_on : (b : Bool) → CanGoOn 2 (Two 0 25) (λ hour. Two (least_minute b hour) 59)
 hours_go_on b = goes (reads_two 0 25) (λ h front s. let l = least_small b h in begins_two (least_minute b h) 59 (omega arith, omega arith))

@@ -1,8 +1,7 @@
 -- Whole texts of RFC 2822, by their numbers.
-use Rattle.std.proofs.Common.{◌≡◌, ◌≢◌, ℕ, zero, suc, ◌+◌, ◌-◌, ◌≤◌, List, [], ◌∷◌, ◌++◌, length, get_or, drop}
+use Rattle.std.proofs.Common.{◌≡◌, ◌≢◌, ℕ, ◌+◌, ◌-◌, ◌≤◌, List, [], ◌++◌, length, get_or, drop}
 use Rattle.std.proofs.Common.{refl, sym, ap, ap₂, subst, ◌∙◌, arith, append_assoc, Bool, true, false, pos}
-use Rattle.std.specs.Prelude.{codes, ◌==◌, if◌then◌else◌, slice_index_or}
-use Rattle.std.proofs.lemmas.Bool.Decides.{nat_tests}
+use Rattle.std.specs.Prelude.{codes, if◌then◌else◌, slice_index_or}
 use Rattle.std.proofs.lemmas.List.{drop_at}
 use Rattle.time_below.specs.Calendar.{date_of, weekday_of, days_in_month, is_leap_year}
 use Rattle.time_below.specs.Offset.{signed_offset}
@@ -12,8 +11,8 @@ use Rattle.time_below.proofs.CalendarLemmas.{weekday_below}
 use Rattle.time_below.proofs.MonthLemmas.{month_length}
 use Rattle.time_digits.specs.Digits.{fixed}
 use Rattle.time_known.specs.Laws.{OneValue}
-use Rattle.time_known.specs.Rfc2822Grammar.{NamedDate, Zone, ClockOfDay, TimeAndZone, Rfc2822Spells, day_names, month_names}
-use Rattle.time_known.specs.Rules.{Digits, Literal, Name, ◌▹◌}
+use Rattle.time_known.specs.Rfc2822Grammar.{NamedDate, Zone, TimeAndZone, Rfc2822Spells, day_names, month_names}
+use Rattle.time_known.specs.Rules.{Rule, Digits, Literal, Name, Sign, ◌▹◌}
 use Rattle.time_known.specs.Values.{OrdinalDate, OffsetDateAndTime, Offset, TimeOfDay}
 use Rattle.time_known.proofs.Rules.Parts.{same_value}
 use Rattle.time_known.proofs.Rules.Texts.{Reads, reads_digits, reads_day_name, one_then, two_zeros, digits_are_fixed}
@@ -21,13 +20,15 @@ use Rattle.time_read.specs.Fault.{SpellsSome}
 use Rattle.time_read.specs.Front.{Front, FieldFault, TextFault}
 use Rattle.time_read.specs.Mail.{ClockAfter, DateAfter, HoursMinutes, MailParts, MailText, NamedParts, Numbers}
 use Rattle.time_read.specs.Mail.{IsOtherWeekday, SpellsButWeekday, TimeAfter, ZoneAfter, mail_value}
-use Rattle.time_read.specs.Shapes.{least_minute, month_days, IsTrailing}
+use Rattle.time_read.specs.Shapes.{Clock, least_minute, month_days, IsTrailing}
 use Rattle.time_read.specs.declared.fault.Fault.{Fault}
 use Rattle.time_read.specs.declared.fault.NotRead.{NotRead}
 use Rattle.time_read.specs.declared.fault.Expected.TheVariants as expected
 use Rattle.time_read.proofs.Fields.{CanGoOn, begins_first, text_as, text_first, text_after, text_of_field, front_then}
 use Rattle.time_read.proofs.MailLemmas.{reads_named, reads_clock_after, reads_zone, begins_clock_after, begins_zone}
-use Rattle.time_read.proofs.OffsetEnds.{text_end, text_whole}
+use Rattle.time_read.proofs.OffsetEnds.{least_fits, text_end, text_whole}
+use Rattle.time_read.proofs.PartLemmas.{clock_at, clock_of_time, time_at}
+use Rattle.time_read.proofs.Regroup.{both_as, rest_as, to_left, to_right, parts_of, seq_of}
 use Rattle.time_read.proofs.Seqs.{goes, reads_seq}
 
 -- ---- zones
@@ -39,7 +40,7 @@ zeros : (Digits 2 0 ▹ Digits 2 0) (codes "0000")
 zeros = record { front = codes "00"; rest = codes "00"; whole = refl; first = two_zeros; second = two_zeros }
 
 two_twos : (b : Bool) {p : ℕ × ℕ} {text : List ℕ} → HoursMinutes b p text → (Digits 2 p.0 ▹ Digits 2 p.1) text
-two_twos b s = record { front = s.front; rest = s.rest; whole = s.whole; first = s.first.0; second = s.second.0 }
+two_twos b s = both_as (parts_of s) (λ t h. h.0) (λ t m. m.0)
 
 -- no hours and minutes after a minus are zero
 no_minus_zero : (b : Bool) (p : ℕ × ℕ) (text : List ℕ) → HoursMinutes b p text → (if b then codes "-" else codes "+") ++ text ≢ codes "-0000"
@@ -51,26 +52,19 @@ no_minus_zero true p text s e =
     let h : least_minute true 0 ≤ 0 = subst (λ (q : ℕ × ℕ). least_minute true q.0 ≤ q.1) zero some in
     omega arith
 
-zone_to : (b : Bool) (p : ℕ × ℕ) (sign text : List ℕ) → sign ≡ (if b then codes "-" else codes "+") → HoursMinutes b p text
-    → Zone (signed_offset b p.0 p.1) (sign ++ text)
-zone_to b p sign text e s = (
+zone_to : (b : Bool) (p : ℕ × ℕ) (text : List ℕ) → (Sign b ▹ HoursMinutes b p) text → Zone (signed_offset b p.0 p.1) text
+zone_to b p text s = (
   record {
     is_negative = b;
     hour = p.0;
     minute = p.1;
-    spelled = record { front = sign; rest = text; whole = refl; first = e; second = two_twos b s };
-    hour_fits = s.first.1.1;
-    minute_fits = omega (arith, s.second.1.1);
+    spelled = rest_as s (λ t n. two_twos b n);
+    hour_fits = s.second.first.1.1;
+    minute_fits = omega (arith, s.second.second.1.1);
     is = refl;
   },
-  λ f. no_minus_zero b p text s (ap (λ t. t ++ text) (sym e) ∙ f),
+  λ f. no_minus_zero b p s.rest s.second (ap (λ t. t ++ s.rest) (sym s.first) ∙ sym s.whole ∙ f),
 )
-
-least_is : (b : Bool) (hour minute : ℕ) → (b ≡ true → hour ≡ 0 → minute ≡ 0 → ⊥) → least_minute b hour ≤ minute
-least_is false hour minute n = omega arith
-least_is true zero zero n = absurd (n refl refl refl)
-least_is true zero (suc m) n = omega arith
-least_is true (suc h) m n = let e : suc h == 0 ≡ false = grind (arith, nat_tests) in rw e (omega arith)
 
 zero_is : (b : Bool) (hour minute : ℕ) (text : List ℕ) → (Digits 2 hour ▹ Digits 2 minute) text → b ≡ true → hour ≡ 0 → minute ≡ 0
     → (if b then codes "-" else codes "+") ++ text ≡ codes "-0000"
@@ -80,29 +74,19 @@ zero_is b hour minute text s e h m =
     let last = digits_are_fixed s.second ∙ ap (fixed 2) m in
     ap₂ (λ (c : Bool) (t : List ℕ). (if c then codes "-" else codes "+") ++ t) e (s.whole ∙ ap₂ (λ x y. x ++ y) first last)
 
-to_zone : (o : Offset) (text : List ℕ) → Zone o text → (p : Bool × (ℕ × ℕ)) × ((o ≡ signed_offset p.0 p.1.0 p.1.1) × ZoneAfter p (32 ∷ text))
+to_zone : (o : Offset) (text : List ℕ) → Zone o text
+    → (p : Bool × (ℕ × ℕ)) × ((o ≡ signed_offset p.0 p.1.0 p.1.1) × (Sign p.0 ▹ HoursMinutes p.0 p.1) text)
 to_zone o text z =
     let s = z.0 in
-    let d = s.spelled.second in
     let sign : s.spelled.front ≡ (if s.is_negative then codes "-" else codes "+") = s.spelled.first in
-    let least : least_minute s.is_negative s.hour ≤ s.minute = least_is s.is_negative s.hour s.minute (λ p h m.
-    z.1 (s.spelled.whole ∙ ap (λ t. t ++ s.spelled.rest) sign ∙ zero_is s.is_negative s.hour s.minute s.spelled.rest d p h m)) in (
+    let least : least_minute s.is_negative s.hour ≤ s.minute = least_fits s.is_negative s.hour s.minute (λ p h m.
+    z.1 (s.spelled.whole ∙ ap (λ t. t ++ s.spelled.rest) sign
+    ∙ zero_is s.is_negative s.hour s.minute s.spelled.rest s.spelled.second p h m)) in (
       (s.is_negative, (s.hour, s.minute)),
       (
         s.is,
-        record {
-          front = 32 ∷ s.spelled.front;
-          rest = s.spelled.rest;
-          whole = ap (λ t. 32 ∷ t) s.spelled.whole;
-          first = record { front = 32 ∷ []; rest = s.spelled.front; whole = refl; first = refl; second = sign };
-          second = record {
-            front = d.front;
-            rest = d.rest;
-            whole = d.whole;
-            first = (d.first, (omega arith, s.hour_fits));
-            second = (d.second, (least, omega (arith, s.minute_fits)));
-          };
-        },
+        rest_as s.spelled (λ t n. seq_of (s.hour, s.minute) (both_as n (λ u d. (d, (omega arith, s.hour_fits)))
+            (λ u d. (d, (least, omega (arith, s.minute_fits)))))),
       ),
     )
 
@@ -114,15 +98,25 @@ month_place m h = omega arith
 longer_in_leap : (b : Bool) (m : ℕ) → days_in_month b m ≤ days_in_month true m
 longer_in_leap b m = grind arith
 
+-- two texts as one, and one as two
+one_literal : {P : Rule} (a b : List ℕ) {text : List ℕ} → (Literal a ▹ Literal b ▹ P) text → (Literal (a ++ b) ▹ P) text
+one_literal a b s = both_as (to_left s) (λ t l. l.whole ∙ ap₂ (λ x y. x ++ y) l.first l.second) (λ t p. p)
+
+two_literals : {P : Rule} (a b : List ℕ) {text : List ℕ} → (Literal (a ++ b) ▹ P) text → (Literal a ▹ Literal b ▹ P) text
+two_literals a b s =
+    to_right (both_as s (λ t e. record { front = a; rest = b; whole = e; first = refl; second = refl }) (λ t p. p))
+
 -- what follows the name of the weekday
 date_to : (p : ℕ × (ℕ × ℕ)) (name text : List ℕ) → DateAfter p text
     → Name day_names (weekday_of (date_of (pos p.1.1) (p.1.0 + 1) p.0)) name
     → NamedDate (date_of (pos p.1.1) (p.1.0 + 1) p.0) (name ++ text)
 date_to p name text s n =
-    let day = s.first in
-    let two = day.second in
-    let m = s.second.first in
+    let day = s.first.second.second in
+    let m = s.second.first.second in
     let y = s.second.second in
+    let month : (Literal (codes " ") ▹ Name month_names (p.1.0 + 1 - 1) ▹ Literal (codes " ") ▹ Digits 4 p.1.1) s.rest =
+    to_right (both_as (parts_of s.second)
+    (λ t a. rest_as a (λ u b. subst (λ (k : ℕ). Name month_names k u) (month_less p.1.0) b.0)) (λ t a. a.spelled)) in
     record {
       year = p.1.1;
       month = p.1.0 + 1;
@@ -132,35 +126,17 @@ date_to p name text s n =
         rest = text;
         whole = refl;
         first = n;
-        second = record {
-          front = codes ", ";
-          rest = two.rest ++ s.rest;
-          whole = s.whole ∙ ap (λ t. t ++ s.rest) (day.whole ∙ ap₂ (λ x y. x ++ y) day.first (two.whole ∙ ap (λ t. t ++ two.rest) two.first));
-          first = refl;
-          second = record {
-            front = two.rest;
-            rest = s.rest;
-            whole = refl;
-            first = two.second.0;
-            second = record {
-              front = m.front;
-              rest = m.rest ++ s.second.rest;
-              whole = s.second.whole ∙ ap (λ t. t ++ s.second.rest) m.whole ∙ append_assoc m.front m.rest s.second.rest;
-              first = m.first;
-              second = record {
-                front = m.rest;
-                rest = s.second.rest;
-                whole = refl;
-                first = subst (λ (k : ℕ). Name month_names k m.rest) (month_less p.1.0) m.second.0;
-                second = y.spelled;
-              };
-            };
-          };
-        };
+        second = to_right (record {
+          front = s.front;
+          rest = s.rest;
+          whole = s.whole;
+          first = rest_as (one_literal (codes ",") (codes " ") s.first) (λ t d. d.0);
+          second = month;
+        });
       };
       year_fits = y.fits;
-      month_fits = (omega arith, omega (arith, m.second.0.exists));
-      day_fits = (two.second.1.0, y.has);
+      month_fits = (omega arith, omega (arith, m.0.exists));
+      day_fits = (day.1.0, y.has);
       is = refl;
     } where
       month_less : (k : ℕ) → k ≡ k + 1 - 1
@@ -169,12 +145,6 @@ date_to p name text s n =
 to_date : (d : OrdinalDate) (text : List ℕ) → NamedDate d text
     → (p : ℕ × (ℕ × ℕ)) × ((d ≡ date_of (pos p.1.1) (p.1.0 + 1) p.0) × NamedParts (weekday_of d, p) text)
 to_date d text f =
-    let s = f.spelled in
-    let a = s.second in
-    let b = a.second in
-    let e = b.second in
-    let g = e.second in
-    let h = g.second in
     let place : f.month ≡ f.month - 1 + 1 = month_place f.month f.month_fits.0 in
     let long : f.day ≤ 31 = (let l = month_length (is_leap_year (pos f.year)) f.month in omega (arith, f.day_fits.1)) in
     let within : f.day ≤ days_in_month true f.month = (let l = longer_in_leap (is_leap_year (pos f.year)) f.month in omega (arith, f.day_fits.1)) in
@@ -183,163 +153,37 @@ to_date d text f =
       (f.day, (f.month - 1, f.year)),
       (
         f.is ∙ ap (λ (k : ℕ). date_of (pos f.year) k f.day) place,
-        record {
-          front = s.front;
-          rest = s.rest;
-          whole = s.whole;
-          first = (s.first, tt);
-          second = record {
-            front = a.front ++ b.front;
-            rest = b.rest;
-            whole = a.whole ∙ ap (λ t. a.front ++ t) b.whole ∙ sym (append_assoc a.front b.front b.rest);
-            first = record {
-              front = codes ",";
-              rest = codes " " ++ b.front;
-              whole = ap (λ t. t ++ b.front) a.first;
-              first = refl;
-              second = record {
-                front = codes " ";
-                rest = b.front;
-                whole = refl;
-                first = refl;
-                second = (b.first, (f.day_fits.0, long));
-              };
-            };
-            second = record {
-              front = e.front ++ g.front;
-              rest = g.rest;
-              whole = e.whole ∙ ap (λ t. e.front ++ t) g.whole ∙ sym (append_assoc e.front g.front g.rest);
-              first = record { front = e.front; rest = g.front; whole = refl; first = e.first; second = (g.first, in_leap) };
-              second = record { spelled = h; fits = f.year_fits; has = has };
-            };
-          };
-        },
+        seq_of (weekday_of d, (f.day, (f.month - 1, f.year))) (both_as f.spelled (λ t n. (n, tt))
+            (λ t r. seq_of (f.day, (f.month - 1, f.year)) (both_as (to_left r)
+            (λ u a. rest_as (two_literals (codes ",") (codes " ") a) (λ v b. rest_as b (λ w n. (n, (f.day_fits.0, long)))))
+            (λ u a. seq_of (f.month - 1, f.year) (both_as (to_left a) (λ v b. rest_as b (λ w n. (n, in_leap)))
+            (λ v b. record { spelled = b; fits = f.year_fits; has = has })))))),
       ),
     )
 
 -- ---- times of day
 
-abbrev time_of : ℕ × (ℕ × ℕ) → TimeOfDay
-time_of q = record { hour = q.0; minute = q.1.0; second = q.1.1; nanosecond = 0 }
-
-clock_to : (q : ℕ × (ℕ × ℕ)) (text : List ℕ) → ClockAfter q text → (Literal (codes " ") ▹ ClockOfDay (time_of q)) text
-clock_to q text s =
-    let a = s.first in
-    let r = s.second in
-    let e = r.first in
-    let g = r.second in
-    record {
-      front = a.front;
-      rest = a.rest ++ s.rest;
-      whole = s.whole ∙ ap (λ t. t ++ s.rest) a.whole ∙ append_assoc a.front a.rest s.rest;
-      first = a.first;
-      second = record {
-        spelled = record {
-          front = a.rest;
-          rest = s.rest;
-          whole = refl;
-          first = a.second.0;
-          second = record {
-            front = e.front;
-            rest = e.rest ++ r.rest;
-            whole = r.whole ∙ ap (λ t. t ++ r.rest) e.whole ∙ append_assoc e.front e.rest r.rest;
-            first = e.first;
-            second = record {
-              front = e.rest;
-              rest = r.rest;
-              whole = refl;
-              first = e.second.0;
-              second = record { front = g.front; rest = g.rest; whole = g.whole; first = g.first; second = g.second.0 };
-            };
-          };
-        };
-        hour_fits = omega (arith, a.second.1.1);
-        minute_fits = omega (arith, e.second.1.1);
-        second_fits = omega (arith, g.second.1.1);
-      };
-    }
-
-to_clock : (t : TimeOfDay) (text : List ℕ) → (Literal (codes " ") ▹ ClockOfDay t) text → ClockAfter (t.hour, (t.minute, t.second)) text
-to_clock t text x =
-    let c = x.second in
-    let s = c.spelled in
-    let a = s.second in
-    let b = a.second in
-    let d = b.second in
-    record {
-      front = x.front ++ s.front;
-      rest = s.rest;
-      whole = x.whole ∙ ap (λ t. x.front ++ t) s.whole ∙ sym (append_assoc x.front s.front s.rest);
-      first = record {
-        front = x.front;
-        rest = s.front;
-        whole = refl;
-        first = x.first;
-        second = (s.first, (omega arith, omega (arith, c.hour_fits)));
-      };
-      second = record {
-        front = a.front ++ b.front;
-        rest = b.rest;
-        whole = a.whole ∙ ap (λ t. a.front ++ t) b.whole ∙ sym (append_assoc a.front b.front b.rest);
-        first = record {
-          front = a.front;
-          rest = b.front;
-          whole = refl;
-          first = a.first;
-          second = (b.first, (omega arith, omega (arith, c.minute_fits)));
-        };
-        second = record {
-          front = d.front;
-          rest = d.rest;
-          whole = d.whole;
-          first = d.first;
-          second = (d.second, (omega arith, omega (arith, c.second_fits)));
-        };
-      };
-    }
-
 -- a time of day and an offset
-time_to : (p : (ℕ × (ℕ × ℕ)) × (Bool × (ℕ × ℕ))) (text : List ℕ) → TimeAfter p text
-    → (Literal (codes " ") ▹ TimeAndZone (time_of p.0) (signed_offset p.1.0 p.1.1.0 p.1.1.1)) text
+time_to : (p : Clock × (Bool × (ℕ × ℕ))) (text : List ℕ) → TimeAfter p text
+    → (Literal (codes " ") ▹ TimeAndZone (time_at p.0 0) (signed_offset p.1.0 p.1.1.0 p.1.1.1)) text
 time_to p text t =
-    let c = clock_to p.0 t.front t.first in
-    let z = t.second in
-    let a = z.first in
-    record {
-      front = c.front;
-      rest = c.rest ++ t.rest;
-      whole = t.whole ∙ ap (λ x. x ++ t.rest) c.whole ∙ append_assoc c.front c.rest t.rest;
-      first = c.first;
-      second = record {
-        front = c.rest;
-        rest = t.rest;
-        whole = refl;
-        first = c.second;
-        second = record {
-          front = a.front;
-          rest = a.rest ++ z.rest;
-          whole = z.whole ∙ ap (λ x. x ++ z.rest) a.whole ∙ append_assoc a.front a.rest z.rest;
-          first = a.first;
-          second = zone_to p.1.0 p.1.1 a.rest z.rest a.second z.second;
-        };
-      };
-    }
+    to_right (both_as (parts_of t) (λ u c. c) (λ u z. rest_as (to_right (parts_of z)) (λ v s. zone_to p.1.0 p.1.1 v s)))
 
 to_time : (t : TimeOfDay) (o : Offset) (text : List ℕ) → (Literal (codes " ") ▹ TimeAndZone t o) text
-    → (q : Bool × (ℕ × ℕ)) × ((o ≡ signed_offset q.0 q.1.0 q.1.1) × TimeAfter ((t.hour, (t.minute, t.second)), q) text)
+    → (q : Bool × (ℕ × ℕ)) × ((o ≡ signed_offset q.0 q.1.0 q.1.1) × TimeAfter (clock_at t, q) text)
 to_time t o text x =
-    let y = x.second in
+    let y = to_left x in
     let z = y.second in
     let q = to_zone o z.rest z.second in (
       q.0,
       (
         q.1.0,
         record {
-          front = x.front ++ y.front;
+          front = y.front;
           rest = y.rest;
-          whole = x.whole ∙ ap (λ t. x.front ++ t) y.whole ∙ sym (append_assoc x.front y.front y.rest);
-          first = to_clock t (x.front ++ y.front) (record { front = x.front; rest = y.front; whole = refl; first = x.first; second = y.first });
-          second = subst (ZoneAfter q.0) (sym (z.whole ∙ ap (λ t. t ++ z.rest) z.first)) q.1.1;
+          whole = y.whole;
+          first = rest_as y.first (λ u c. clock_of_time t c);
+          second = seq_of q.0 (to_left (record { front = z.front; rest = z.rest; whole = z.whole; first = z.first; second = q.1.1 }));
         },
       ),
     )
@@ -384,7 +228,7 @@ in_numbers u text (s, whole) =
     let d = to_date u.date s.front s.first in
     let t = to_time u.time u.offset s.rest s.second in
     record {
-      numbers = ((weekday_of u.date, d.0), ((u.time.hour, (u.time.minute, u.time.second)), t.0));
+      numbers = ((weekday_of u.date, d.0), (clock_at u.time, t.0));
       is = same_value d.1.0 (ap (λ (n : ℕ). let time : TimeOfDay = record { hour = u.time.hour; minute = u.time.minute; second = u.time.second; nanosecond = n } in time) whole) t.1.0;
       named = refl;
       spelled = record { front = s.front; rest = s.rest; whole = s.whole; first = d.1.1; second = t.1.1 };
@@ -437,23 +281,23 @@ pub whole_clock : (d : ℕ × (ℕ × (ℕ × ℕ))) (text rest : List ℕ) (e :
     → FieldFault 9 (SpellsSome ClockAfter) rest e → TextFault (SpellsSome SpellsButWeekday) text e
 whole_clock d text rest e p f = as_mail (text_after {Q = λ _. TimeAfter} reads_named d p (text_first clock_goes_on f))
 
-pub whole_zone : (d : ℕ × (ℕ × (ℕ × ℕ))) (c : ℕ × (ℕ × ℕ)) (text rest last : List ℕ) (e : Fault) → Front (NamedParts d) text rest
+pub whole_zone : (d : ℕ × (ℕ × (ℕ × ℕ))) (c : Clock) (text rest last : List ℕ) (e : Fault) → Front (NamedParts d) text rest
     → Front (ClockAfter c) rest last → FieldFault 6 (SpellsSome ZoneAfter) last e → TextFault (SpellsSome SpellsButWeekday) text e
 whole_zone d c text rest last e p q f =
     as_mail (text_after {Q = λ _. TimeAfter} reads_named d p (text_after {Q = λ _. ZoneAfter} reads_clock_after c q (text_of_field reads_zone.width f)))
 
-mail_front : (d : ℕ × (ℕ × (ℕ × ℕ))) (c : ℕ × (ℕ × ℕ)) (z : Bool × (ℕ × ℕ)) (text rest last end : List ℕ) → Front (NamedParts d) text rest
+mail_front : (d : ℕ × (ℕ × (ℕ × ℕ))) (c : Clock) (z : Bool × (ℕ × ℕ)) (text rest last end : List ℕ) → Front (NamedParts d) text rest
     → Front (ClockAfter c) rest last → Front (ZoneAfter z) last end → Front (MailParts (d, (c, z))) text end
 mail_front d c z text rest last end p q r =
     front_then {Q = λ _. TimeAfter} d (c, z) p (front_then {Q = λ _. ZoneAfter} c z q r)
 
-pub whole_end : (d : ℕ × (ℕ × (ℕ × ℕ))) (c : ℕ × (ℕ × ℕ)) (z : Bool × (ℕ × ℕ)) (text rest last end : List ℕ) (e : Fault)
+pub whole_end : (d : ℕ × (ℕ × (ℕ × ℕ))) (c : Clock) (z : Bool × (ℕ × ℕ)) (text rest last end : List ℕ) (e : Fault)
     → Front (NamedParts d) text rest → Front (ClockAfter c) rest last → Front (ZoneAfter z) last end → IsTrailing end e
     → TextFault (SpellsSome SpellsButWeekday) text e
 whole_end d c z text rest last end e p q r t =
     as_mail (text_end MailParts reads_mail.width (d, (c, z)) (mail_front d c z text rest last end p q r) t)
 
-pub whole_is : (d : ℕ × (ℕ × (ℕ × ℕ))) (c : ℕ × (ℕ × ℕ)) (z : Bool × (ℕ × ℕ)) (v : OffsetDateAndTime) (text rest last end : List ℕ)
+pub whole_is : (d : ℕ × (ℕ × (ℕ × ℕ))) (c : Clock) (z : Bool × (ℕ × ℕ)) (v : OffsetDateAndTime) (text rest last end : List ℕ)
     → Front (NamedParts d) text rest → Front (ClockAfter c) rest last → Front (ZoneAfter z) last end → end ≡ []
     → v ≡ mail_value (d, (c, z)) → MailText d.0 v text
 whole_is d c z v text rest last end p q r e is = record {

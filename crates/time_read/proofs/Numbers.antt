@@ -14,6 +14,7 @@ use Rattle.time_read.specs.Front.{Front, FieldFault, NoFront}
 use Rattle.time_read.specs.Profiles.{TheLetter}
 use Rattle.time_read.specs.Shapes.{Seq, TheByte, OneDigit, Two, TwoAfter, TensAndUnits, first_unit, last_unit}
 use Rattle.time_read.proofs.Fields.{CanGoOn, begins_first, begins_after, field_as, field_first, field_after, front_as, front_then, one_front}
+use Rattle.time_read.proofs.Regroup.{parts_of, seq_of}
 use Rattle.time_read.specs.declared.fault.Fault.{Fault}
 use Rattle.time_read.specs.declared.fault.Profile.{Profile}
 use Rattle.time_read.specs.declared.fault.Profile.TheVariants as profile
@@ -210,17 +211,11 @@ After b P a = Literal (b ∷ []) ▹ P a
 
 to_after : {A : Type 0} (P : A → Rule) (b : ℕ) (text : List ℕ) → SpellsSome (AfterByte b P) text
     → SpellsSome (After b P) text
-to_after P b text s = record {
-  value = s.value.1;
-  spelled = record { front = s.spelled.front; rest = s.spelled.rest; whole = s.spelled.whole; first = s.spelled.first; second = s.spelled.second };
-}
+to_after P b text s = record { value = s.value.1; spelled = parts_of s.spelled }
 
 after_to : {A : Type 0} (P : A → Rule) (b : ℕ) (text : List ℕ) → SpellsSome (After b P) text
     → SpellsSome (AfterByte b P) text
-after_to P b text s = record {
-  value = (tt, s.value);
-  spelled = record { front = s.spelled.front; rest = s.spelled.rest; whole = s.spelled.whole; first = s.spelled.first; second = s.spelled.second };
-}
+after_to P b text s = record { value = (tt, s.value); spelled = seq_of (tt, s.value) s.spelled }
 
 byte_goes_on : {A : Type 0} (P : A → Rule) (b : ℕ) → Begins (SpellsSome P) [] → CanGoOn 1 (TheByte b) (λ u. P)
 byte_goes_on P b h = record { width = (reads_byte b).width; on = λ u front p. h }

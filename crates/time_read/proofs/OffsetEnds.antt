@@ -22,6 +22,7 @@ use Rattle.time_read.specs.declared.fault.Profile.{Profile}
 use Rattle.time_read.specs.declared.fault.Profile.TheVariants as profile
 use Rattle.time_read.proofs.Fields.{CanGoOn, begins_first, field_first, field_after, front_then, text_as, text_of_field}
 use Rattle.time_read.proofs.Numbers.{reads_two, reads_two_after, begins_two, begins_two_after}
+use Rattle.time_read.proofs.Regroup.{both_as, rest_as, parts_of, seq_of}
 
 -- ---- the end of a text
 
@@ -112,19 +113,7 @@ zero_shape = record {
 }
 
 shape_of : (b : Bool) {p : ℕ × ℕ} {text : List ℕ} → HoursAndMinutes b p text → (Digits 2 p.0 ▹ ColonMinute p.1) text
-shape_of b s = record {
-  front = s.front;
-  rest = s.rest;
-  whole = s.whole;
-  first = s.first.0;
-  second = record {
-    front = s.second.front;
-    rest = s.second.rest;
-    whole = s.second.whole;
-    first = s.second.first;
-    second = s.second.second.0;
-  };
-}
+shape_of b s = both_as (parts_of s) (λ t h. h.0) (λ t m. rest_as m (λ u d. d.0))
 
 not_minus_zero : (b : Bool) (p : ℕ × ℕ) (text : List ℕ) → HoursAndMinutes b p text → sign_byte b ∷ text ≢ codes "-00:00"
 not_minus_zero false p text s e = let h : ◌≡◌ {A = ℕ} 43 45 = ap (λ t. get_or t 0 0) e in omega arith
@@ -162,7 +151,7 @@ same_sign false false e = refl
 same_sign true false e = absurd (omega arith)
 same_sign false true e = absurd (omega arith)
 
-least_fits : (b : Bool) (hour minute : ℕ) → (b ≡ true → hour ≡ 0 → minute ≡ 0 → ⊥) → least_minute b hour ≤ minute
+pub least_fits : (b : Bool) (hour minute : ℕ) → (b ≡ true → hour ≡ 0 → minute ≡ 0 → ⊥) → least_minute b hour ≤ minute
 least_fits false hour minute n = omega arith
 least_fits true zero zero n = absurd (n refl refl refl)
 least_fits true zero (suc m) n = omega arith
@@ -190,22 +179,11 @@ to_offset b o text (inr n) =
     n.1 (zero_text b s.hour s.minute text (subst (Digits 2 s.hour ▹ ColonMinute s.minute) (sym rest) d) p h m)) in
     record {
       value = (s.hour, s.minute);
-      spelled = record {
-        front = d.front;
-        rest = d.rest;
-        whole = rest ∙ d.whole;
-        first = (d.first, (omega arith, s.hour_fits));
-        second = record {
-          front = d.second.front;
-          rest = d.second.rest;
-          whole = d.second.whole;
-          first = d.second.first;
-          second = (d.second.second, (least, omega (arith, s.minute_fits)));
-        };
-      };
+      spelled = subst (HoursAndMinutes b (s.hour, s.minute)) (sym rest) (seq_of (s.hour, s.minute)
+          (both_as d (λ t h. (h, (omega arith, s.hour_fits))) (λ t m. rest_as m (λ u e. (e, (least, omega (arith, s.minute_fits)))))));
     }
 
-least_small : (b : Bool) (hour : ℕ) → least_minute b hour ≤ 1
+pub least_small : (b : Bool) (hour : ℕ) → least_minute b hour ≤ 1
 least_small true zero = omega arith
 least_small true (suc h) = let e : suc h == 0 ≡ false = grind (arith, nat_tests) in rw e (omega arith)
 least_small false hour = omega arith
@@ -273,36 +251,13 @@ unknown = record {
 
 -- hours and minutes of which nothing is said
 any_parts : (b : Bool) (q : ℕ × ℕ) (text : List ℕ) → HoursAndMinutes b q text → HoursAndMinutes false q text
-any_parts b q text s = record {
-  front = s.front;
-  rest = s.rest;
-  whole = s.whole;
-  first = s.first;
-  second = record {
-    front = s.second.front;
-    rest = s.second.rest;
-    whole = s.second.whole;
-    first = s.second.first;
-    second = (s.second.second.0, (omega arith, s.second.second.1.1));
-  };
-}
+any_parts b q text s = seq_of q (rest_as (parts_of s) (λ t m. rest_as m (λ u d. (d.0, (omega arith, d.1.1)))))
 
 -- hours and minutes that are not both zero
 some_parts : (hour minute : ℕ) (text : List ℕ) → HoursAndMinutes false (hour, minute) text → (hour ≡ 0 → minute ≡ 0 → ⊥)
     → HoursAndMinutes true (hour, minute) text
-some_parts hour minute text s some = record {
-  front = s.front;
-  rest = s.rest;
-  whole = s.whole;
-  first = s.first;
-  second = record {
-    front = s.second.front;
-    rest = s.second.rest;
-    whole = s.second.whole;
-    first = s.second.first;
-    second = (s.second.second.0, (least_fits true hour minute (λ _. some), s.second.second.1.1));
-  };
-}
+some_parts hour minute text s some =
+    seq_of (hour, minute) (rest_as (parts_of s) (λ t m. rest_as m (λ u d. (d.0, (least_fits true hour minute (λ _. some), d.1.1)))))
 
 -- hours and minutes after a minus
 minus_to : (hour minute : ℕ) (text : List ℕ) → HoursAndMinutes false (hour, minute) text

@@ -5,6 +5,7 @@ use Rattle.time_known.proofs.Rules.Texts.{Reads, cut_by_width}
 use Rattle.time_read.specs.Fault.{SpellsSome, Begins}
 use Rattle.time_read.specs.Shapes.{Seq}
 use Rattle.time_read.proofs.Fields.{CanGoOn}
+use Rattle.time_read.proofs.Regroup.{parts_of}
 
 -- a sequence has the widths of both parts, and one value
 width_seq : {A B : Type 0} {j k : ℕ} {P : A → Rule} {Q : A → B → Rule} → Reads j P → ((a : A) → Reads k (Q a))
@@ -17,8 +18,8 @@ width_seq r s p text t =
 same_seq : {A B : Type 0} {j k : ℕ} {P : A → Rule} {Q : A → B → Rule} → Reads j P → ((a : A) → Reads k (Q a))
     → (text : List ℕ) (p q : A × B) → Seq P Q p text → Seq P Q q text → p ≡ q
 same_seq {A} {B} {P = P} {Q = Q} r s text p q t u =
-    let x : (P p.0 ▹ Q p.0 p.1) text = record { front = t.front; rest = t.rest; whole = t.whole; first = t.first; second = t.second } in
-    let y : (P q.0 ▹ Q q.0 q.1) text = record { front = u.front; rest = u.rest; whole = u.whole; first = u.first; second = u.second } in
+    let x : (P p.0 ▹ Q p.0 p.1) text = parts_of t in
+    let y : (P q.0 ▹ Q q.0 q.1) text = parts_of u in
     let both = cut_by_width (r.width p.0) (r.width q.0) x y in
     let first : q.0 ≡ p.0 = r.same both.front q.0 p.0 both.first' both.first in
     let last : Q p.0 q.1 both.rest = subst (λ (a : A). Q a q.1 both.rest) first both.second' in

@@ -1,6 +1,6 @@
 -- Stamps, by their parts.
 use Rattle.std.proofs.Common.{◌≡◌, ℕ, ◌-◌, ◌*◌, ◌^◌, ◌<◌, ◌≤◌, List, [], ◌∷◌, ◌++◌, length, length-append, take, drop, replicate}
-use Rattle.std.proofs.Common.{refl, sym, ap, subst, ◌∙◌, arith, append_assoc, inl, false}
+use Rattle.std.proofs.Common.{refl, sym, ap, subst, ◌∙◌, arith, inl, false}
 use Rattle.std.specs.Int.{IsInRange}
 use Rattle.std.specs.Prelude.{codes}
 use Rattle.std.specs.Char.{digit_value}
@@ -30,10 +30,11 @@ use Rattle.time_read.specs.Stamp.{AfterDate, ClockAndNine, IsStamp, NineAfter, N
 use Rattle.time_read.specs.declared.fault.Fault.{Fault}
 use Rattle.time_read.specs.declared.fault.Expected.TheVariants as expected
 use Rattle.time_read.proofs.Fields.{CanGoOn, begins_first, text_as, text_first, text_after, text_of_field, front_then}
-use Rattle.time_read.proofs.IsoLemmas.{date_as, stamp_is_rfc}
+use Rattle.time_read.proofs.IsoLemmas.{Nine, date_as, in_parts, stamp_is_rfc}
 use Rattle.time_read.proofs.Numbers.{reads_byte, begins_byte}
 use Rattle.time_read.proofs.OffsetEnds.{text_end, text_whole}
-use Rattle.time_read.proofs.PartLemmas.{reads_full_date, reads_clock, begins_clock}
+use Rattle.time_read.proofs.PartLemmas.{begins_clock, clock_at, clock_of_time, reads_clock, reads_full_date, time_of_clock}
+use Rattle.time_read.proofs.Regroup.{both_as, rest_as, to_left, parts_of, seq_of}
 use Rattle.time_read.proofs.Seqs.{goes, reads_seq}
 use Rattle.time_read.proofs.Tails.{digits_join, zeros_are_digits}
 use Rattle.std.proofs.lemmas.List.{length-replicate}
@@ -130,54 +131,27 @@ reads_stamp =
 
 -- ---- stamps
 
+-- nine digits, and nothing after them
+nine_alone : (n : ℕ) {text : List ℕ} → Nine n text → NineAfter n text
+nine_alone n s =
+    rest_as s (λ t d. subst (Digits 9 n) (sym (d.whole ∙ ap (λ x. d.front ++ x) d.second ∙ append-nil d.front)) d.first)
+
+alone_nine : (n : ℕ) {text : List ℕ} → NineAfter n text → Nine n text
+alone_nine n s =
+    rest_as s (λ t d. record { front = t; rest = []; whole = sym (append-nil t); first = d; second = refl })
+
 to_parts : (v : DateAndTime) (text : List ℕ) → IsStamp v text → SpellsSome StampParts text
 to_parts v text i =
     let s = (iso8601_is_written default_choices default_is_whole).written text (in_utc v)
     (record { date = i.has.date; time = i.has.time; offset = IsOffset-signed_offset false 0 0 (omega arith) (omega arith) })
     ((stamps_are_completed v i.has).is_done ∙ ap done (sym i.is)) in
-    let t = s.second in
-    let u = t.first in
-    let c = u.second in
-    let f = c.second in
-    let g = f.second in
+    let c = clock_at v.time in
+    let nine : ℕ × Unit {0} = (v.time.nanosecond, tt) in
     record {
-      value = (v.date, (tt, (record { hour = v.time.hour; minute = v.time.minute; second = v.time.second }, (v.time.nanosecond, tt))));
-      spelled = record {
-        front = s.front;
-        rest = s.rest;
-        whole = s.whole;
-        first = date_as v.date s.front s.first;
-        second = record {
-          front = u.front;
-          rest = u.rest ++ t.rest;
-          whole = t.whole ∙ ap (λ x. x ++ t.rest) u.whole ∙ append_assoc u.front u.rest t.rest;
-          first = u.first;
-          second = record {
-            front = c.front;
-            rest = c.rest ++ t.rest;
-            whole = ap (λ x. x ++ t.rest) c.whole ∙ append_assoc c.front c.rest t.rest;
-            first = record {
-              spelled = c.first.spelled;
-              hour_fits = c.first.hour_fits;
-              minute_fits = c.first.minute_fits;
-              second_fits = c.first.second_fits;
-            };
-            second = record {
-              front = c.rest;
-              rest = t.rest;
-              whole = refl;
-              first = record {
-                front = f.front;
-                rest = g.front;
-                whole = f.whole ∙ ap (λ x. f.front ++ x) (g.whole ∙ ap (λ x. g.front ++ x) g.second ∙ append-nil g.front);
-                first = f.first;
-                second = g.first;
-              };
-              second = t.second.1 refl;
-            };
-          };
-        };
-      };
+      value = (v.date, (tt, (c, nine)));
+      spelled = seq_of (v.date, (tt, (c, nine))) (both_as (in_parts (in_utc v) s) (λ t d. date_as v.date t d)
+          (λ t a. seq_of (tt, (c, nine)) (rest_as a (λ u b. seq_of (c, nine) (both_as b (λ w k. clock_of_time v.time k)
+          (λ w n. seq_of nine (both_as n (λ x d. nine_alone v.time.nanosecond d) (λ x o. o.1 refl))))))));
     }
 
 date_back : (d : OrdinalDate) (text : List ℕ) → FullDate d text → CanonicalIsoDate default_choices d text
@@ -185,13 +159,7 @@ date_back d text f = record {
   year = f.year;
   month = f.month;
   day = f.day;
-  spelled = record {
-    front = f.spelled.front;
-    rest = f.spelled.rest;
-    whole = f.spelled.whole;
-    first = (f.spelled.first, λ e. omega (arith, ap length e, f.spelled.first.spelled.count));
-    second = f.spelled.second;
-  };
+  spelled = both_as f.spelled (λ t y. (y, λ e. omega (arith, ap length e, y.spelled.count))) (λ t r. r);
   month_fits = f.month_fits;
   day_fits = f.day_fits;
   is = f.is;
@@ -199,47 +167,9 @@ date_back d text f = record {
 
 canonical : (p : StampNumbers) (text : List ℕ) → StampParts p text → IsCanonicalIso8601 default_choices (in_utc (stamp_value p)) text
 canonical p text s =
-    let t = s.second in
-    let c = t.second in
-    let n = c.second in
-    let d = n.first in
-    record {
-      front = s.front;
-      rest = s.rest;
-      whole = s.whole;
-      first = date_back p.0 s.front s.first;
-      second = record {
-        front = t.front ++ (c.front ++ n.front);
-        rest = n.rest;
-        whole = t.whole ∙ ap (λ x. t.front ++ x) (c.whole ∙ ap (λ x. c.front ++ x) n.whole ∙ sym (append_assoc c.front n.front n.rest))
-            ∙ sym (append_assoc t.front (c.front ++ n.front) n.rest);
-        first = record {
-          front = t.front;
-          rest = c.front ++ n.front;
-          whole = refl;
-          first = t.first;
-          second = record {
-            front = c.front;
-            rest = n.front;
-            whole = refl;
-            first = record {
-              spelled = c.first.spelled;
-              hour_fits = c.first.hour_fits;
-              minute_fits = c.first.minute_fits;
-              second_fits = c.first.second_fits;
-            };
-            second = record {
-              front = d.front;
-              rest = d.rest;
-              whole = d.whole;
-              first = d.first;
-              second = record { front = d.rest; rest = []; whole = sym (append-nil d.rest); first = d.second; second = refl };
-            };
-          };
-        };
-        second = (inl (n.second, refl), λ _. n.second);
-      };
-    }
+    both_as (parts_of s) (λ t d. date_back p.0 t d) (λ t a. to_left (rest_as (parts_of a) (λ u b. to_left (both_as (parts_of b)
+    (λ w c. time_of_clock p.1.1.0 p.1.1.1.0 c)
+    (λ w n. both_as (parts_of n) (λ x d. alone_nine p.1.1.1.0 d) (λ x z. (inl (z, refl), λ _. z)))))))
 
 pub parts_to : (p : StampNumbers) (text : List ℕ) → StampParts p text → IsStamp (stamp_value p) text
 parts_to p text s =

@@ -18,7 +18,9 @@ use Rattle.time_read.specs.declared.fault.Fault.{Fault}
 use Rattle.time_read.specs.declared.fault.NotRead.{NotRead}
 use Rattle.time_read.proofs.Fields.{CanGoOn, begins_first, text_as, text_first, text_after}
 use Rattle.time_read.proofs.Numbers.{begins_letter, four_first, reads_letter, two_first}
-use Rattle.time_read.proofs.PartLemmas.{begins_clock, date_first, reads_clock, reads_full_date}
+use Rattle.time_read.proofs.PartLemmas.{begins_clock, clock_at, clock_of_time, date_first, reads_clock, reads_full_date, time_at}
+use Rattle.time_read.proofs.PartLemmas.{time_of_clock}
+use Rattle.time_read.proofs.Regroup.{both_as, rest_as, parts_of, seq_of}
 use Rattle.time_read.proofs.Tails.{begins_any_tail}
 
 -- a time of day and an offset, and these after a letter
@@ -32,11 +34,7 @@ abbrev WholeText : Profile → OrdinalDate × (Unit {0} × (Clock × (ℕ × Off
 WholeText p = Seq FullDate (λ _. AfterT p)
 
 abbrev pub value_of : OrdinalDate → Clock → ℕ → Offset → OffsetDateAndTime
-value_of d c n o = record {
-  date = d;
-  time = record { hour = c.hour; minute = c.minute; second = c.second; nanosecond = n };
-  offset = o;
-}
+value_of d c n o = record { date = d; time = time_at c n; offset = o }
 
 -- the rule of the letter, and of what is read, in other words
 abbrev LetterT : Profile → Rule
@@ -69,66 +67,17 @@ of_parts profile.Lenient v text s = s
 whole_to : (p : Profile) (q : OrdinalDate × (Unit {0} × (Clock × (ℕ × Offset)))) (text : List ℕ) → WholeText p q text
     → ReadsAs p (value_of q.0 q.1.1.0 q.1.1.1.0 q.1.1.1.1) text
 whole_to p q text s =
-    let t = s.second in
-    let c = t.second in
-    of_parts p _ text (record {
-      front = s.front;
-      rest = s.rest;
-      whole = s.whole;
-      first = s.first;
-      second = record {
-        front = t.front;
-        rest = t.rest;
-        whole = t.whole;
-        first = letter_to p t.front t.first;
-        second = record {
-          front = c.front;
-          rest = c.rest;
-          whole = c.whole;
-          first = record {
-            spelled = c.first.spelled;
-            hour_fits = c.first.hour_fits;
-            minute_fits = c.first.minute_fits;
-            second_fits = c.first.second_fits;
-          };
-          second = c.second;
-        };
-      };
-    })
+    of_parts p _ text (rest_as (parts_of s) (λ t a. both_as (parts_of a) (λ u l. letter_to p u l)
+    (λ u b. both_as (parts_of b) (λ w c. time_of_clock q.1.1.0 q.1.1.1.0 c) (λ w e. e))))
 
 to_whole : (p : Profile) (v : OffsetDateAndTime) (text : List ℕ) → ReadInParts p v text → SpellsSome (WholeText p) text
 to_whole p v text s =
-    let t = s.second in
-    let c = t.second in
+    let tail : ℕ × Offset = (v.time.nanosecond, v.offset) in
+    let c = clock_at v.time in
     record {
-      value = (
-        v.date,
-        (tt, (record { hour = v.time.hour; minute = v.time.minute; second = v.time.second }, (v.time.nanosecond, v.offset))),
-      );
-      spelled = record {
-        front = s.front;
-        rest = s.rest;
-        whole = s.whole;
-        first = s.first;
-        second = record {
-          front = t.front;
-          rest = t.rest;
-          whole = t.whole;
-          first = to_letter p t.front t.first;
-          second = record {
-            front = c.front;
-            rest = c.rest;
-            whole = c.whole;
-            first = record {
-              spelled = c.first.spelled;
-              hour_fits = c.first.hour_fits;
-              minute_fits = c.first.minute_fits;
-              second_fits = c.first.second_fits;
-            };
-            second = c.second;
-          };
-        };
-      };
+      value = (v.date, (tt, (c, tail)));
+      spelled = seq_of (v.date, (tt, (c, tail))) (rest_as s (λ t a. seq_of (tt, (c, tail)) (both_as a (λ u l. to_letter p u l)
+          (λ u b. seq_of (c, tail) (both_as b (λ w k. clock_of_time v.time k) (λ w e. e))))));
     }
 
 clock_goes_on : (p : Profile) → CanGoOn 8 OfClock (λ _. Tail p)

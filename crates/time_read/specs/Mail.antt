@@ -10,7 +10,7 @@ use Rattle.time_known.specs.Rules.{Rule, Digits, Literal, Name, Sign, ◌▹◌}
 use Rattle.time_known.specs.Values.{OffsetDateAndTime}
 use Rattle.time_read.specs.Fault.{IsFirstFault, SpellsSome}
 use Rattle.time_read.specs.Names.{NameOf}
-use Rattle.time_read.specs.Shapes.{OneDigit, Seq, Two, TwoAfter, least_minute, month_days}
+use Rattle.time_read.specs.Shapes.{Clock, OfClock, OneDigit, Seq, Two, TwoAfter, least_minute, month_days}
 use Rattle.time_read.specs.declared.fault.Expected.TheVariants as expected
 use Rattle.time_read.specs.declared.fault.Names.TheVariants as names
 use Rattle.time_read.specs.declared.fault.NotRead.{NotRead}
@@ -89,8 +89,8 @@ abbrev pub NamedParts : ℕ × (ℕ × (ℕ × ℕ)) → Rule
 NamedParts = Seq (NameOf names.Weekday) (λ _. DateAfter)
 
 -- an hour after a space, a minute and a second
-abbrev pub ClockAfter : ℕ × (ℕ × ℕ) → Rule
-ClockAfter = Seq (TwoAfter 32 0 23) (λ _. Seq (TwoAfter 58 0 59) (λ _. TwoAfter 58 0 59))
+abbrev pub ClockAfter : Clock → Rule
+ClockAfter c = Literal (32 ∷ []) ▹ OfClock c
 
 -- a sign after a space
 abbrev pub SignAfter : Bool → Rule
@@ -107,9 +107,9 @@ ZoneAfter = Seq SignAfter HoursMinutes
 
 -- a named date, a time of day and an offset by their numbers
 abbrev pub Numbers : Type 0
-Numbers = (ℕ × (ℕ × (ℕ × ℕ))) × ((ℕ × (ℕ × ℕ)) × (Bool × (ℕ × ℕ)))
+Numbers = (ℕ × (ℕ × (ℕ × ℕ))) × (Clock × (Bool × (ℕ × ℕ)))
 
-abbrev pub TimeAfter : (ℕ × (ℕ × ℕ)) × (Bool × (ℕ × ℕ)) → Rule
+abbrev pub TimeAfter : Clock × (Bool × (ℕ × ℕ)) → Rule
 TimeAfter = Seq ClockAfter (λ _. ZoneAfter)
 
 abbrev pub MailParts : Numbers → Rule
@@ -119,7 +119,7 @@ MailParts = Seq NamedParts (λ _. TimeAfter)
 abbrev pub mail_value : Numbers → OffsetDateAndTime
 mail_value p = record {
   date = date_of (pos p.0.1.1.1) (p.0.1.1.0 + 1) p.0.1.0;
-  time = record { hour = p.1.0.0; minute = p.1.0.1.0; second = p.1.0.1.1; nanosecond = 0 };
+  time = record { hour = p.1.0.hour; minute = p.1.0.minute; second = p.1.0.second; nanosecond = 0 };
   offset = signed_offset p.1.1.0 p.1.1.1.0 p.1.1.1.1;
 }
 

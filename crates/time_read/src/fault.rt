@@ -70,34 +70,32 @@ pub(crate) struct Fault {
     pub(crate) expected: Expected,
 }
 
-// The letters that a profile takes, in words.
-fn letters(letter: u8, profile: Profile) -> &'static str {
-    match (letter, profile) {
-        (b'T', Profile::Strict) => "`T`",
-        (b'T', Profile::Lenient) => "`T` or `t`",
-        (_, Profile::Strict) => "`Z`",
-        (_, Profile::Lenient) => "`Z`, `z`",
-    }
-}
-
-// Names, in words.
-fn names_in_words(names: Names) -> &'static str {
-    match names {
-        Names::Weekday => "the name of a weekday",
-        Names::MonthWith(_) => "the name of a month that has this day",
-    }
-}
-
-// The name of a weekday, in words.
-fn weekday_in_words(weekday: Weekday) -> &'static str {
-    match weekday {
-        Weekday::Monday => "`Mon`",
-        Weekday::Tuesday => "`Tue`",
-        Weekday::Wednesday => "`Wed`",
-        Weekday::Thursday => "`Thu`",
-        Weekday::Friday => "`Fri`",
-        Weekday::Saturday => "`Sat`",
-        Weekday::Sunday => "`Sun`",
+// What could have come next, in words, where it has no number and no byte of its own.
+fn in_words(expected: Expected) -> &'static str {
+    match expected {
+        Expected::Letter(b'T', Profile::Strict) => "`T`",
+        Expected::Letter(b'T', Profile::Lenient) => "`T` or `t`",
+        Expected::Letter(_, Profile::Strict) => "`Z`",
+        Expected::Letter(_, Profile::Lenient) => "`Z`, `z`",
+        Expected::Offset(Profile::Strict) => "`Z`, `+` or `-`",
+        Expected::Offset(Profile::Lenient) => "`Z`, `z`, `+` or `-`",
+        Expected::PointOrOffset(Profile::Strict) => "`.`, `Z`, `+` or `-`",
+        Expected::PointOrOffset(Profile::Lenient) => "`.`, `Z`, `z`, `+` or `-`",
+        Expected::DigitOrOffset(Profile::Strict) => "a digit, `Z`, `+` or `-`",
+        Expected::DigitOrOffset(Profile::Lenient) => "a digit, `Z`, `z`, `+` or `-`",
+        Expected::Sign => "`+` or `-`",
+        Expected::Name(Names::Weekday, 0, _, _) => "the name of a weekday",
+        Expected::Name(Names::Weekday, _, _, _) => "the rest of the name of a weekday",
+        Expected::Name(_, 0, _, _) => "the name of a month that has this day",
+        Expected::Name(_, _, _, _) => "the rest of the name of a month that has this day",
+        Expected::Weekday(Weekday::Monday) => "`Mon`, the weekday of this date",
+        Expected::Weekday(Weekday::Tuesday) => "`Tue`, the weekday of this date",
+        Expected::Weekday(Weekday::Wednesday) => "`Wed`, the weekday of this date",
+        Expected::Weekday(Weekday::Thursday) => "`Thu`, the weekday of this date",
+        Expected::Weekday(Weekday::Friday) => "`Fri`, the weekday of this date",
+        Expected::Weekday(Weekday::Saturday) => "`Sat`, the weekday of this date",
+        Expected::Weekday(Weekday::Sunday) => "`Sun`, the weekday of this date",
+        _ => "the end",
     }
 }
 
@@ -107,27 +105,13 @@ impl fmt::Display for Expected {
             Expected::Digit(first, last) if first == last => write!(f, "the digit {first}"),
             Expected::Digit(first, last) => write!(f, "a digit from {first} to {last}"),
             Expected::Byte(byte) => write!(f, "`{}`", char::from(byte)),
-            Expected::Letter(letter, profile) => f.write_str(letters(letter, profile)),
-            Expected::Offset(profile) => write!(f, "{}, `+` or `-`", letters(b'Z', profile)),
-            Expected::PointOrOffset(profile) => {
-                write!(f, "`.`, {}, `+` or `-`", letters(b'Z', profile))
-            }
-            Expected::DigitOrOffset(profile) => {
-                write!(f, "a digit, {}, `+` or `-`", letters(b'Z', profile))
-            }
-            Expected::End => f.write_str("the end"),
-            Expected::Sign => f.write_str("`+` or `-`"),
             Expected::EachFourth(first, last) => {
                 write!(
                     f,
                     "a digit from {first} to {last} in steps of four, of a leap year"
                 )
             }
-            Expected::Name(names, 0, _, _) => f.write_str(names_in_words(names)),
-            Expected::Name(names, _, _, _) => write!(f, "the rest of {}", names_in_words(names)),
-            Expected::Weekday(weekday) => {
-                write!(f, "{}, the weekday of this date", weekday_in_words(weekday))
-            }
+            other => f.write_str(in_words(other)),
         }
     }
 }

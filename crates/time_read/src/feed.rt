@@ -76,7 +76,7 @@ pub(crate) fn weekday(text: &[u8]) -> Result<(Option<u8>, &[u8]), MailFault>
 }
 
 // Reads a day of one digit or two.
-pub(crate) fn day(text: &[u8]) -> Result<(u8, &[u8]), MailFault>
+fn day(text: &[u8]) -> Result<(u8, &[u8]), MailFault>
     ensures read { IfOk result (λ r. Front (MeansDay r.0) text.now r.1.now) }
     ensures range { IfOk result (λ r. IsInRange 1 31 r.0) }
     ensures shorter { IfOk result (λ r. length r.1.now ≤ length text.now) }
@@ -93,7 +93,7 @@ pub(crate) fn day(text: &[u8]) -> Result<(u8, &[u8]), MailFault>
 }
 
 // Reads the name of a month: its place from 0.
-pub(crate) fn month(text: &[u8]) -> Result<(u8, &[u8]), MailFault>
+fn month(text: &[u8]) -> Result<(u8, &[u8]), MailFault>
     ensures read { IfOk result (λ r. Front (AnyCase (Name month_names r.0)) text.now r.1.now) }
     ensures range { IfOk result (λ r. r.0 < 12) }
     ensures shorter { IfOk result (λ r. length r.1.now ≤ length text.now) }
@@ -121,7 +121,7 @@ fn full_year(count: usize, number: u32) -> u32
 }
 
 // Reads a year of two to four digits, from 1900 on.
-pub(crate) fn year(text: &[u8]) -> Result<(u16, &[u8]), MailFault>
+fn year(text: &[u8]) -> Result<(u16, &[u8]), MailFault>
     ensures read { IfOk result (λ r. Front (MeansYear r.0) text.now r.1.now) }
     ensures range { IfOk result (λ r. r.0 < 10_000) }
     ensures shorter { IfOk result (λ r. length r.1.now ≤ length text.now) }
@@ -142,6 +142,22 @@ pub(crate) fn year(text: &[u8]) -> Result<(u16, &[u8]), MailFault>
     Ok((year as u16, &text[count..]))
 }
 
+// Reads a day, the name of a month, as its place from 0, and a year, with gaps between them.
+pub(crate) fn day_month_year(text: &[u8]) -> Result<(u8, u8, u16, &[u8]), MailFault>
+    ensures read { IfOk result (λ r. Front (MeansDay r.0 ▹ IsGap
+        ▹ AnyCase (Name month_names r.1) ▹ IsGap ▹ MeansYear r.2) text.now r.3.now) }
+    ensures day { IfOk result (λ r. IsInRange 1 31 r.0) }
+    ensures month { IfOk result (λ r. r.1 < 12) }
+    ensures year { IfOk result (λ r. r.2 < 10_000) }
+    ensures shorter { IfOk result (λ r. length r.3.now ≤ length text.now) }
+    ensures left { IfErr result (λ e. e.left ≤ length text.now) }
+{
+    let (day, rest) = day(text)?;
+    let (place, rest) = month(gap(rest)?)?;
+    let (year, rest) = year(gap(rest)?)?;
+    Ok((day, place, year, rest))
+}
+
 // Reads two digits of a number up to the greatest.
 pub(crate) fn two(text: &[u8], greatest: u8, expected: MailPart) -> Result<(u8, &[u8]), MailFault>
     requires { greatest < 100 }
@@ -159,19 +175,17 @@ pub(crate) fn two(text: &[u8], greatest: u8, expected: MailPart) -> Result<(u8, 
     }
 }
 
-// Reads a second after a colon, if there is one, and a gap. Second 60 means 59.
-pub(crate) fn second_and_gap(text: &[u8]) -> Result<(u8, &[u8]), MailFault>
-    ensures read { IfOk result (λ r. Front (MeansSecond r.0 ▹ IsGap) text.now r.1.now) }
+// Reads a second after a colon, or nothing where there is no colon. Second 60 means 59.
+pub(crate) fn second(text: &[u8]) -> Result<(u8, &[u8]), MailFault>
+    ensures read { IfOk result (λ r. Front (MeansSecond r.0) text.now r.1.now) }
     ensures range { IfOk result (λ r. r.0 < 60) }
     ensures shorter { IfOk result (λ r. length r.1.now ≤ length text.now) }
     ensures left { IfErr result (λ e. e.left ≤ length text.now) }
 {
     if after(space(text)?, b':').is_none() {
-        let rest = gap(text)?;
-        return Ok((0, rest));
+        return Ok((0, text));
     }
     let rest = mark(text, b':', MailPart::Colon)?;
     let (second, rest) = two(rest, 60, MailPart::Second)?;
-    let rest = gap(rest)?;
     Ok((second.min(59), rest))
 }

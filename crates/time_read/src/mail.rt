@@ -14,6 +14,7 @@ use crate::digits::{byte, digit, pair, pair_after};
 use crate::fault::{Expected, Fault, Names};
 use crate::names::some_name;
 use crate::offset::least_minute;
+use crate::parts::clock;
 
 // Reads a comma, a space and a day of a month.
 #[inline(always)]
@@ -23,8 +24,7 @@ fn day_after(text: &[u8]) -> Result<(u8, &[u8]), Fault>
     ensures fault { IfErr result (λ e. FieldFault 4 (SpellsSome DayAfter) text.now e) }
 {
     let rest = byte(text, b',')?;
-    let (day, rest) = pair_after(rest, b' ', 1, 31)?;
-    Ok((day, rest))
+    pair_after(rest, b' ', 1, 31)
 }
 
 // Reads a space and the name of a month that has this day in some year: its index from 0.
@@ -36,8 +36,7 @@ fn month_after(text: &[u8], day: u8) -> Result<(u8, &[u8]), Fault>
     ensures fault { IfErr result (λ e. FieldFault 4 (SpellsSome (MonthAfter day)) text.now e) }
 {
     let rest = byte(text, b' ')?;
-    let (place, rest) = some_name(rest, Names::MonthWith(day))?;
-    Ok((place, rest))
+    some_name(rest, Names::MonthWith(day))
 }
 
 // Reads a digit from the first to the last, by steps of four.
@@ -106,11 +105,9 @@ fn last_of_year(text: &[u8], day: u8, place: u8, century: u8) -> Result<(u8, &[u
         FieldFault 2 (SpellsSome (LastOfYear day place century)) text.now e) }
 {
     if is_leap_day(day, place) {
-        let (last, rest) = last_of_leap(text, century)?;
-        return Ok((last, rest));
+        return last_of_leap(text, century);
     }
-    let (other, rest) = pair(text, 0, 99)?;
-    Ok((other, rest))
+    pair(text, 0, 99)
 }
 
 // Reads a space and a year from 1900 on in which the month at an index from 0 has this day.
@@ -145,16 +142,15 @@ pub(crate) fn named_date(text: &[u8]) -> Result<(u8, u8, u8, u16, &[u8]), Fault>
 // Reads a space, an hour, a minute and a second.
 #[inline(always)]
 pub(crate) fn clock_after(text: &[u8]) -> Result<(u8, u8, u8, &[u8]), Fault>
-    ensures read { IfOk result (λ r. Front (ClockAfter (r.0, (r.1, r.2))) text.now r.3.now) }
+    ensures read { IfOk result (λ r. Front (ClockAfter (
+        record { hour = r.0; minute = r.1; second = r.2 })) text.now r.3.now) }
     ensures hour { IfOk result (λ r. r.0 < 24) }
     ensures minute { IfOk result (λ r. r.1 < 60) }
     ensures second { IfOk result (λ r. r.2 < 60) }
     ensures fault { IfErr result (λ e. FieldFault 9 (SpellsSome ClockAfter) text.now e) }
 {
-    let (hour, rest) = pair_after(text, b' ', 0, 23)?;
-    let (minute, rest) = pair_after(rest, b':', 0, 59)?;
-    let (second, rest) = pair_after(rest, b':', 0, 59)?;
-    Ok((hour, minute, second, rest))
+    let rest = byte(text, b' ')?;
+    clock(rest)
 }
 
 // Reads a sign: whether it is a minus.
@@ -184,8 +180,7 @@ fn sign_after(text: &[u8]) -> Result<(bool, &[u8]), Fault>
     ensures fault { IfErr result (λ e. FieldFault 2 (SpellsSome SignAfter) text.now e) }
 {
     let rest = byte(text, b' ')?;
-    let (is_negative, rest) = sign(rest)?;
-    Ok((is_negative, rest))
+    sign(rest)
 }
 
 // Reads a space, a sign, two digits of hours and two of minutes, but for `-0000`.

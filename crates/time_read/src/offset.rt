@@ -67,7 +67,8 @@ fn hours_and_minutes(text: &[u8], some: bool) -> Result<(u8, u8, &[u8]), Fault>
     ensures read { IfOk result (λ r. Front (HoursAndMinutes some (r.0, r.1)) text.now r.2.now) }
     ensures hour { IfOk result (λ r. r.0 < 24) }
     ensures minute { IfOk result (λ r. r.1 < 60) }
-    ensures fault { IfErr result (λ e. FieldFault 5 (SpellsSome (HoursAndMinutes some)) text.now e) }
+    ensures fault { IfErr result (λ e.
+        FieldFault 5 (SpellsSome (HoursAndMinutes some)) text.now e) }
 {
     let (hour, rest) = pair(text, 0, 23)?;
     let (minute, rest) = pair_after(rest, b':', least_minute(some, hour), 59)?;

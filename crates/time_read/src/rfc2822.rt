@@ -9,20 +9,20 @@ ghost use Rattle.time_known.specs.Rules.{◌▹◌};
 ghost use Rattle.time_read.specs.Fault.{IsSecond60, SpellsSome};
 ghost use Rattle.time_read.specs.Front.{Front, TextFault};
 ghost use Rattle.time_read.specs.Mail.{IsMailPlace, MailText, SpellsButWeekday};
-ghost use Rattle.time_read.specs.MailLenient.{MailMeans, MeansClock, MeansDate};
+ghost use Rattle.time_read.specs.MailLenient.{MailMeans, MeansClock, MeansDate, MeansZone};
 ghost use Rattle.time_read.specs.Shapes.{IsDay, date_of_day};
 ghost use Rattle.time_read.specs.Space.{IsGap, IsSpace};
 
 use crate::days::{Day, date_of, days_of_month};
 use crate::fault::{Expected, Fault, NotRead};
-use crate::feed::{day, month, second_and_gap, two, weekday, year};
+use crate::feed::{day_month_year, second, two, weekday};
 use crate::mail::{clock_after, named_date, zone_after};
 use crate::not_mail::{MailFault, MailPart, NotMail};
 use crate::offset::{end, signed_offset};
 use crate::places::place_of_fault;
 use crate::space::{gap, mark, space};
 use crate::zones::zone;
-use time_below::{Date, OffsetDateTime, Time};
+use time_below::{Date, OffsetDateTime, Time, UtcOffset};
 
 // The position of the seconds in a text.
 const SECONDS: usize = 23;
@@ -101,11 +101,7 @@ fn lenient_date(text: &[u8]) -> Result<(Day, &[u8]), MailFault>
     ensures left { IfErr result (λ e. e.left ≤ length text.now) }
 {
     let (weekday, from_day) = weekday(text)?;
-    let (day, rest) = day(from_day)?;
-    let rest = gap(rest)?;
-    let (place, rest) = month(rest)?;
-    let rest = gap(rest)?;
-    let (year, rest) = year(rest)?;
+    let (day, place, year, rest) = day_month_year(from_day)?;
     let month = place + 1;
     if days_of_month(year, month) < day {
         return Err(MailFault {
@@ -124,10 +120,10 @@ fn lenient_date(text: &[u8]) -> Result<(Day, &[u8]), MailFault>
     Ok((found, rest))
 }
 
-// Reads an hour, a minute, a second, if there is one, and the gap after them.
+// Reads an hour, a minute and a second, if there is one.
 fn lenient_clock(text: &[u8]) -> Result<(u8, u8, u8, &[u8]), MailFault>
     ensures read { IfOk result (λ r.
-        Front (MeansClock (time_of r.0 r.1 r.2 0) ▹ IsGap) text.now r.3.now) }
+        Front (MeansClock (time_of r.0 r.1 r.2 0)) text.now r.3.now) }
     ensures hour { IfOk result (λ r. r.0 < 24) }
     ensures minute { IfOk result (λ r. r.1 < 60) }
     ensures second { IfOk result (λ r. r.2 < 60) }
@@ -137,7 +133,7 @@ fn lenient_clock(text: &[u8]) -> Result<(u8, u8, u8, &[u8]), MailFault>
     let (hour, rest) = two(text, 23, MailPart::Hour)?;
     let rest = mark(rest, b':', MailPart::Colon)?;
     let (minute, rest) = two(rest, 59, MailPart::Minute)?;
-    let (second, rest) = second_and_gap(rest)?;
+    let (second, rest) = second(rest)?;
     Ok((hour, minute, second, rest))
 }
 
@@ -156,6 +152,17 @@ fn lenient_end(text: &[u8]) -> Result<(), MailFault>
     Ok(())
 }
 
+// Reads a gap and a zone, to the end of the text.
+fn lenient_zone(text: &[u8]) -> Result<UtcOffset, MailFault>
+    ensures read { IfOk result (λ o. (IsGap ▹ MeansZone o ▹ IsSpace) text.now) }
+    ensures left { IfErr result (λ e. e.left ≤ length text.now) }
+{
+    let rest = gap(text)?;
+    let (is_negative, hours, minutes, rest) = zone(rest)?;
+    lenient_end(rest)?;
+    Ok(signed_offset(is_negative, hours, minutes))
+}
+
 // Reads a whole text of mail.
 fn lenient(text: &[u8]) -> Result<OffsetDateTime, MailFault>
     ensures read { IfOk result (λ v. MailMeans v text.now) }
@@ -165,12 +172,9 @@ fn lenient(text: &[u8]) -> Result<OffsetDateTime, MailFault>
     let (day, rest) = lenient_date(rest)?;
     let rest = gap(rest)?;
     let (hour, minute, second, rest) = lenient_clock(rest)?;
-    let (is_negative, hours, minutes, rest) = zone(rest)?;
-    lenient_end(rest)?;
-    let date = date_of(day);
+    let offset = lenient_zone(rest)?;
     let time = Time::from_valid_hms_nano(hour, minute, second, 0);
-    let offset = signed_offset(is_negative, hours, minutes);
-    Ok(OffsetDateTime::new_in_offset(date, time, offset))
+    Ok(OffsetDateTime::new_in_offset(date_of(day), time, offset))
 }
 
 /// The value that a text of mail or of a feed means. Beside what [`read`] takes these are the
@@ -178,10 +182,9 @@ fn lenient(text: &[u8]) -> Result<OffsetDateTime, MailFault>
 /// may nest, between the parts; letters in either case; a day of one digit; a year of three digits,
 /// which are added to 1900, or of two, of 1950 to 2049; no weekday; no seconds; zones by name and
 /// by letter, where each letter but `J` is UTC; and `-0000`, which is UTC too. Second 60 means
-/// second
-/// 59. A weekday that is not the date's is refused, and so is a zone without a meaning, as `CET`.
-/// The value is proved to be one that the text means. That each text with a meaning is read, and
-/// that the place is the first part that is none, is tested.
+/// second 59. A weekday that is not the date's is refused, and so is a zone without a meaning, as
+/// `CET`. The value is proved to be one that the text means. That each text with a meaning is read,
+/// and that the place is the first part that is none, is tested.
 pub fn read_lenient(text: &[u8]) -> Result<OffsetDateTime, NotMail>
     ensures read { IfOk result (λ v. MailMeans v text.now) }
     ensures within { IfErr result (λ e. e.at ≤ length text.now) }

@@ -41,8 +41,7 @@ fn nine_after(text: &[u8]) -> Result<(u32, &[u8]), Fault>
     ensures fault { IfErr result (λ e. FieldFault 10 (SpellsSome NineAfter) text.now e) }
 {
     let rest = byte(text, b'.')?;
-    let (number, rest) = nine_digits(rest)?;
-    Ok((number, rest))
+    nine_digits(rest)
 }
 
 // Reads a whole stamp.

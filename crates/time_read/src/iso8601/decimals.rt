@@ -4,7 +4,6 @@ ghost use Rattle.std.specs.Prelude.{◌<◌, ◌^◌, IfOk};
 use crate::decimals::nanosecond;
 use crate::digits::byte;
 use crate::fault::{Expected, Fault};
-use std::convert::TryFrom;
 use time_digits::ru8;
 use time_known::iso8601::{Config, DecimalSign};
 
@@ -89,22 +88,13 @@ pub(super) fn decimals_of<'a>(
 /// How many decimals of an hour tell its nanoseconds apart.
 const ENOUGH: usize = 13;
 
-/// The fewest nanoseconds of a unit whose decimals are not below the first of these.
+/// The fewest nanoseconds of a unit whose decimals are not below the first of these. It is computed
+/// from the last of them to the first, so that no number has more than 64 bits.
 fn fewest_nanoseconds(decimals: &[u8], unit: u64) -> u64 {
-    let mut number = 0u128;
-    let mut whole = 1u128;
-    for digit in decimals.iter().take(ENOUGH) {
-        number = number
-            .wrapping_mul(10)
-            .wrapping_add(digit.wrapping_sub(b'0') as u128);
-        whole = whole.saturating_mul(10);
+    let mut fewest = 0u64;
+    for digit in decimals[..decimals.len().min(ENOUGH)].iter().rev() {
+        let tenths = (digit.wrapping_sub(b'0') as u64).wrapping_mul(unit);
+        fewest = tenths.wrapping_add(fewest).div_ceil(10);
     }
-    let product = number.wrapping_mul(unit as u128);
-    let above = product.wrapping_add(whole.saturating_sub(1));
-    let fewest = above.checked_div(whole).unwrap_or(0);
-    let last = unit.saturating_sub(1);
-    match u64::try_from(fewest) {
-        Ok(fewest) => fewest.min(last),
-        Err(_) => last,
-    }
+    fewest.min(unit.saturating_sub(1))
 }

@@ -1,7 +1,7 @@
 //! Offsets from UTC by a configuration (ISO 8601-1:2019, sections 5.3.3 and 5.3.4).
 use crate::digits::{after, pair};
 use crate::fault::{Expected, Fault, Profile};
-use crate::iso8601::parts::{Parts, pair_behind};
+use crate::iso8601::parts::pair_behind;
 use crate::mail::sign;
 use crate::offset::signed_offset;
 use time_below::UtcOffset;
@@ -12,12 +12,10 @@ use time_known::iso8601::{Config, OffsetPrecision};
 pub(super) fn read_offset<'a>(
     config: &Config,
     text: &'a [u8],
-    parts: &mut Parts,
-) -> Result<&'a [u8], Fault> {
+) -> Result<(UtcOffset, &'a [u8]), Fault> {
     if config.has_time() {
         if let Some(rest) = after(text, b'Z') {
-            parts.offset = UtcOffset::UTC;
-            return Ok(rest);
+            return Ok((UtcOffset::UTC, rest));
         }
     }
     let (is_negative, rest) = match sign(text) {
@@ -29,8 +27,7 @@ pub(super) fn read_offset<'a>(
         OffsetPrecision::Minute => pair_behind(config, rest, b':', 0, 59)?,
         OffsetPrecision::Hour => (0, rest),
     };
-    parts.offset = signed_offset(is_negative, hour, minute);
-    Ok(rest)
+    Ok((signed_offset(is_negative, hour, minute), rest))
 }
 
 /// The fault of a text that does not begin with an offset.

@@ -61,13 +61,31 @@ pub(super) fn parts_of(config: &Config, text: &[u8]) -> Result<Parts, Fault> {
     };
     let mut rest = text;
     if config.has_date() {
-        rest = read_date(config, rest, &mut parts)?;
+        match read_date(config, rest) {
+            Ok((date, after)) => {
+                parts.date = date;
+                rest = after;
+            }
+            Err(fault) => return Err(fault),
+        }
     }
     if config.has_time() {
-        rest = read_time(config, rest, &mut parts)?;
+        match read_time(config, rest) {
+            Ok((time, after)) => {
+                parts.time = time;
+                rest = after;
+            }
+            Err(fault) => return Err(fault),
+        }
     }
     if config.has_offset() {
-        rest = read_offset(config, rest, &mut parts)?;
+        match read_offset(config, rest) {
+            Ok((offset, after)) => {
+                parts.offset = offset;
+                rest = after;
+            }
+            Err(fault) => return Err(fault),
+        }
     }
     end(rest)?;
     Ok(parts)

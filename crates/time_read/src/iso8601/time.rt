@@ -4,8 +4,9 @@ ghost use Rattle.std.specs.Prelude.{◌<◌};
 use crate::digits::{byte, pair};
 use crate::fault::Fault;
 use crate::iso8601::decimals::{decimals_of, nanosecond_of};
-use crate::iso8601::parts::{Parts, pair_behind};
+use crate::iso8601::parts::pair_behind;
 use time_below::Time;
+use time_digits::ru8;
 use time_known::iso8601::{Config, TimePrecision};
 
 /// The nanoseconds of the units whose decimals are cut.
@@ -13,38 +14,72 @@ const NANOSECONDS_PER_HOUR: u64 = 3_600_000_000_000;
 
 const NANOSECONDS_PER_MINUTE: u64 = 60_000_000_000;
 
+/// Reads the letter before a time of day, where the configuration has it.
+fn time_letter<'a>(config: &Config, text: &'a [u8]) -> Result<&'a [u8], Fault> {
+    if config.has_date() || !config.use_separators() {
+        byte(text, b'T')
+    } else {
+        Ok(text)
+    }
+}
+
 /// Reads a time of day.
-pub(super) fn read_time<'a>(
+pub(super) fn read_time<'a>(config: &Config, text: &'a [u8]) -> Result<(Time, &'a [u8]), Fault> {
+    let rest = time_letter(config, text)?;
+    let (hour, rest) = pair(rest, 0, 23)?;
+    match config.time_precision() {
+        TimePrecision::Hour { decimal_digits } => behind_hour(config, rest, hour, decimal_digits),
+        TimePrecision::Minute { decimal_digits } => {
+            behind_minute(config, rest, hour, decimal_digits)
+        }
+        TimePrecision::Second { decimal_digits } => to_second(config, rest, hour, decimal_digits),
+    }
+}
+
+/// Reads the decimals of an hour.
+fn behind_hour<'a>(
     config: &Config,
     text: &'a [u8],
-    parts: &mut Parts,
-) -> Result<&'a [u8], Fault> {
-    let rest = if config.has_date() || !config.use_separators() {
-        byte(text, b'T')?
-    } else {
-        text
-    };
-    let (hour, rest) = pair(rest, 0, 23)?;
-    if let TimePrecision::Hour { decimal_digits } = config.time_precision() {
-        let (behind, rest) = decimals_of(config, rest, decimal_digits, NANOSECONDS_PER_HOUR)?;
-        let minute = behind / NANOSECONDS_PER_MINUTE % 60;
-        parts.time = time_behind(hour, minute as u8, behind);
-        return Ok(rest);
-    }
-    let (minute, rest) = pair_behind(config, rest, b':', 0, 59)?;
-    match config.time_precision() {
-        TimePrecision::Second { decimal_digits } => {
-            let (second, rest) = pair_behind(config, rest, b':', 0, 59)?;
-            let (nanosecond, rest) = nanosecond_of(config, rest, decimal_digits)?;
-            parts.time = Time::from_valid_hms_nano(hour, minute, second, nanosecond);
-            Ok(rest)
-        }
-        TimePrecision::Minute { decimal_digits } | TimePrecision::Hour { decimal_digits } => {
-            let (behind, rest) = decimals_of(config, rest, decimal_digits, NANOSECONDS_PER_MINUTE)?;
-            parts.time = time_behind(hour, minute, behind);
-            Ok(rest)
-        }
-    }
+    hour: u8,
+    digits: Option<ru8<1, 255>>,
+) -> Result<(Time, &'a [u8]), Fault>
+    requires { hour < 24 }
+{
+    let (behind, rest) = decimals_of(config, text, digits, NANOSECONDS_PER_HOUR)?;
+    let minute = behind / NANOSECONDS_PER_MINUTE % 60;
+    Ok((time_behind(hour, minute as u8, behind), rest))
+}
+
+/// Reads a minute and its decimals.
+fn behind_minute<'a>(
+    config: &Config,
+    text: &'a [u8],
+    hour: u8,
+    digits: Option<ru8<1, 255>>,
+) -> Result<(Time, &'a [u8]), Fault>
+    requires { hour < 24 }
+{
+    let (minute, rest) = pair_behind(config, text, b':', 0, 59)?;
+    let (behind, rest) = decimals_of(config, rest, digits, NANOSECONDS_PER_MINUTE)?;
+    Ok((time_behind(hour, minute, behind), rest))
+}
+
+/// Reads a minute, a second and its decimals.
+fn to_second<'a>(
+    config: &Config,
+    text: &'a [u8],
+    hour: u8,
+    digits: Option<ru8<1, 255>>,
+) -> Result<(Time, &'a [u8]), Fault>
+    requires { hour < 24 }
+{
+    let (minute, rest) = pair_behind(config, text, b':', 0, 59)?;
+    let (second, rest) = pair_behind(config, rest, b':', 0, 59)?;
+    let (nanosecond, rest) = nanosecond_of(config, rest, digits)?;
+    Ok((
+        Time::from_valid_hms_nano(hour, minute, second, nanosecond),
+        rest,
+    ))
 }
 
 /// The time of day so many nanoseconds behind a minute, but for whole minutes of them.

@@ -1,21 +1,16 @@
-use Rattle.std.proofs.lemmas.Result.{err_from_is_err_and}
-use Rattle.time_read.proofs.MailLemmas.{clock_hour, clock_minute, clock_second, clock_front}
+use Rattle.std.proofs.lemmas.Result.{IfErr-weaker, IfOk-weaker, err_from_is_err_and}
+use Rattle.time_read.specs.Shapes.{OfClock}
+use Rattle.time_read.proofs.Numbers.{byte_then_first, byte_then_after, front_byte}
+use Rattle.time_read.proofs.PartLemmas.{begins_clock}
 use Rattle.time_read.proofs.mail.clock_after.Goals as goal
 
-pub returns-in_err-hour-clause-fault : goal.returns-in_err-hour-clause-fault
-returns-in_err-hour-clause-fault c =
+pub returns-in_err-rest-clause-fault : goal.returns-in_err-rest-clause-fault
+returns-in_err-rest-clause-fault c =
     let p = err_from_is_err_and c.from_residual.result c.from_residual.ensures.1 in
-    rw (p.1, p.2) (clock_hour c.args.text.now _ c.in_err-hour.ensures.fault)
-
-pub returns-in_err-minute-clause-fault : goal.returns-in_err-minute-clause-fault
-returns-in_err-minute-clause-fault c =
-    let p = err_from_is_err_and c.from_residual-in_err-minute.result c.from_residual-in_err-minute.ensures.1 in
-    rw (p.1, p.2) (clock_minute _ c.args.text.now _ _ c.in_ok-hour.ensures.read c.in_err-minute.ensures.fault)
-
-pub returns-in_err-second-clause-fault : goal.returns-in_err-second-clause-fault
-returns-in_err-second-clause-fault c =
-    let p = err_from_is_err_and c.from_residual-in_err-second.result c.from_residual-in_err-second.ensures.1 in
-    rw (p.1, p.2) (clock_second _ _ c.args.text.now _ _ _ c.in_ok-hour.ensures.read c.in_ok-minute.ensures.read c.in_err-second.ensures.fault)
+    rw (p.1, p.2) (byte_then_first 8 OfClock 32 begins_clock c.in_err-rest.ensures.fault)
 
 pub returns-clause-read : goal.returns-clause-read
-returns-clause-read c = clock_front _ _ _ c.args.text.now _ _ _ c.in_ok-hour.ensures.read c.in_ok-minute.ensures.read c.in_ok-second.ensures.read
+returns-clause-read c = IfOk-weaker _ _ _ (λ r p. front_byte 32 c.in_ok-rest.ensures.read p) c.clock.ensures.read
+
+pub returns-clause-fault : goal.returns-clause-fault
+returns-clause-fault c = IfErr-weaker _ _ _ (λ e f. byte_then_after OfClock 32 c.in_ok-rest.ensures.read f) c.clock.ensures.fault

@@ -1,4 +1,4 @@
-use Rattle.std.proofs.lemmas.Result.{err_from_is_err_and}
+use Rattle.std.proofs.lemmas.Result.{IfErr-weaker, IfOk-weaker, err_from_is_err_and}
 use Rattle.time_read.specs.Names.{NameOf}
 use Rattle.time_read.specs.declared.fault.Names.TheVariants as names
 use Rattle.time_read.proofs.NameLemmas.{begins_name}
@@ -10,10 +10,8 @@ returns-in_err-rest-clause-fault c =
     let p = err_from_is_err_and c.from_residual.result c.from_residual.ensures.1 in
     rw (p.1, p.2) (byte_then_first 3 (NameOf (names.MonthWith c.args.day)) 32 (begins_name (names.MonthWith c.args.day) c.requires) c.in_err-rest.ensures.fault)
 
-pub returns-in_err-place-clause-fault : goal.returns-in_err-place-clause-fault
-returns-in_err-place-clause-fault c =
-    let p = err_from_is_err_and c.from_residual-in_err-place.result c.from_residual-in_err-place.ensures.1 in
-    rw (p.1, p.2) (byte_then_after (NameOf (names.MonthWith c.args.day)) 32 c.in_ok-rest.ensures.read c.in_err-place.ensures.fault)
-
 pub returns-clause-read : goal.returns-clause-read
-returns-clause-read c = front_byte 32 c.in_ok-rest.ensures.read c.in_ok-place.ensures.read
+returns-clause-read c = IfOk-weaker _ _ _ (λ r p. front_byte 32 c.in_ok-rest.ensures.read p) c.some_name.ensures.read
+
+pub returns-clause-fault : goal.returns-clause-fault
+returns-clause-fault c = IfErr-weaker _ _ _ (λ e f. byte_then_after (NameOf (names.MonthWith c.args.day)) 32 c.in_ok-rest.ensures.read f) c.some_name.ensures.fault

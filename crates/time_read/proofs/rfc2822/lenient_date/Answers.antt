@@ -11,12 +11,11 @@ returns-clause-read c =
     front_as (λ t s. record {
       weekday = c.in_ok-weekday.weekday;
       day = c.in_ok-day.day;
-      place = c.in_ok-place.place;
-      year = c.in_ok-year.year;
+      place = c.in_ok-day.place;
+      year = c.in_ok-day.year;
       spelled = s;
-      day_fits = (c.in_ok-day.ensures.range.0, omega (arith, c.days_of_month.ensures.days));
+      day_fits = (c.in_ok-day.ensures.day.0, omega (arith, c.days_of_month.ensures.days));
       is = refl;
       named = subst (λ (d : OrdinalDate). IfSome c.in_ok-weekday.weekday (λ w. w ≡ weekday_of d)) c.date_of-date.ensures (c.if-is_other_weekday.ensures refl);
     })
-    (front_join c.in_ok-weekday.ensures.read (front_join c.in_ok-day.ensures.read (front_join c.in_ok-rest.ensures.read
-    (front_join c.in_ok-place.ensures.read (front_join c.in_ok-rest-2.ensures.read c.in_ok-year.ensures.read)))))
+    (front_join c.in_ok-weekday.ensures.read c.in_ok-day.ensures.read)

@@ -1,4 +1,4 @@
-use Rattle.std.proofs.lemmas.Result.{err_from_is_err_and}
+use Rattle.std.proofs.lemmas.Result.{IfErr-weaker, IfOk-weaker, err_from_is_err_and}
 use Rattle.time_known.specs.Rules.{Digits}
 use Rattle.time_read.proofs.Numbers.{byte_then_first, byte_then_after, front_byte}
 use Rattle.time_read.proofs.StampReadLemmas.{begins_digits}
@@ -9,10 +9,8 @@ returns-in_err-rest-clause-fault c =
     let p = err_from_is_err_and c.from_residual.result c.from_residual.ensures.1 in
     rw (p.1, p.2) (byte_then_first 9 (Digits 9) 46 begins_digits c.in_err-rest.ensures.fault)
 
-pub returns-in_err-number-clause-fault : goal.returns-in_err-number-clause-fault
-returns-in_err-number-clause-fault c =
-    let p = err_from_is_err_and c.from_residual-in_err-number.result c.from_residual-in_err-number.ensures.1 in
-    rw (p.1, p.2) (byte_then_after (Digits 9) 46 c.in_ok-rest.ensures.read c.in_err-number.ensures.fault)
-
 pub returns-clause-read : goal.returns-clause-read
-returns-clause-read c = front_byte 46 c.in_ok-rest.ensures.read c.in_ok-number.ensures.read
+returns-clause-read c = IfOk-weaker _ _ _ (λ r p. front_byte 46 c.in_ok-rest.ensures.read p) c.nine_digits.ensures.read
+
+pub returns-clause-fault : goal.returns-clause-fault
+returns-clause-fault c = IfErr-weaker _ _ _ (λ e f. byte_then_after (Digits 9) 46 c.in_ok-rest.ensures.read f) c.nine_digits.ensures.fault
