@@ -35,7 +35,8 @@ impl OutOfRange {
 }
 
 impl From<OutOfRange> for Format {
-    ghost from_gives = { λ component format. Names format (invalid_component (component_name component)) };
+    ghost from_gives = { λ component format. Names format
+        (invalid_component (component_name component)) };
 
     fn from(component: OutOfRange) -> Format {
         Format::InvalidComponent(component.name())
@@ -52,11 +53,13 @@ pub fn accepted_year(
     offset: UtcOffset,
 ) -> Result<ru16<0, 9_999>, OutOfRange>
     ensures accepted { IfOk result (λ _. (text : List ℕ)
-        → checked_text first greatest_hour year (unsigned_abs offset.hours) (unsigned_abs offset.seconds) text
+        → checked_text first greatest_hour year (unsigned_abs offset.hours)
+        (unsigned_abs offset.seconds) text
         ≡ done text) }
     ensures year { IfOk result (λ y. y ≡ unsigned_abs year) }
     ensures refused { IfErr result (λ out. (text : List ℕ)
-        → checked_text first greatest_hour year (unsigned_abs offset.hours) (unsigned_abs offset.seconds) text
+        → checked_text first greatest_hour year (unsigned_abs offset.hours)
+        (unsigned_abs offset.seconds) text
         ≡ refused_for out) }
 {
     if year < first as i32 || year > 9_999 {

@@ -25,7 +25,8 @@ use time_fmt::writers::{format_four_digits_pad_zero, format_two_digits_pad_zero,
 #[inline(always)]
 pub(crate) fn put_both<S: Sink>(output: &mut S, first: &str, second: &str)
     requires room { Fits (S.buffer output.old) (length first.now + length second.now) }
-    ensures puts { Puts (S.buffer output.old) (S.buffer output.new) (length first.now + length second.now)
+    ensures puts { Puts (S.buffer output.old) (S.buffer output.new)
+        (length first.now + length second.now)
         (first.now ++ second.now) }
     ensures length { length (first.now ++ second.now) ≡ length first.now + length second.now }
 {
@@ -35,7 +36,7 @@ pub(crate) fn put_both<S: Sink>(output: &mut S, first: &str, second: &str)
 
 /// Puts the year, the month and the day, and the separator between them.
 #[inline(always)]
-pub fn put_date<S: Sink>(output: &mut S, fields: &Fields, separator: &str)
+pub(crate) fn put_date<S: Sink>(output: &mut S, fields: &Fields, separator: &str)
     requires room { Fits (S.buffer output.old) (8 + 2 * length separator.now) }
     ensures puts { PutsUpTo (8 + 2 * length separator.now)
         (S.buffer output.old) (S.buffer output.new)
@@ -47,7 +48,7 @@ pub fn put_date<S: Sink>(output: &mut S, fields: &Fields, separator: &str)
 
 /// Puts the month and the day, and the separator before each of them.
 #[inline(always)]
-pub fn put_month_and_day<S: Sink>(output: &mut S, date: CalendarDay, separator: &str)
+pub(crate) fn put_month_and_day<S: Sink>(output: &mut S, date: CalendarDay, separator: &str)
     requires room { Fits (S.buffer output.old) (4 + 2 * length separator.now) }
     ensures puts { PutsUpTo (4 + 2 * length separator.now)
         (S.buffer output.old) (S.buffer output.new)
@@ -61,7 +62,7 @@ pub fn put_month_and_day<S: Sink>(output: &mut S, date: CalendarDay, separator: 
 }
 
 /// Puts the first three letters of the month's English name.
-pub fn put_month_name<S: Sink>(output: &mut S, date: CalendarDay)
+pub(crate) fn put_month_name<S: Sink>(output: &mut S, date: CalendarDay)
     requires room { Fits (S.buffer output.old) 3 }
     ensures puts { Puts (S.buffer output.old) (S.buffer output.new) 3
         (short_name (month_name (month_and_day date).month)) }
@@ -73,7 +74,7 @@ pub fn put_month_name<S: Sink>(output: &mut S, date: CalendarDay)
 
 /// Puts the hour, the minute and the second, and the separator between them.
 #[inline(always)]
-pub fn put_clock<S: Sink>(output: &mut S, time: Time, separator: &str)
+pub(crate) fn put_clock<S: Sink>(output: &mut S, time: Time, separator: &str)
     requires room { Fits (S.buffer output.old) (6 + 2 * length separator.now) }
     ensures puts { PutsUpTo (6 + 2 * length separator.now)
         (S.buffer output.old) (S.buffer output.new)
@@ -104,7 +105,7 @@ pub(crate) fn offset_minutes(offset: UtcOffset) -> &'static str
 }
 
 /// Puts the sign of the whole offset, and its hours.
-pub fn put_offset_hours<S: Sink>(output: &mut S, offset: UtcOffset)
+pub(crate) fn put_offset_hours<S: Sink>(output: &mut S, offset: UtcOffset)
     requires room { Fits (S.buffer output.old) 3 }
     ensures puts { Puts (S.buffer output.old) (S.buffer output.new) 3
         (offset_hours_text offset) }
@@ -116,7 +117,7 @@ pub fn put_offset_hours<S: Sink>(output: &mut S, offset: UtcOffset)
 /// Puts the sign of the whole offset, and its hours and its minutes, and the separator between
 /// them.
 #[inline(always)]
-pub fn put_signed_offset<S: Sink>(output: &mut S, offset: UtcOffset, separator: &str)
+pub(crate) fn put_signed_offset<S: Sink>(output: &mut S, offset: UtcOffset, separator: &str)
     requires room { Fits (S.buffer output.old) (5 + length separator.now) }
     ensures puts { PutsUpTo (5 + length separator.now)
         (S.buffer output.old) (S.buffer output.new)

@@ -82,7 +82,8 @@ pub struct Rfc2822Text {
 impl Text for Rfc2822Text {
     ghost width = { λ _. rfc2822_width };
 
-    ghost text = { λ t. rfc2822_text (on_weekday (days_from_monday t.weekday) t.fields) t.fields.time t.fields.offset };
+    ghost text = { λ t. rfc2822_text (on_weekday (days_from_monday t.weekday) t.fields)
+        t.fields.time t.fields.offset };
 
     #[inline(always)]
     #[tactic(auto, using(crate::proofs::LengthLemmas::joined_lengths))]

@@ -34,7 +34,8 @@ pub fn stamp_into(output: &mut Vec<u8>, value: &UtcDateTime) -> Result<usize, Fo
     ensures unchanged { OnErr result (output.new.items ≡ output.old.items) }
 
     // `OutOfMemory` is never returned if the maximum length fits.
-    ensures reserves { Reserves output.old stamp_width (vec_capacity output.new) (is_out_of_memory result) }
+    ensures reserves { Reserves output.old stamp_width (vec_capacity output.new)
+        (is_out_of_memory result) }
     ensures room { HasRoom output.old stamp_width → result ≢ Err Format.OutOfMemory }
 {
     Iso8601::default().format_into(output, value, &mut DateState::default())

@@ -137,7 +137,8 @@ impl LogTime {
         ensures named { IfErr result (λ e. e ≢ Format.OutOfMemory
             → Names e (invalid_component (codes "year"))) }
         ensures unchanged { OnErr result (output.new.items ≡ output.old.items) }
-        ensures reserves { Reserves output.old (log_length self.old) (vec_capacity output.new) (is_err result) }
+        ensures reserves { Reserves output.old (log_length self.old) (vec_capacity output.new)
+            (is_err result) }
         ensures room { HasRoom output.old (log_length self.old) → result ≢ Err Format.OutOfMemory }
     {
         let (second, nanosecond) = moment.as_parts();

@@ -121,7 +121,8 @@ pub(super) fn put_date<S: Sink, V: ComponentProvider>(
     requires supplied { IsTrue V.SUPPLIES_DATE }
     requires room { Fits (S.buffer output.old) (iso_date_width config.now) }
     requires agrees { V.agrees state.old value.now }
-    ensures puts { PutsOutcome (iso_date_width config.now) (S.buffer output.old) (S.buffer output.new) result
+    ensures puts { PutsOutcome (iso_date_width config.now) (S.buffer output.old)
+        (S.buffer output.new) result
         (iso_date config.now (the_date (V.facts value.now))) }
     ensures agrees { AgreesOnDate (V.agrees state.new value.now) (V.facts value.now) }
 {

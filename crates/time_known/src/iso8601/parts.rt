@@ -106,7 +106,8 @@ pub fn put_parts<S: Sink, V: ComponentProvider>(
     requires supplied { SuppliesParts config.now V.SUPPLIES_DATE V.SUPPLIES_TIME V.SUPPLIES_OFFSET }
     requires room { Fits (S.buffer output.old) (iso8601_width config.now) }
     requires agrees { V.agrees state.old value.now }
-    ensures puts { PutsOutcome (iso8601_width config.now) (S.buffer output.old) (S.buffer output.new) result
+    ensures puts { PutsOutcome (iso8601_width config.now) (S.buffer output.old)
+        (S.buffer output.new) result
         (iso8601_outcome config.now (V.facts value.now)) }
     ensures real { OnOk result (IsRealWhole config.now (V.facts value.now)) }
     ensures agrees { V.agrees state.new value.now }
@@ -198,7 +199,8 @@ fn write_by_way<V: ComponentProvider>(
     ensures appends { MatchOption result (output.new ≡ output.old)
         (λ answer. AppendsAllOrNone (iso8601_width config.now) output.old output.new answer
         (iso8601_outcome config.now (V.facts value.now))) }
-    ensures real { IfSome result (λ answer. OnOk answer (IsRealWhole config.now (V.facts value.now))) }
+    ensures real { IfSome result
+        (λ answer. OnOk answer (IsRealWhole config.now (V.facts value.now))) }
     ensures agrees { V.agrees state.new value.now }
 {
     match way {
@@ -225,7 +227,8 @@ fn write_unusual<V: ComponentProvider>(
     ensures appends { MatchOption result (output.new ≡ output.old)
         (λ answer. AppendsAllOrNone (iso8601_width config.now) output.old output.new answer
         (iso8601_outcome config.now (V.facts value.now))) }
-    ensures real { IfSome result (λ answer. OnOk answer (IsRealWhole config.now (V.facts value.now))) }
+    ensures real { IfSome result
+        (λ answer. OnOk answer (IsRealWhole config.now (V.facts value.now))) }
     ensures agrees { V.agrees state.new value.now }
 {
     let has_dash = config.use_separators();

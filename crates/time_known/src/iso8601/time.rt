@@ -168,7 +168,8 @@ pub(super) fn put_long_division<S: Sink>(output: &mut S, rest: u64, unit: u64, d
     requires part { rest < unit }
     requires unit { unit ≤ NANOSECONDS_PER_HOUR }
     requires room { Fits (S.buffer output.old) digits }
-    ensures puts { Puts (S.buffer output.old) (S.buffer output.new) digits (decimals rest unit digits) }
+    ensures puts { Puts (S.buffer output.old) (S.buffer output.new) digits
+        (decimals rest unit digits) }
 {
     let mut taken = output.take_out();
     format_decimals(&mut taken, rest, unit, digits);

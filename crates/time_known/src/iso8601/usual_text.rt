@@ -125,7 +125,8 @@ pub struct StampText {
 impl Text for StampText {
     ghost width = { λ _. stamp_length };
 
-    ghost text = { λ t. usual_text default_choices (Some 9) (shown t.fields).date t.fields.time utc };
+    ghost text = { λ t. usual_text default_choices (Some 9) (shown t.fields).date t.fields.time
+        utc };
 
     #[inline(always)]
     fn put_into<S: Sink>(&self, output: &mut S) {
