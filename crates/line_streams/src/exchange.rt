@@ -5,6 +5,7 @@ ghost use Rattle.line_streams.specs.Prompt.{Grows, GrowsInPart, IsPrompt};
 
 use crate::lines::LineJob;
 use std::alloc::AllocError;
+use std::io::{self, ErrorKind};
 
 /// Why a run ended before all that the lines of its input become was written.
 #[derive(Clone, Copy, Debug, PartialEq, Eq, Drop)]
@@ -19,6 +20,24 @@ pub enum FilterError {
     Memory,
     /// The job could not be prepared.
     Job,
+}
+
+impl FilterError {
+    ghost use Rattle.std.specs.Prelude.{◌≢◌, ◌↔◌};
+    ghost use Rattle.std.specs.IoError.{error_kind};
+    ghost use Rattle.std.specs.declared.io.ErrorKind.TheVariants.{BrokenPipe};
+    ghost use Rattle.line_streams.specs.declared.exchange.FilterError.TheVariants.{Closed, Write};
+
+    /// Why a run ends whose write failed so.
+    pub fn of_write(error: &io::Error) -> FilterError
+        ensures closed { (result ≡ Closed) ↔ (error_kind error.now ≡ BrokenPipe) }
+        ensures others { error_kind error.now ≢ BrokenPipe → result ≡ Write }
+    {
+        match error.kind() {
+            ErrorKind::BrokenPipe => FilterError::Closed,
+            _ => FilterError::Write,
+        }
+    }
 }
 
 impl From<AllocError> for FilterError {

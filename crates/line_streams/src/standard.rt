@@ -3,7 +3,7 @@ ghost use Rattle.std.specs.Prelude.{None};
 
 use crate::exchange::{Exchange, FilterError};
 use crate::lines::LineJob;
-use std::io::{ErrorKind, Read, Stdin, Stdout, Write};
+use std::io::{Read, Stdin, Stdout, Write};
 
 /// Standard input and standard output. Nothing is known of what they give and take.
 #[derive(Drop)]
@@ -29,10 +29,7 @@ impl Exchange for StandardStreams {
     fn write_all(&mut self, bytes: &[u8]) -> Result<(), FilterError> {
         match Write::write_all(&mut self.output, bytes) {
             Ok(()) => Ok(()),
-            Err(error) => Err(match error.kind() {
-                ErrorKind::BrokenPipe => FilterError::Closed,
-                _ => FilterError::Write,
-            }),
+            Err(error) => Err(FilterError::of_write(&error)),
         }
     }
 }

@@ -1,3 +1,4 @@
 pub mod LocalTime
 pub mod OffsetText
 pub mod Refusal
+pub mod Word

@@ -72,7 +72,11 @@ const LEAST_DIGITS: usize = 10;
 /// The description, where nothing else is asked for.
 const USUAL: &str = "rfc3339";
 
-const DESCRIPTIONS: &str = "\
+/// The descriptions of all jobs, and more texts behind them.
+macro_rules! descriptions {
+    ($($more:literal),*) => {
+        concat!(
+            "\
 Descriptions:
   rfc3339        2023-11-14T22:13:20.123Z
   rfc2822        Tue, 14 Nov 2023 22:13:20 +0000
@@ -80,31 +84,30 @@ Descriptions:
   stamp          the same, always in UTC: sorts as the moments do
   unix           1700000000, always seconds since 1970
   a text with %  as of strftime: '%Y-%m-%d %H:%M:%S'
-  a text with [  '[year]-[month]-[day] [hour]:[minute]'
+  a text with [  '[year]-[month]-[day] [hour]:[minute]'"
+            $(, $more)*
+        )
+    };
+}
 
-Any other word is a file, as is each word behind the first one; - is standard input.";
+/// The same, for a job that reads files.
+macro_rules! descriptions_and_files {
+    ($($more:literal),*) => {
+        descriptions!(
+            "
 
-const NOW_DESCRIPTIONS: &str = "\
-Descriptions:
-  rfc3339        2023-11-14T22:13:20.123Z
-  rfc2822        Tue, 14 Nov 2023 22:13:20 +0000
-  iso8601        2023-11-14T22:13:20.123000000Z
-  stamp          the same, always in UTC: sorts as the moments do
-  unix           1700000000, always seconds since 1970
-  a text with %  as of strftime: '%Y-%m-%d %H:%M:%S'
-  a text with [  '[year]-[month]-[day] [hour]:[minute]'";
+Any other word is a file, as is each word behind the first one; - is standard input."
+            $(, $more)*
+        )
+    };
+}
 
-const READ_DESCRIPTIONS: &str = "\
-Descriptions:
-  rfc3339        2023-11-14T22:13:20.123Z
-  rfc2822        Tue, 14 Nov 2023 22:13:20 +0000
-  iso8601        2023-11-14T22:13:20.123000000Z
-  stamp          the same, always in UTC: sorts as the moments do
-  unix           1700000000, always seconds since 1970
-  a text with %  as of strftime: '%Y-%m-%d %H:%M:%S'
-  a text with [  '[year]-[month]-[day] [hour]:[minute]'
+const NOW_DESCRIPTIONS: &str = descriptions!();
 
-Any other word is a file, as is each word behind the first one; - is standard input.
+const DESCRIPTIONS: &str = descriptions_and_files!();
+
+const READ_DESCRIPTIONS: &str = descriptions_and_files!(
+    "
 
 Texts that --from reads:
   rfc3339        2023-11-14T22:13:20.123Z, of any number of decimals
@@ -112,12 +115,14 @@ Texts that --from reads:
   syslog         Nov 14 22:13:20
   log4j          2023-11-14 22:13:20,123, also of Python's logging
   rfc2822        Tue, 14 Nov 2023 22:13:20 +0000, of mail
-  iso8601        2023-11-14T22:13:20,123+0000, of none, 3, 6 or 9 decimals
+  iso8601        2023-11-14T22:13:20,123+0000, also without an offset, of none, 3, 6
+                 or 9 decimals
   a text with % or [, in which times stand as that text writes them
 
 A time without an offset is that of --from-zone. One that its clocks skip is read
 by the offset before the change, and of one that they show twice the first is taken.
-A time without a year is of the latest year in which it is at most a day after now.";
+A time without a year is of the latest year in which it is at most a day after now."
+);
 
 /// What follows the name of an option.
 struct Takes {
@@ -220,7 +225,8 @@ const LOCAL: OptionRow = OptionRow {
     letter: Some('l'),
     groups: &["clock"],
     takes: NOTHING,
-    help: "Shows the time in the zone of the system, or that TZ gives: a name, with a colon before it or without, or a rule such as EST5EDT",
+    help: "Shows the time in the zone of the system, or that TZ gives: a name, with a colon before \
+        it or without, or a rule such as EST5EDT",
 };
 
 const AFTER: OptionRow = OptionRow {
@@ -305,7 +311,8 @@ const FROM: OptionRow = OptionRow {
     letter: Some('f'),
     groups: &[],
     takes: DESCRIPTION_TEXT,
-    help: "Reads the texts of a description: rfc3339 (the default), clf, syslog, log4j, rfc2822, iso8601, or a text with % or [",
+    help: "Reads the texts of a description: rfc3339 (the default), clf, syslog, log4j, rfc2822, \
+        iso8601, or a text with % or [",
 };
 
 const FROM_ZONE: OptionRow = OptionRow {
@@ -313,7 +320,8 @@ const FROM_ZONE: OptionRow = OptionRow {
     letter: None,
     groups: &[],
     takes: NAME_TEXT,
-    help: "The zone of texts without an offset, as UTC or Europe/Berlin [default: the one that is shown]",
+    help: "The zone of texts without an offset, as UTC or Europe/Berlin [default: the one that is \
+        shown]",
 };
 
 const YEAR: OptionRow = OptionRow {
@@ -321,7 +329,8 @@ const YEAR: OptionRow = OptionRow {
     letter: None,
     groups: &[],
     takes: YEAR_NUMBER,
-    help: "The year of texts without one [default: the latest in which the time is at most a day after now]",
+    help: "The year of texts without one [default: the latest in which the time is at most a day \
+        after now]",
 };
 
 /// A job, what it does, and its options.
@@ -344,7 +353,9 @@ const JOBS: &[JobRow] = &[
     },
     JobRow {
         name: "unix",
-        about: "Replaces the first Unix time of each line by its text. By its digits before the point a number is seconds (10, or 9 with --digits 9), milliseconds (12 or 13), microseconds (15 or 16) or nanoseconds (18 or 19)",
+        about: "Replaces the first Unix time of each line by its text. By its digits before the \
+            point a number is seconds (10, or 9 with --digits 9), milliseconds (12 or 13), \
+            microseconds (15 or 16) or nanoseconds (18 or 19)",
         options: &[
             &UTC,
             &OFFSET,
@@ -365,7 +376,8 @@ const JOBS: &[JobRow] = &[
     },
     JobRow {
         name: "read",
-        about: "Replaces the first text of each line that is a time, by default one of RFC 3339 such as 2023-11-14T22:13:20Z",
+        about: "Replaces the first text of each line that is a time, by default one of RFC 3339 \
+            such as 2023-11-14T22:13:20Z",
         options: &[
             &UTC, &OFFSET, &ZONE, &LOCAL, &FROM, &FROM_ZONE, &YEAR, &READ_JSON, &QUIET,
         ],

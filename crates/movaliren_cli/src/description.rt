@@ -1,6 +1,8 @@
 //! Descriptions of the command line.
-ghost use Rattle.std.specs.Prelude.{IfErr};
+ghost use Rattle.std.specs.Prelude.{◌≡◌, IfErr};
+ghost use Rattle.std.specs.List.{list_all};
 ghost use Rattle.movaliren_cli.specs.Refusal.{IsRefusalOf};
+ghost use Rattle.movaliren_cli.specs.Word.{format_named, is_description, is_plain_in_json};
 
 use std::alloc::Global;
 use time_plan::{InvalidDescription, InvalidStrftime, Plan};
@@ -19,7 +21,10 @@ pub enum NamedFormat {
 
 impl NamedFormat {
     /// The format of this name, if there is one.
-    pub fn of_name(name: &str) -> Option<NamedFormat> {
+    #[tactic(auto, unfolding(crate::specs::Word::format_named))]
+    pub fn of_name(name: &str) -> Option<NamedFormat>
+        ensures { result ≡ format_named name.now }
+    {
         match name {
             "rfc3339" => Some(NamedFormat::Rfc3339),
             "rfc2822" => Some(NamedFormat::Rfc2822),
@@ -33,14 +38,18 @@ impl NamedFormat {
 
 /// Whether the word is a description: the name of a format, or a text with a bracket or a percent
 /// sign.
-pub fn is_description(word: &str) -> bool {
+pub fn is_description(word: &str) -> bool
+    ensures { result ≡ is_description word.now }
+{
     let bytes = word.as_bytes();
     NamedFormat::of_name(word).is_some() || bytes.contains(&b'%') || bytes.contains(&b'[')
 }
 
 /// Whether the bytes can stand in a string of JSON as they are: no quote, no backslash, no control
 /// character.
-pub fn is_json_text(bytes: &[u8]) -> bool {
+pub fn is_json_text(bytes: &[u8]) -> bool
+    ensures { result ≡ list_all is_plain_in_json bytes.now }
+{
     bytes
         .iter()
         .all(|byte| *byte >= b' ' && *byte != b'"' && *byte != b'\\')

@@ -35,7 +35,7 @@ use time_jiff::ZoneClock;
 use time_known::{Iso8601, Rfc2822};
 use time_lines::{
     Described, FormRow, InPlace, InUtc, NowJob, Numbers, Passed, Place, ReadJob, Reads,
-    Rfc3339InPlace, Shown, UnixJob, Utc, Years,
+    Rfc3339InPlace, Shows, UnixJob, Utc, Years,
 };
 use time_read::LenientReader;
 
@@ -49,7 +49,7 @@ fn run_job<J: LineJob>(rt: &HostRuntime, job: &mut J) -> Result<(), FilterError>
 }
 
 /// Puts before each line what is shown of the moment at which it was read.
-fn run_now<S: Shown + Drop>(rt: &HostRuntime, shown: S) -> ExitCode {
+fn run_now<S: Shows + Drop>(rt: &HostRuntime, shown: S) -> ExitCode {
     let mut job = NowJob {
         clock: rt,
         shown,
@@ -60,7 +60,7 @@ fn run_now<S: Shown + Drop>(rt: &HostRuntime, shown: S) -> ExitCode {
 }
 
 /// Replaces the first number of each line that is Unix time, or each.
-fn run_unix<S: Shown + Drop>(
+fn run_unix<S: Shows + Drop>(
     rt: &HostRuntime,
     task: &Task,
     numbers: Numbers,
@@ -80,7 +80,7 @@ fn run_unix<S: Shown + Drop>(
 }
 
 /// Replaces the first text of each line that a reader reads.
-fn run_reader<S: Shown + Drop, R: Reads + Drop>(
+fn run_reader<S: Shows + Drop, R: Reads + Drop>(
     rt: &HostRuntime,
     task: &Task,
     shown: S,
@@ -96,7 +96,7 @@ fn run_reader<S: Shown + Drop, R: Reads + Drop>(
 
 /// Replaces the first text of each line that one of the forms has, where years are these, in the
 /// zone that is asked for.
-fn run_forms<S: Shown + Drop>(
+fn run_forms<S: Shows + Drop>(
     rt: &HostRuntime,
     task: &Task,
     shown: S,
@@ -119,7 +119,7 @@ fn run_forms<S: Shown + Drop>(
 }
 
 /// Replaces the first text of each line that is one of the description that is asked for.
-fn run_described_texts<S: Shown + Drop>(rt: &HostRuntime, task: &Task, shown: S) -> ExitCode {
+fn run_described_texts<S: Shows + Drop>(rt: &HostRuntime, task: &Task, shown: S) -> ExitCode {
     let alloc = rt.alloc();
     let Ok(now) = Timestamp::now(rt) else {
         return fail(rt, Err(FilterError::Job));
@@ -139,7 +139,7 @@ fn run_described_texts<S: Shown + Drop>(rt: &HostRuntime, task: &Task, shown: S)
 }
 
 /// Replaces the first text of each line that is read.
-fn run_read<S: Shown + Drop>(rt: &HostRuntime, task: &Task, shown: S) -> ExitCode {
+fn run_read<S: Shows + Drop>(rt: &HostRuntime, task: &Task, shown: S) -> ExitCode {
     if task.texts.from != reading::USUAL {
         return run_described_texts(rt, task, shown);
     }
@@ -154,21 +154,22 @@ fn run_read<S: Shown + Drop>(rt: &HostRuntime, task: &Task, shown: S) -> ExitCod
 
 /// Whether what is shown can stand in a string of JSON, by the text of one moment: what a
 /// description shows beside its numbers and names is the same in all its texts.
-fn is_for_json<S: Shown>(rt: &HostRuntime, shown: &mut S) -> Result<bool, AllocError> {
+fn is_for_json<S: Shows>(rt: &HostRuntime, shown: &mut S) -> Result<bool, AllocError> {
     let mut text = Vec::new(rt.alloc());
     shown.append(&mut text, &Timestamp::UNIX_EPOCH)?;
     Ok(description::is_json_text(text.as_slice()))
 }
 
 /// Does what is asked for, with what is shown of moments.
-fn run<S: Shown + Drop>(rt: &HostRuntime, task: &Task, mut shown: S) -> ExitCode {
+fn run<S: Shows + Drop>(rt: &HostRuntime, task: &Task, mut shown: S) -> ExitCode {
     if task.is_json {
         match is_for_json(rt, &mut shown) {
             Ok(true) => {}
             Ok(false) => {
                 return refuse(
                     rt,
-                    "'--json' takes no description with a quote, a backslash or a control character",
+                    "'--json' takes no description with a quote, a backslash \
+                     or a control character",
                 );
             }
             Err(_) => return fail(rt, Err(FilterError::Memory)),

@@ -14,7 +14,6 @@ pub struct InZone<'a>(pub ZoneClock<'a>);
 impl Place for InZone<'_> {
     ghost has_offset = { λ place m o. HasOffset place.0.zone m.seconds o };
 
-    #[inline(always)]
     fn offset_at(&mut self, moment: &Timestamp) -> UtcOffset {
         self.0.offset_at(moment)
     }

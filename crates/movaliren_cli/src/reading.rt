@@ -15,6 +15,8 @@ struct NameRow {
     descriptions: &'static [&'static str],
     /// Descriptions whose texts are in UTC.
     in_utc: &'static [&'static str],
+    /// Descriptions whose texts show no offset, and have neither one nor decimals behind them.
+    local: &'static [&'static str],
 }
 
 const NAMES: &[NameRow] = &[
@@ -22,16 +24,19 @@ const NAMES: &[NameRow] = &[
         name: "clf",
         descriptions: &["%d/%b/%Y:%H:%M:%S %z"],
         in_utc: &[],
+        local: &[],
     },
     NameRow {
         name: "syslog",
         descriptions: &["%b %e %H:%M:%S"],
         in_utc: &[],
+        local: &[],
     },
     NameRow {
         name: "log4j",
         descriptions: &["%Y-%m-%d %H:%M:%S,%3N"],
         in_utc: &[],
+        local: &[],
     },
     NameRow {
         name: "rfc2822",
@@ -42,6 +47,7 @@ const NAMES: &[NameRow] = &[
             "%-d %b %Y %H:%M:%S %z",
         ],
         in_utc: &[],
+        local: &[],
     },
     NameRow {
         name: "iso8601",
@@ -70,6 +76,15 @@ const NAMES: &[NameRow] = &[
             "%Y-%m-%dT%H:%M:%S,%6NZ",
             "%Y-%m-%dT%H:%M:%S,%9NZ",
         ],
+        local: &[
+            "%Y-%m-%dT%H:%M:%S",
+            "%Y-%m-%dT%H:%M:%S.%3N",
+            "%Y-%m-%dT%H:%M:%S.%6N",
+            "%Y-%m-%dT%H:%M:%S.%9N",
+            "%Y-%m-%dT%H:%M:%S,%3N",
+            "%Y-%m-%dT%H:%M:%S,%6N",
+            "%Y-%m-%dT%H:%M:%S,%9N",
+        ],
     },
 ];
 
@@ -79,6 +94,8 @@ pub struct Plans {
     plans: Vec<Plan>,
     /// Plans whose texts are in UTC.
     in_utc: Vec<Plan>,
+    /// Plans whose texts show no offset, and have neither one nor decimals behind them.
+    local: Vec<Plan>,
 }
 
 /// Why a text is not read by.
@@ -114,36 +131,59 @@ impl Plans {
             if row.name == word {
                 let plans = plans_of_each(alloc, row.descriptions)?;
                 let in_utc = plans_of_each(alloc, row.in_utc)?;
-                return Ok(Plans { plans, in_utc });
+                let local = plans_of_each(alloc, row.local)?;
+                return Ok(Plans {
+                    plans,
+                    in_utc,
+                    local,
+                });
             }
         }
         let plans = plans_of_each(alloc, &[word])?;
-        let in_utc = Vec::new(alloc);
-        Ok(Plans { plans, in_utc })
+        let (in_utc, local) = (Vec::new(alloc), Vec::new(alloc));
+        Ok(Plans {
+            plans,
+            in_utc,
+            local,
+        })
     }
 
     /// The forms of the plans. Where texts show a part of the year, the other part is that of the
     /// date.
     pub fn forms(&self, alloc: Global, base: Date) -> Result<Vec<FormRow<'_>>, NotReadBy> {
         let mut forms = Vec::new(alloc);
-        for plan in &self.plans {
-            match Form::of(plan, base) {
-                Ok(form) => push_form(&mut forms, form)?,
-                Err(refused) => return Err(NotReadBy::Form(refused)),
-            }
-        }
+        push_forms(&mut forms, self.plans.as_slice(), base, false)?;
         for plan in &self.in_utc {
             match plan.reader::<Timestamp>() {
-                Ok(reader) => push_form(&mut forms, Form::AtMoment(reader))?,
+                Ok(reader) => push_row(&mut forms, FormRow::new(Form::AtMoment(reader)))?,
                 Err(refused) => return Err(NotReadBy::Form(NoForm::NoReader(refused))),
             }
         }
+        push_forms(&mut forms, self.local.as_slice(), base, true)?;
         Ok(forms)
     }
 }
 
-fn push_form<'a>(forms: &mut Vec<FormRow<'a>>, form: Form<'a>) -> Result<(), NotReadBy> {
-    match forms.push(FormRow::new(form)) {
+/// Adds the forms of the plans, whose texts are read whatever follows them, or only as a whole.
+fn push_forms<'a>(
+    forms: &mut Vec<FormRow<'a>>,
+    plans: &'a [Plan],
+    base: Date,
+    is_whole: bool,
+) -> Result<(), NotReadBy> {
+    for plan in plans {
+        let mut row = match Form::of(plan, base) {
+            Ok(form) => FormRow::new(form),
+            Err(refused) => return Err(NotReadBy::Form(refused)),
+        };
+        row.is_whole = is_whole;
+        push_row(forms, row)?;
+    }
+    Ok(())
+}
+
+fn push_row<'a>(forms: &mut Vec<FormRow<'a>>, row: FormRow<'a>) -> Result<(), NotReadBy> {
+    match forms.push(row) {
         Ok(()) => Ok(()),
         Err(_) => Err(NotReadBy::Memory),
     }

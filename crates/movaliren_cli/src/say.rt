@@ -73,6 +73,7 @@ fn reason(why: Why) -> &'static str {
         Why::NoTime => "no time is in it",
         Why::NoUnit => "its number has the digits of no unit",
         Why::NoMoment => "its time is no moment of the years -999999 to 999999",
+        Why::NoLocalMoment => "no clock shows its time in the years -9999 to 9999",
         Why::NoText => "the description has no text for its time",
     }
 }
@@ -93,7 +94,8 @@ pub fn say_passed(rt: &HostRuntime, passed: &Passed, file: Option<&str>) {
         eprintln!(rt; "movaliren: 1 line passed as it was, line {line}{of}{name}: {why}")
     } else {
         eprintln!(rt;
-            "movaliren: {count} lines passed as they were, the first of them line {line}{of}{name}: {why}"
+            "movaliren: {count} lines passed as they were, \
+             the first of them line {line}{of}{name}: {why}"
         )
     };
 }
@@ -164,7 +166,8 @@ pub fn refuse_description(rt: &HostRuntime, text: &str, refusal: Refusal) -> Exi
     match refusal {
         Refusal::Name => {
             let _ = eprintln!(rt;
-                "movaliren: no format has the name '{text}': there are rfc3339, rfc2822, iso8601, stamp and unix, and texts with % or ["
+                "movaliren: no format has the name '{text}': \
+                 there are rfc3339, rfc2822, iso8601, stamp and unix, and texts with % or ["
             );
             ExitCode::from(USAGE)
         }
@@ -197,7 +200,8 @@ pub fn refuse_texts(rt: &HostRuntime, text: &str, refused: NotReadBy) -> ExitCod
         NotReadBy::Memory => fail(rt, Err(FilterError::Memory)),
         NotReadBy::Refusal(Refusal::Name) => {
             let _ = eprintln!(rt;
-                "movaliren: no texts have the name '{text}': there are rfc3339, clf, syslog, log4j, rfc2822 and iso8601, and texts with % or ["
+                "movaliren: no texts have the name '{text}': \
+                 there are rfc3339, clf, syslog, log4j, rfc2822 and iso8601, and texts with % or ["
             );
             ExitCode::from(USAGE)
         }

@@ -5,20 +5,20 @@ use crate::streams::{Source, Streams};
 use line_streams::{FilterError, LineJob};
 use std::io::ErrorKind;
 use std::process::ExitCode;
-use time_lines::{Passed, ReadJob, Reads, Shown, UnixJob};
+use time_lines::{Passed, ReadJob, Reads, Shows, UnixJob};
 
 /// A job that counts lines that passed as they were.
 pub trait CountingJob: LineJob {
     fn passed(&mut self) -> &mut Passed;
 }
 
-impl<S: Shown + Drop> CountingJob for UnixJob<'_, S> {
+impl<S: Shows + Drop> CountingJob for UnixJob<'_, S> {
     fn passed(&mut self) -> &mut Passed {
         &mut self.passed
     }
 }
 
-impl<S: Shown + Drop, R: Reads + Drop> CountingJob for ReadJob<S, R> {
+impl<S: Shows + Drop, R: Reads + Drop> CountingJob for ReadJob<S, R> {
     fn passed(&mut self) -> &mut Passed {
         &mut self.passed
     }

@@ -1,9 +1,9 @@
 //! Files one after another as one source of lines, and standard output.
-ghost use Rattle.std.specs.Prelude.{◌≤◌, length, None, IfOk};
+ghost use Rattle.std.specs.Prelude.{◌≡◌, ◌==◌, ◌≤◌, length, not, false, None, IfOk};
 
 use line_streams::{Exchange, FilterError, LineJob};
 use std::fs::File;
-use std::io::{self, ErrorKind, Read, Stdin, Stdout, Write};
+use std::io::{self, Read, Stdin, Stdout, Write};
 
 /// Where lines come from.
 #[derive(Drop)]
@@ -47,7 +47,11 @@ pub struct Streams {
 
 impl Streams {
     /// Standard input and standard output.
-    pub fn new(rt: &HostRuntime) -> Streams {
+    pub fn new(rt: &HostRuntime) -> Streams
+        ensures outside { result.is_inside_line ≡ false }
+        ensures begun { result.needs_line_feed ≡ false }
+        ensures fault { result.fault ≡ None }
+    {
         Streams {
             input: Source::Standard(rt.stdin()),
             output: rt.stdout(),
@@ -58,7 +62,12 @@ impl Streams {
     }
 
     /// Goes on with another source, whose lines begin anew.
-    pub fn go_on(&mut self, input: Source) {
+    pub fn go_on(&mut self, input: Source)
+        ensures input { self.new.input ≡ input }
+        ensures output { self.new.output ≡ self.old.output }
+        ensures feed { self.new.needs_line_feed ≡ self.old.is_inside_line }
+        ensures inside { self.new.is_inside_line ≡ self.old.is_inside_line }
+    {
         self.input = input;
         self.needs_line_feed = self.is_inside_line;
     }
@@ -67,11 +76,20 @@ impl Streams {
     fn put(&mut self, bytes: &[u8]) -> Result<(), FilterError> {
         match Write::write_all(&mut self.output, bytes) {
             Ok(()) => Ok(()),
-            Err(error) => Err(match error.kind() {
-                ErrorKind::BrokenPipe => FilterError::Closed,
-                _ => FilterError::Write,
-            }),
+            Err(error) => Err(FilterError::of_write(&error)),
         }
+    }
+
+    /// Notes that what is written ends with this byte. Says whether a line feed comes before it.
+    fn end_with(&mut self, last: u8) -> bool
+        ensures feed { result ≡ self.old.needs_line_feed }
+        ensures fed { self.new.needs_line_feed ≡ false }
+        ensures inside { self.new.is_inside_line ≡ not (last == 10) }
+    {
+        let needs_line_feed = self.needs_line_feed;
+        self.needs_line_feed = false;
+        self.is_inside_line = last != b'\n';
+        needs_line_feed
     }
 }
 
@@ -96,9 +114,7 @@ impl Exchange for Streams {
         let Some(last) = bytes.last() else {
             return Ok(());
         };
-        self.is_inside_line = *last != b'\n';
-        if self.needs_line_feed {
-            self.needs_line_feed = false;
+        if self.end_with(*last) {
             self.put(b"\n")?;
         }
         self.put(bytes)

@@ -1,4 +1,6 @@
 //! Values that are formatted by the calls of `time`.
+//!
+//! Without `inline(always)` the compiler leaves calls of the functions that have it.
 ghost use Rattle.std.specs.Prelude.{◌≡◌, ◌≢◌, ◌+◌, ◌<◌, ◌≤◌, None, OnOk, IfOk, IfErr, IsSomeAnd};
 ghost use Rattle.std.specs.Prelude.{IsTrue, IsUtf8, string_bytes, vec_len, vec_capacity};
 ghost use Rattle.time_fmt.specs.Guarantee.{IsTextIf};
@@ -91,7 +93,8 @@ where
         ensures exact { IfOk result (λ text. IsTrue (F.is_guaranteed format.now)
             → string_bytes text ≡ (F.outcome_of format.now (Self.facts self.now)).bytes) }
         ensures guaranteed { result ≢ Err Format.OutOfMemory
-            → IsTextIf (F.is_guaranteed format.now) (F.outcome_of format.now (Self.facts self.now)) }
+            → IsTextIf (F.is_guaranteed format.now)
+            (F.outcome_of format.now (Self.facts self.now)) }
         ensures spelled { IfOk result (λ _. F.reads_as format.now (Self.facts self.now)
             (F.outcome_of format.now (Self.facts self.now)).bytes) }
         ensures complete { OnOk result

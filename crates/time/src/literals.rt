@@ -11,7 +11,6 @@ ghost use Rattle.time.specs.Literals.{digits_of, is_second, second_of, nanosecon
 use time_below::{Date, Month, Time};
 
 /// The date of a year, a month by its number and a day, which the calendar has.
-#[inline]
 pub fn date_of_numbers(year: i32, month: u8, day: u8) -> Date
     requires year { IsYear year }
     requires month { IsInRange 1 12 month }
@@ -22,7 +21,6 @@ pub fn date_of_numbers(year: i32, month: u8, day: u8) -> Date
 }
 
 /// The date of a year and a day of the year, which the calendar has.
-#[inline]
 pub fn date_of_ordinal(year: i32, ordinal: u16) -> Date
     requires { IsDate (record { year = year; ordinal = ordinal }) }
     ensures { result ≡ record { year = year; ordinal = ordinal } }
@@ -67,7 +65,6 @@ fn number_of(literal: &[u8]) -> (u32, usize)
 
 /// The time of an hour, a minute and the literal of a second, as `06` or `06.12`, with at most nine
 /// decimals.
-#[inline]
 pub fn time_of_literal(hour: u8, minute: u8, second: &str) -> Time
     requires literal { IsTrue (is_second second.now) }
     requires time { IsTimeOfDay (record {

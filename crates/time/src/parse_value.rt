@@ -31,7 +31,6 @@ impl Parsable<OffsetDateTime> for Rfc3339 {
 
     ghost reads = { λ _ value text. Rfc3339Spells value text };
 
-    #[inline]
     fn read_value(&self, text: &[u8]) -> Result<OffsetDateTime, NotRead> {
         rfc3339::read(text)
     }
@@ -42,7 +41,6 @@ impl Parsable<OffsetDateTime> for Rfc2822 {
 
     ghost reads = { λ _ value text. Rfc2822Spells value text };
 
-    #[inline]
     fn read_value(&self, text: &[u8]) -> Result<OffsetDateTime, NotRead> {
         rfc2822::read(text)
     }
@@ -65,7 +63,8 @@ where
 {
     type Error = NotReadByPlan;
 
-    ghost reads = { λ plan value text. ⟦<Plan as Formattable>⟧.outcome_of plan (V.facts value) ≡ done text };
+    ghost reads = { λ plan value text.
+        ⟦<Plan as Formattable>⟧.outcome_of plan (V.facts value) ≡ done text };
 
     fn read_value(&self, text: &[u8]) -> Result<V, NotReadByPlan> {
         let reader = match self.reader::<V>() {
@@ -85,7 +84,6 @@ pub trait ParseValue: ComponentProvider + Sized {
     /// why it has none.
     ///
     /// A program that reads many texts by one plan makes a reader once, by `plan.reader::<V>()`.
-    #[inline(always)]
     final fn parse<F: Parsable<Self>>(text: &str, format: &F) -> Result<Self, F::Error>
         ensures { IfOk result (λ value. F.reads format.now value text.now) }
     {

@@ -34,7 +34,9 @@ macro_rules! text {
         $crate::text!(@[$($group,)* (($a, $b), ($c, $d))] [] $($rest)+)
     };
     (@[$($group:expr),*] [$($part:expr),*] $text:literal $(, $($rest:tt)*)?) => {
-        $crate::text!(@[$($group),*] [$($part,)* $crate::format_description::Literal(*$text)] $($($rest)*)?)
+        $crate::text!(
+            @[$($group),*] [$($part,)* $crate::format_description::Literal(*$text)] $($($rest)*)?
+        )
     };
     (@[$($group:expr),*] [$($part:expr),*] $next:expr $(, $($rest:tt)*)?) => {
         $crate::text!(@[$($group),*] [$($part,)* $next] $($($rest)*)?)

@@ -1,11 +1,14 @@
 //! The commands, each a name and its numbers.
+//!
+//! Without `inline(always)` the compiler leaves calls of the functions that have it.
+//! `inline(never)` keeps long or rare bodies out of their callers.
 ghost use Rattle.std.specs.Prelude.{◌≡◌, ◌≢◌, ◌++◌, ℕ, List, MatchOption};
 ghost use Rattle.time_answers.specs.Asked.{no_command, asked_by, asked_of_fields};
 ghost use Rattle.time_answers.specs.Command.{onto_date, onto_time, onto_offset, time_numbers};
 ghost use Rattle.time_answers.specs.Command.{date_time_numbers, utc_numbers};
 ghost use Rattle.time_answers.specs.Fields.{fields_of, numbers_of, Lacks};
 
-use crate::fields::Fields;
+use crate::fields::LineFields;
 use crate::value::{DateNumbers, DateTimeNumbers, OffsetNumbers, TimeNumbers, UtcNumbers};
 
 /// The name of a command.
@@ -26,23 +29,22 @@ pub enum Name {
 }
 
 /// The name that the line begins with, if a space follows it, and the fields after it.
-#[inline(always)]
-pub fn name_first(line: &[u8]) -> Option<(Name, Fields<'_>)>
+pub fn name_first(line: &[u8]) -> Option<(Name, LineFields<'_>)>
     ensures { MatchOption result (asked_of_fields (fields_of line.now) ≡ no_command)
         (λ r. asked_of_fields (fields_of line.now) ≡ asked_by r.0 (numbers_of r.1)) }
 {
     if let Some(rest) = after(b"time ", line) {
-        Some((Name::Time, Fields::new(rest)))
+        Some((Name::Time, LineFields::new(rest)))
     } else if let Some(rest) = after(b"rfc3339 ", line) {
-        Some((Name::Rfc3339, Fields::new(rest)))
+        Some((Name::Rfc3339, LineFields::new(rest)))
     } else if let Some(rest) = after(b"rfc2822 ", line) {
-        Some((Name::Rfc2822, Fields::new(rest)))
+        Some((Name::Rfc2822, LineFields::new(rest)))
     } else if let Some(rest) = after(b"iso ", line) {
-        Some((Name::Iso, Fields::new(rest)))
+        Some((Name::Iso, LineFields::new(rest)))
     } else if let Some(rest) = after(b"iso-comma ", line) {
-        Some((Name::IsoComma, Fields::new(rest)))
+        Some((Name::IsoComma, LineFields::new(rest)))
     } else if let Some(rest) = after(b"stamp ", line) {
-        Some((Name::Stamp, Fields::new(rest)))
+        Some((Name::Stamp, LineFields::new(rest)))
     } else {
         None
     }
@@ -67,7 +69,7 @@ fn after<'a, const N: usize>(front: &[u8; N], line: &'a [u8]) -> Option<&'a [u8]
 
 /// Takes the numbers of a date.
 #[inline(always)]
-fn next_date(fields: &mut Fields<'_>) -> Option<DateNumbers>
+fn next_date(fields: &mut LineFields<'_>) -> Option<DateNumbers>
     ensures { MatchOption result (Lacks 3 (numbers_of fields.old))
         (λ n. numbers_of fields.old ≡ onto_date n (numbers_of fields.new)) }
 {
@@ -80,7 +82,7 @@ fn next_date(fields: &mut Fields<'_>) -> Option<DateNumbers>
 
 /// Takes the numbers of a time of day.
 #[inline(always)]
-fn next_time(fields: &mut Fields<'_>) -> Option<TimeNumbers>
+fn next_time(fields: &mut LineFields<'_>) -> Option<TimeNumbers>
     ensures { MatchOption result (Lacks 4 (numbers_of fields.old))
         (λ n. numbers_of fields.old ≡ onto_time n (numbers_of fields.new)) }
 {
@@ -94,7 +96,7 @@ fn next_time(fields: &mut Fields<'_>) -> Option<TimeNumbers>
 
 /// Takes the numbers of an offset.
 #[inline(always)]
-fn next_offset(fields: &mut Fields<'_>) -> Option<OffsetNumbers>
+fn next_offset(fields: &mut LineFields<'_>) -> Option<OffsetNumbers>
     ensures { MatchOption result (Lacks 3 (numbers_of fields.old))
         (λ n. numbers_of fields.old ≡ onto_offset n (numbers_of fields.new)) }
 {
@@ -107,7 +109,7 @@ fn next_offset(fields: &mut Fields<'_>) -> Option<OffsetNumbers>
 
 /// The numbers of a time of day, where these fields are four numbers.
 #[inline(always)]
-pub fn time_numbers(fields: Fields<'_>) -> Option<TimeNumbers>
+pub fn time_numbers(fields: LineFields<'_>) -> Option<TimeNumbers>
     ensures { result ≡ time_numbers (numbers_of fields.entry) }
 {
     let mut fields = fields;
@@ -117,7 +119,7 @@ pub fn time_numbers(fields: Fields<'_>) -> Option<TimeNumbers>
 
 /// The numbers of a local date and time with its offset, where these fields are ten numbers.
 #[inline(never)]
-pub fn date_time_numbers(fields: Fields<'_>) -> Option<DateTimeNumbers>
+pub fn date_time_numbers(fields: LineFields<'_>) -> Option<DateTimeNumbers>
     ensures { result ≡ date_time_numbers (numbers_of fields.entry) }
 {
     let mut fields = fields;
@@ -133,7 +135,7 @@ pub fn date_time_numbers(fields: Fields<'_>) -> Option<DateTimeNumbers>
 
 /// The numbers of a date and time in UTC, where these fields are seven numbers.
 #[inline(always)]
-pub fn utc_numbers(fields: Fields<'_>) -> Option<UtcNumbers>
+pub fn utc_numbers(fields: LineFields<'_>) -> Option<UtcNumbers>
     ensures { result ≡ utc_numbers (numbers_of fields.entry) }
 {
     let mut fields = fields;

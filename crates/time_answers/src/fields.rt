@@ -1,4 +1,7 @@
 //! The fields of a line, and the numbers that they spell.
+//!
+//! Without `inline(always)` the compiler leaves calls of the functions that have it.
+//! `inline(never)` keeps long or rare bodies out of their callers.
 ghost use Rattle.std.specs.Prelude.{◌≡◌, ℕ, pos, true, List, [], ◌∷◌, ◌<◌, ◌^◌, ◌↔◌, IfSome};
 ghost use Rattle.std.specs.Prelude.{IsTrue, MatchOption, Some, None};
 ghost use Rattle.std.specs.Char.{is_ascii_digit};
@@ -14,11 +17,11 @@ const DIGITS_LIMIT: usize = 9;
 
 /// The fields that are left of a line. Exactly one space stands between two fields.
 #[derive(Drop)]
-pub struct Fields<'a> {
+pub struct LineFields<'a> {
     rest: Option<&'a [u8]>,
 }
 
-impl<'a> Model for Fields<'a> {
+impl<'a> Model for LineFields<'a> {
     ghost use Rattle.std.specs.Prelude.{List, ℕ};
 
     ghost Value = { List (List ℕ) };
@@ -28,12 +31,12 @@ impl<'a> Model for Fields<'a> {
     ghost view = { λ f. fields_left f.rest };
 }
 
-impl<'a> Fields<'a> {
+impl<'a> LineFields<'a> {
     /// The fields of the line.
     pub fn new(line: &'a [u8]) -> Self
         ensures { result ≡ fields_of line.now }
     {
-        Fields { rest: Some(line) }
+        LineFields { rest: Some(line) }
     }
 
     /// Whether no field is left.
@@ -55,7 +58,7 @@ impl<'a> Fields<'a> {
     {
         match self.rest? {
             [ones, SPACE, rest @ ..] if ones.is_ascii_digit() => {
-                *self = Fields::new(rest);
+                *self = LineFields::new(rest);
                 Some(one_digit(*ones) as i32)
             }
             text => {
@@ -75,11 +78,11 @@ impl<'a> Fields<'a> {
     {
         match self.rest? {
             [tens, ones, SPACE, rest @ ..] if tens.is_ascii_digit() && ones.is_ascii_digit() => {
-                *self = Fields::new(rest);
+                *self = LineFields::new(rest);
                 Some(two_digits(*tens, *ones) as i32)
             }
             [ones, SPACE, rest @ ..] if ones.is_ascii_digit() => {
-                *self = Fields::new(rest);
+                *self = LineFields::new(rest);
                 Some(one_digit(*ones) as i32)
             }
             _ => self.next_long(),
@@ -98,7 +101,7 @@ impl<'a> Fields<'a> {
                     && b.is_ascii_digit()
                     && c.is_ascii_digit()
                     && d.is_ascii_digit() => {
-                *self = Fields::new(rest);
+                *self = LineFields::new(rest);
                 Some(four_digits(*a, *b, *c, *d) as i32)
             }
             _ => self.next_long(),
@@ -114,11 +117,11 @@ impl<'a> Fields<'a> {
         match self.rest? {
             [MINUS, tens, ones, SPACE, rest @ ..]
                 if tens.is_ascii_digit() && ones.is_ascii_digit() => {
-                *self = Fields::new(rest);
+                *self = LineFields::new(rest);
                 Some(-(two_digits(*tens, *ones) as i32))
             }
             [MINUS, ones, SPACE, rest @ ..] if ones.is_ascii_digit() => {
-                *self = Fields::new(rest);
+                *self = LineFields::new(rest);
                 Some(-(one_digit(*ones) as i32))
             }
             _ => self.next_short(),
@@ -133,7 +136,7 @@ impl<'a> Fields<'a> {
     {
         match self.rest? {
             [ones] if ones.is_ascii_digit() => {
-                *self = Fields { rest: None };
+                *self = LineFields { rest: None };
                 Some(one_digit(*ones) as i32)
             }
             _ => self.next_long(),
@@ -155,7 +158,7 @@ impl<'a> Fields<'a> {
 /// What `number_first` returns, by a call. It takes no reference to the fields, so that they stay
 /// in registers.
 #[inline(never)]
-fn long_first(text: &[u8]) -> Option<(i32, Fields<'_>)>
+fn long_first(text: &[u8]) -> Option<(i32, LineFields<'_>)>
     ensures { MatchOption result (numbers_of (fields_of text.now) ≡ None)
         (λ r. numbers_of (fields_of text.now) ≡ onto_numbers (Some r.0) (numbers_of r.1)) }
 {
@@ -163,7 +166,6 @@ fn long_first(text: &[u8]) -> Option<(i32, Fields<'_>)>
 }
 
 /// The number that a decimal digit spells.
-#[inline(always)]
 fn one_digit(ones: u8) -> u32
     requires { is_ascii_digit ones ≡ true }
     ensures value { result ≡ digits_value 10 (ones ∷ []) }
@@ -173,7 +175,6 @@ fn one_digit(ones: u8) -> u32
 }
 
 /// The number that two decimal digits spell.
-#[inline(always)]
 fn two_digits(tens: u8, ones: u8) -> u32
     requires tens { is_ascii_digit tens ≡ true }
     requires ones { is_ascii_digit ones ≡ true }
@@ -184,7 +185,6 @@ fn two_digits(tens: u8, ones: u8) -> u32
 }
 
 /// The number that four decimal digits spell.
-#[inline(always)]
 fn four_digits(a: u8, b: u8, c: u8, d: u8) -> u32
     requires a { is_ascii_digit a ≡ true }
     requires b { is_ascii_digit b ≡ true }
@@ -198,7 +198,7 @@ fn four_digits(a: u8, b: u8, c: u8, d: u8) -> u32
 
 /// The number that the first field of the text spells, and what is left after the field.
 #[inline(always)]
-fn number_first(text: &[u8]) -> Option<(i32, Fields<'_>)>
+fn number_first(text: &[u8]) -> Option<(i32, LineFields<'_>)>
     ensures { MatchOption result (numbers_of (fields_of text.now) ≡ None)
         (λ r. numbers_of (fields_of text.now) ≡ onto_numbers (Some r.0) (numbers_of r.1)) }
 {
@@ -247,7 +247,7 @@ fn leading_digits(text: &[u8]) -> (u32, usize)
 /// The number that the first field of the text spells by one to nine decimal digits, and what is
 /// left after the field.
 #[inline(always)]
-fn natural_first(text: &[u8]) -> Option<(u32, Fields<'_>)>
+fn natural_first(text: &[u8]) -> Option<(u32, LineFields<'_>)>
     ensures value { FirstNatural text.now result }
     ensures small { IfSome result (λ r. r.0 < 10 ^ DIGITS_LIMIT) }
 {
@@ -256,11 +256,11 @@ fn natural_first(text: &[u8]) -> Option<(u32, Fields<'_>)>
         return None;
     }
     if count == text.len() {
-        return Some((value, Fields { rest: None }));
+        return Some((value, LineFields { rest: None }));
     }
     if text[count] != SPACE {
         return None;
     }
     let rest = Some(&text[count + 1..]);
-    Some((value, Fields { rest }))
+    Some((value, LineFields { rest }))
 }

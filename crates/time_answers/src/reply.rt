@@ -1,4 +1,6 @@
 //! What a line is answered by.
+//!
+//! `inline(never)` keeps long bodies out of their callers.
 ghost use Rattle.std.specs.Prelude.{◌≡◌, map, min};
 ghost use Rattle.time_below.specs.Facts.{facts_of_offset_date_time};
 ghost use Rattle.time_below.specs.Tree.{all_of, borrowed_tree, trees};
@@ -12,7 +14,7 @@ ghost use Rattle.time_answers.specs.Reply.{reply_text, error_name};
 ghost use Rattle.time_answers.specs.Value.{date_time_value};
 
 use crate::command::{Name, date_time_numbers, name_first, time_numbers, utc_numbers};
-use crate::fields::Fields;
+use crate::fields::LineFields;
 use crate::formats::Formats;
 use crate::line_buffer::LINE_LIMIT;
 use crate::value::{ValuePart, date_time_value, time_value, utc_date_time_value};
@@ -111,7 +113,7 @@ where
 fn date_time_reply<'a, D: Formattable>(
     text: &'a mut Vec<u8>,
     description: &D,
-    fields: Fields<'_>,
+    fields: LineFields<'_>,
 ) -> Reply<'a>
     ensures { Answers
         (asked_numbers (D.width_of description.now)
@@ -127,7 +129,7 @@ fn date_time_reply<'a, D: Formattable>(
 
 /// The reply to the numbers of a stamp.
 #[inline(never)]
-fn stamp_reply<'a>(text: &'a mut Vec<u8>, iso: &Iso8601, fields: Fields<'_>) -> Reply<'a>
+fn stamp_reply<'a>(text: &'a mut Vec<u8>, iso: &Iso8601, fields: LineFields<'_>) -> Reply<'a>
     requires { iso.now ≡ default_choices }
     ensures { Answers (asked_by Name.Stamp (numbers_of fields.entry)) (reply_text result) }
 {
@@ -140,7 +142,7 @@ fn stamp_reply<'a>(text: &'a mut Vec<u8>, iso: &Iso8601, fields: Fields<'_>) -> 
 /// The reply to the numbers of a time of day: hour, minute and second in two digits each, then the
 /// decimals.
 #[inline(never)]
-fn time_reply<'a>(text: &'a mut Vec<u8>, fields: Fields<'_>) -> Reply<'a>
+fn time_reply<'a>(text: &'a mut Vec<u8>, fields: LineFields<'_>) -> Reply<'a>
     ensures { Answers (asked_by Name.Time (numbers_of fields.entry)) (reply_text result) }
 {
     match time_numbers(fields) {
@@ -153,12 +155,11 @@ fn time_reply<'a>(text: &'a mut Vec<u8>, fields: Fields<'_>) -> Reply<'a>
 }
 
 /// The reply to the fields after a name.
-#[inline(always)]
 fn named_reply<'a>(
     text: &'a mut Vec<u8>,
     formats: &Formats,
     name: Name,
-    fields: Fields<'_>,
+    fields: LineFields<'_>,
 ) -> Reply<'a>
     ensures { Answers (asked_by name (numbers_of fields.entry)) (reply_text result) }
 {

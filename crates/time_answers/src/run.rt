@@ -50,7 +50,6 @@ fn reply_for<'a>(text: &'a mut Vec<u8>, formats: &Formats, line: &LineBuffer) ->
 
 /// Answers the line that these bytes end, and begins the next. Most lines stand whole in their
 /// block, and are answered where they stand.
-#[inline(always)]
 fn end_line<W: Write>(
     text: &mut Vec<u8>,
     formats: &Formats,

@@ -1,4 +1,6 @@
 //! The values that the numbers of a line give, if each is in the range of its part.
+//!
+//! Without `inline(always)` the compiler leaves calls of the functions that have it.
 ghost use Rattle.std.specs.Prelude.{◌≡◌, ◌≤◌, ◌<◌, IfOk, unsigned_abs};
 ghost use Rattle.time_below.specs.Calendar.{IsYear};
 ghost use Rattle.time_answers.specs.Value.{part_name, natural_part, signed_part, date_value};

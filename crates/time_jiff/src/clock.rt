@@ -1,7 +1,6 @@
 //! The clock of a zone.
 //!
-//! Without `inline(always)` the compiler leaves calls of the functions that have it. `cold` and
-//! `inline(never)` keep long or rare bodies out of their callers.
+//! `inline(never)` keeps a rare body out of its callers.
 ghost use Rattle.std.specs.Prelude.{◌≡◌, ◌≤ℤ◌, ◌+ℤ◌, ◌*ℤ◌, pos, neg_ℤ};
 ghost use Rattle.jiff_tz.specs.Zone.{next_at, offset_at, previous_at};
 ghost use Rattle.time_below.specs.Offset.{offset_seconds};
@@ -103,7 +102,6 @@ impl<'a> ZoneClock<'a> {
     }
 
     /// The clock of the zone, as it is at this second.
-    #[inline(never)]
     fn at(zone: TimeZone<'a>, second: i64) -> ZoneClock<'a>
         ensures zone { result.zone ≡ zone.entry }
         ensures asked { IsNearest second result.asked }
@@ -120,7 +118,6 @@ impl<'a> ZoneClock<'a> {
 
     /// Asks the zone at this second. This is a call, so that a moment without a change has no
     /// memory for the answer.
-    #[cold]
     #[inline(never)]
     fn ask(&mut self, second: i64)
         ensures zone { self.new.zone ≡ self.old.zone }
@@ -131,7 +128,6 @@ impl<'a> ZoneClock<'a> {
 
     /// The offset of the clock at the moment: one that the zone has at a second from which
     /// to the moment it reports no change.
-    #[inline(always)]
     pub fn offset_at(&mut self, moment: &Timestamp) -> UtcOffset
         ensures zone { self.new.zone ≡ self.old.zone }
         ensures offset { HasOffset self.old.zone moment.now.seconds result }

@@ -148,7 +148,8 @@ pub fn jiff_time(time: Time) -> jiff::civil::Time
 /// The date for `jiff`, if it has the year: -9999 to 9999. Any other is refused by its year.
 pub fn jiff_date(date: Date) -> Result<jiff::civil::Date, Error>
     ensures succeeds { IsOk result ↔ IsYear date.year }
-    ensures value { IfOk result (λ d. (d.year ≡ date.year) × (d.month ≡ month_of date) × (d.day ≡ day_of date)) }
+    ensures value { IfOk result (λ d. (d.year ≡ date.year) × (d.month ≡ month_of date)
+        × (d.day ≡ day_of date)) }
     ensures error { IfErr result (λ e. e ≡ Error.Range Bound.Year) }
 {
     let refused = Error::Range(Bound::Year);
@@ -218,7 +219,8 @@ fn in_fixed_zone(instant: jiff::Timestamp, moment: OffsetDateTime) -> jiff::Zone
 pub fn jiff_zoned(moment: OffsetDateTime) -> Result<jiff::Zoned<'static>, Error>
     ensures succeeds { IsOk result ↔ IsTimestampNanos (local_nanoseconds moment) }
     ensures moment { IfOk result (λ z. zoned_nanos z ≡ local_nanoseconds moment) }
-    ensures offset { IfOk result (λ z. (plain_zoned z).offset.seconds ≡ offset_seconds moment.offset) }
+    ensures offset { IfOk result (λ z.
+        (plain_zoned z).offset.seconds ≡ offset_seconds moment.offset) }
     ensures date { IfOk result (λ z. same_date (zoned_date z) ≡ moment.date) }
     ensures time { IfOk result (λ z. same_time (zoned_time z) ≡ moment.time) }
     ensures zone { IfOk result (λ z. IsInFixedZone z (offset_seconds moment.offset)) }

@@ -73,7 +73,8 @@ impl LocalOffset for UtcOffset {
     /// seconds.
     fn local_offset_at(moment: OffsetDateTime, zone: &TimeZone<'_>) -> Result<UtcOffset, Error>
         ensures succeeds { IsOk result ↔ IsTimestampNanos (local_nanoseconds moment) }
-        ensures offset { IfOk result (HasOffsetAt (plain_zone zone.now) (local_nanoseconds moment)) }
+        ensures offset { IfOk result
+            (HasOffsetAt (plain_zone zone.now) (local_nanoseconds moment)) }
         ensures error { IfErr result (λ e. e ≡ Error.Range Bound.UnixEpochSeconds) }
     {
         match jiff_instant(nanoseconds_at(moment)) {

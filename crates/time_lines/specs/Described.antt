@@ -1,5 +1,5 @@
 -- Which moments the texts of descriptions have, read back.
-use Rattle.std.specs.Prelude.{ℕ, zero, suc, ℤ, pos, ◌≡◌, ◌+◌, ◌&&◌, ◌+ℤ◌, ◌-ℤ◌, ◌≤ℤ◌, ◌<ℤ◌, ◌<◌, ◌≤◌, ◌⊎◌, List, [], ◌∷◌, Option, Some, None, IfSome, Bool, false, length, take, get_or}
+use Rattle.std.specs.Prelude.{ℕ, zero, suc, ℤ, pos, ◌≡◌, ◌==◌, ◌+◌, ◌&&◌, ◌||◌, ◌+ℤ◌, ◌-ℤ◌, ◌≤ℤ◌, ◌<ℤ◌, ◌<◌, ◌≤◌, ◌⊎◌, List, [], ◌∷◌, Option, Some, None, IfSome, Bool, false, length, take, get_or}
 use Rattle.std.specs.Char.{is_ascii_digit}
 use Rattle.time_below.specs.Calendar.{IsYear, IsDayOfMonth, date_of, day_of, month_of}
 use Rattle.time_below.specs.Facts.{Facts, facts_of_offset_date_time, facts_of_plain_date_time, facts_of_timestamp}
@@ -29,6 +29,15 @@ IsFront outcome text count = (count ≤ length text) × (outcome ≡ done (take 
 abbrev pub is_cut : List ℕ → ℕ → Bool
 is_cut text zero = false
 is_cut text (suc count) = is_ascii_digit (get_or text count 0) && is_ascii_digit (get_or text (count + 1) 0)
+
+-- whether a text behind a time begins with decimals or with an offset: with `Z` or `z` (90, 122), or with a point (46),
+-- a comma (44) or a sign (43, 45) and a digit
+abbrev pub has_more : List ℕ → Bool
+has_more [] = false
+has_more (b ∷ []) = (b == 90) || (b == 122)
+has_more (b ∷ c ∷ rest) =
+    ((b == 90) || (b == 122))
+    || (((b == 46) || ((b == 44) || ((b == 43) || (b == 45)))) && is_ascii_digit c)
 
 -- the year has the month and the day of the date
 abbrev pub HasDay : ℤ → DateAndTime → Type 0

@@ -135,6 +135,11 @@ moment_after unit count decimals =
 abbrev pub with_sign : Bool → Moment → Moment
 with_sign is_negative m = if is_negative then negated m else m
 
+-- the moment that digits and decimals with a sign name, by the unit that is asked for or by how many digits there are
+abbrev pub named_moment : Option UnixUnit → Bool → List ℕ → List ℕ → Moment
+named_moment asked is_negative digits decimals =
+    with_sign is_negative (moment_after (unit_for asked (length digits)) (digits_value 10 digits) decimals)
+
 -- the moment that the number names, before 1970 or after it
 abbrev pub moment_of : UnixUnit → Number → Moment
 moment_of unit number =

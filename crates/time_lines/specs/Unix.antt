@@ -1,11 +1,12 @@
 -- What a line becomes whose numbers are Unix time.
-use Rattle.std.specs.Prelude.{ℕ, zero, suc, ◌≡◌, ◌+◌, ◌-◌, ◌++◌, ◌⊎◌, ◌&&◌, Bool, false, List, Option, Some, None, length, take, drop, option_map, if◌then◌else◌}
+use Rattle.std.specs.Prelude.{ℕ, zero, suc, ◌≡◌, ◌+◌, ◌-◌, ◌≤◌, ◌++◌, ◌⊎◌, ◌&&◌, Bool, false, List, Option, Some, None, IfNone, IfSome, length, take, drop, option_map, if◌then◌else◌}
 use Rattle.memchr.specs.Find.{FindsNeedle}
 use Rattle.time_below.specs.Moment.{Moment}
 use Rattle.time_lines.specs.Json.{has_exponent, is_value_at, quotes_if}
 use Rattle.time_lines.specs.Number.{HasMoment, digit_count, is_time, moment_of, number_at, number_start, unit_for}
 use Rattle.time_lines.specs.Shown.{Replaces}
 use Rattle.time_lines.specs.declared.number.Numbers.{Numbers}
+use Rattle.time_lines.specs.declared.unix.FoundNumber.{FoundNumber}
 
 -- the bytes from one place to another
 abbrev pub between : ℕ → ℕ → List ℕ → List ℕ
@@ -24,6 +25,16 @@ abbrev pub HasText : Numbers → List ℕ → ℕ → Type 0
 HasText numbers line start =
     HasMoment (unit_for numbers.unit (digit_count (drop start line))) (number_at line start)
     × ((is_quoted numbers line start && has_exponent (drop (number_at line start).end line)) ≡ false)
+
+-- the number of a line whose digits begin here, as it was found
+pub record IsFoundNumber (numbers : Numbers) (line : List ℕ) (start : ℕ) (found : FoundNumber) : Type 0 where
+  pub first : found.first ≡ (number_at line start).first
+  pub end : found.end ≡ (number_at line start).end
+  pub value : found.is_value ≡ is_quoted numbers line start
+  pub some : IfSome found.moment (λ m. (m ≡ moment_of_time numbers line start) × HasText numbers line start)
+  pub none : IfNone found.moment (¬ HasText numbers line start)
+  pub order : found.first ≤ found.end
+  pub inside : found.end ≤ length line
 
 -- what becomes of the bytes from a place to the end of the number whose digits begin at another: what is shown of its moment
 -- takes the place of the number, with its quotes

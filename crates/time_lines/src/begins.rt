@@ -146,7 +146,6 @@ impl Begins {
     }
 
     /// Whether a text may begin so.
-    #[inline(always)]
     pub(crate) fn may_begin(&self, text: &[u8]) -> bool {
         let Some(first) = text.first() else {
             return false;

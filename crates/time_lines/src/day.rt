@@ -1,4 +1,7 @@
 //! Texts of RFC 3339 at the clock of a place, by the cached text of a day.
+//!
+//! Without `inline(always)` the compiler leaves calls of the functions that have it. `cold` keeps a
+//! rare body out of its callers.
 ghost use Rattle.std.specs.Prelude.{◌≡◌, ◌+◌, ◌<◌, ◌≤◌, ◌++◌, ◌-ℤ◌, ◌≤ℤ◌, ◌<ℤ◌, IfOk, true, false};
 ghost use Rattle.std.specs.Prelude.{length, pos, unsigned_abs};
 ghost use Rattle.time_below.specs.Moment.{IsMoment, IsNearTimestampSecond, IsTimestampSecond};
@@ -11,7 +14,7 @@ ghost use Rattle.time_known.specs.Rfc3339.{full_time_text, rfc3339_outcome};
 ghost use Rattle.time_lines.specs.Day.{BeginsWithDay, IsDayText};
 ghost use Rattle.time_lines.specs.Shown.{AppendsShown, ShowsAt};
 
-use crate::shown::{Place, Shown, append_text};
+use crate::shown::{Place, Shows, append_text};
 use std::alloc::AllocError;
 use std::default::Default;
 use time_below::{Time, Timestamp, UtcOffset};
@@ -51,7 +54,7 @@ impl<P: Place + Drop> Rfc3339InPlace<P> {
     }
 }
 
-impl<P: Place + Drop> Shown for Rfc3339InPlace<P> {
+impl<P: Place + Drop> Shows for Rfc3339InPlace<P> {
     ghost shows = { λ s m text. (o : Offset) × P.has_offset s.place m o
         × ShowsAt rfc3339_outcome o m text };
 
@@ -97,7 +100,6 @@ impl DayText {
 
     /// The same by the description, after which the text of the moment's day is cached.
     #[cold]
-    #[inline(never)]
     fn append_anew(
         &mut self,
         output: &mut Vec<u8>,
@@ -133,7 +135,6 @@ impl DayText {
 }
 
 /// The second of the moment by a clock at the offset, as if that were the clock of UTC.
-#[inline(always)]
 fn local_second(moment: &Timestamp, offset: UtcOffset) -> i64
     ensures second { result ≡ (moved moment.now offset).seconds }
     ensures range { IsNearTimestampSecond result }
@@ -143,7 +144,6 @@ fn local_second(moment: &Timestamp, offset: UtcOffset) -> i64
 }
 
 /// How many seconds come from one second to the other.
-#[inline(always)]
 fn seconds_since(first: i64, second: i64) -> i64
     requires first { IsTimestampSecond first }
     requires second { IsNearTimestampSecond second }
@@ -153,7 +153,6 @@ fn seconds_since(first: i64, second: i64) -> i64
 }
 
 /// Whether so many seconds after midnight are on the same day.
-#[inline(always)]
 fn is_in_day(passed: i64) -> bool
     ensures after { result ≡ true → pos 0 ≤ℤ passed }
     ensures before { result ≡ true → passed <ℤ pos 86_400 }
@@ -162,7 +161,6 @@ fn is_in_day(passed: i64) -> bool
 }
 
 /// Whether RFC 3339 has a text for the offset: at most 23 hours, and no seconds.
-#[inline(always)]
 fn has_text(offset: UtcOffset) -> bool
     ensures real { IsOffset offset }
     ensures hours { result ≡ true → unsigned_abs offset.hours ≤ 23 }
@@ -173,7 +171,6 @@ fn has_text(offset: UtcOffset) -> bool
 }
 
 /// The time of day so many seconds after midnight.
-#[inline(always)]
 fn time_of(passed: i64, nanosecond: u32) -> Time
     requires after { pos 0 ≤ℤ passed }
     requires before { passed <ℤ pos 86_400 }

@@ -1,9 +1,11 @@
 //! Texts of descriptions, read.
-ghost use Rattle.std.specs.Prelude.{◌≡◌, Option, IfSome, false, get_or};
+//!
+//! `inline(never)` keeps a long body out of its caller.
+ghost use Rattle.std.specs.Prelude.{◌≡◌, ◌≤◌, Option, IfSome, true, false, get_or, length, drop};
 ghost use Rattle.std.specs.Char.{is_ascii_digit};
 ghost use Rattle.time_below.specs.Moment.{DateAndTime, Moment, in_utc, local_moment};
-ghost use Rattle.time_lines.specs.Described.{IsFront, ReadsForm, ReadsOneOf, is_cut, plan_of};
-ghost use Rattle.time_lines.specs.Described.{written};
+ghost use Rattle.time_lines.specs.Described.{IsFront, ReadsForm, ReadsOneOf, has_more, is_cut};
+ghost use Rattle.time_lines.specs.Described.{plan_of, written};
 ghost use Rattle.time_lines.specs.Read.{IsMomentIfReal};
 
 use crate::begins::Begins;
@@ -51,16 +53,23 @@ pub enum Form<'a> {
 #[derive(Drop)]
 pub struct FormRow<'a> {
     pub form: Form<'a>,
+    /// A text is not read where decimals or an offset follow it, which would be of its time.
+    pub is_whole: bool,
     begins: Begins,
 }
 
 impl<'a> FormRow<'a> {
-    /// A form of these texts.
+    /// A form of these texts, which are read whatever follows them.
     pub fn new(form: Form<'a>) -> FormRow<'a>
-        ensures { result.form ≡ form.entry }
+        ensures form { result.form ≡ form.entry }
+        ensures whole { result.is_whole ≡ false }
     {
         let begins = Begins::of(form.plan().steps());
-        FormRow { form, begins }
+        FormRow {
+            form,
+            is_whole: false,
+            begins,
+        }
     }
 }
 
@@ -103,29 +112,50 @@ where
 
 /// The text of a form at the front of a text, if there is one.
 fn read_form<Z: Zone>(form: &Form<'_>, zone: &Z, years: &Years, text: &[u8]) -> Option<Front>
-    ensures { IfSome result (ReadsForm (Z.has_moment zone.now)
+    ensures reads { IfSome result (ReadsForm (Z.has_moment zone.now)
         years.now form.now text.now) }
+    ensures inside { IfSome result (λ front. front.count ≤ length text.now) }
 {
     match form {
         Form::AtOffset(reader) => {
             let (value, count) = value_at_front(reader, text)?;
             let moment = moment_of_value(value);
-            Some(Front { count, moment })
+            let is_local = false;
+            Some(Front {
+                count,
+                moment,
+                is_local,
+            })
         }
         Form::AtMoment(reader) => {
             let (value, count) = value_at_front(reader, text)?;
             let moment = Some(value);
-            Some(Front { count, moment })
+            let is_local = false;
+            Some(Front {
+                count,
+                moment,
+                is_local,
+            })
         }
         Form::Local(reader) => {
             let (local, count) = value_at_front(reader, text)?;
             let moment = zone.moment_of(local);
-            Some(Front { count, moment })
+            let is_local = true;
+            Some(Front {
+                count,
+                moment,
+                is_local,
+            })
         }
         Form::Yearless(reader) => {
             let (local, count) = value_at_front(reader, text)?;
             let moment = yearless_moment(zone, local, years);
-            Some(Front { count, moment })
+            let is_local = true;
+            Some(Front {
+                count,
+                moment,
+                is_local,
+            })
         }
     }
 }
@@ -147,12 +177,25 @@ fn is_cut(text: &[u8], count: usize) -> bool
     count > 0 && is_digit_at(text, count - 1) && is_digit_at(text, count)
 }
 
-/// The text of a form at the front of a text, if there is one and it does not end inside a number.
-#[inline(always)]
+/// Whether a text goes on behind a time with decimals or an offset.
+fn has_more(rest: &[u8]) -> bool
+    ensures { result ≡ has_more rest.now }
+{
+    match rest {
+        [b'Z' | b'z', ..] => true,
+        [b'.' | b',' | b'+' | b'-', next, ..] => next.is_ascii_digit(),
+        _ => false,
+    }
+}
+
+/// The text of a form at the front of a text, if there is one and it does not end inside a number,
+/// nor, where that is asked for, before decimals or an offset.
 fn read_row<Z: Zone>(row: &FormRow<'_>, zone: &Z, years: &Years, text: &[u8]) -> Option<Front>
     ensures reads { IfSome result (ReadsForm (Z.has_moment zone.now)
         years.now row.now.form text.now) }
-    ensures whole { IfSome result (λ front. is_cut text.now front.count ≡ false) }
+    ensures uncut { IfSome result (λ front. is_cut text.now front.count ≡ false) }
+    ensures whole { IfSome result (λ front. row.now.is_whole ≡ true
+        → has_more (drop front.count text.now) ≡ false) }
 {
     if !row.begins.may_begin(text) {
         return None;
@@ -161,11 +204,13 @@ fn read_row<Z: Zone>(row: &FormRow<'_>, zone: &Z, years: &Years, text: &[u8]) ->
     if is_cut(text, front.count) {
         return None;
     }
+    if row.is_whole && has_more(&text[front.count..]) {
+        return None;
+    }
     Some(front)
 }
 
 /// Whether a text may begin so, where there is one form.
-#[inline(always)]
 fn may_begin(forms: &[FormRow<'_>], text: &[u8]) -> bool {
     match forms {
         [row] => row.begins.may_begin(text),
@@ -193,7 +238,6 @@ impl<Z: Zone + Drop> Reads for Described<'_, Z> {
     ghost reads = { λ d text front. IfSome front (ReadsOneOf
         (Z.has_moment d.zone) d.years d.forms.items text) };
 
-    #[inline(always)]
     fn read_front(&mut self, text: &[u8]) -> Option<Front> {
         if !may_begin(self.forms.as_slice(), text) {
             return None;

@@ -24,7 +24,7 @@ pub enum NoForm {
 
 /// What a plan shows of a date.
 #[derive(Clone, Copy, Default)]
-struct Shows {
+struct ShownParts {
     year: bool,
     /// The century or the last two digits of the year.
     year_part: bool,
@@ -35,26 +35,26 @@ struct Shows {
     other: bool,
 }
 
-impl Shows {
+impl ShownParts {
     /// With what a component shows.
-    fn and(self, component: Component) -> Shows {
+    fn and(self, component: Component) -> ShownParts {
         match component {
             Component::CalendarYearFullExtendedRange(_)
-            | Component::CalendarYearFullStandardRange(_) => Shows { year: true, ..self },
+            | Component::CalendarYearFullStandardRange(_) => ShownParts { year: true, ..self },
             Component::CalendarYearLastTwo(_)
             | Component::CalendarYearCenturyExtendedRange(_)
-            | Component::CalendarYearCenturyStandardRange(_) => Shows {
+            | Component::CalendarYearCenturyStandardRange(_) => ShownParts {
                 year_part: true,
                 ..self
             },
             Component::MonthShort(_) | Component::MonthLong(_) | Component::MonthNumerical(_) => {
-                Shows {
+                ShownParts {
                     month: true,
                     ..self
                 }
             }
-            Component::Day(_) => Shows { day: true, ..self },
-            Component::OffsetHour(_) => Shows {
+            Component::Day(_) => ShownParts { day: true, ..self },
+            Component::OffsetHour(_) => ShownParts {
                 offset: true,
                 ..self
             },
@@ -63,7 +63,7 @@ impl Shows {
     }
 
     /// With what another component shows of a date.
-    fn and_other(self, component: Component) -> Shows {
+    fn and_other(self, component: Component) -> ShownParts {
         match component {
             Component::WeekdayShort(_)
             | Component::WeekdayLong(_)
@@ -77,7 +77,7 @@ impl Shows {
             | Component::IsoYearFullStandardRange(_)
             | Component::IsoYearCenturyExtendedRange(_)
             | Component::IsoYearCenturyStandardRange(_)
-            | Component::IsoYearLastTwo(_) => Shows {
+            | Component::IsoYearLastTwo(_) => ShownParts {
                 other: true,
                 ..self
             },
@@ -86,13 +86,13 @@ impl Shows {
     }
 
     /// What the plan shows.
-    fn of(plan: &Plan) -> Shows {
-        let mut shows = Shows::default();
+    fn of(plan: &Plan) -> ShownParts {
+        let mut shows = ShownParts::default();
         for step in plan.steps() {
             match &step.shown {
                 Shown::Component(component) => shows = shows.and(component.current()),
                 Shown::Run(Run::Date(_)) => {
-                    shows = Shows {
+                    shows = ShownParts {
                         year: true,
                         month: true,
                         day: true,
@@ -116,7 +116,7 @@ fn has_time(plan: &Plan) -> bool {
 fn without_year<'a>(plan: &'a Plan, base: Date) -> Result<Form<'a>, NoForm>
     ensures { IfOk result (λ form. plan_of form ≡ plan.now) }
 {
-    let shows = Shows::of(plan);
+    let shows = ShownParts::of(plan);
     if !shows.month || !shows.day {
         return Err(NoForm::NoDay);
     }

@@ -11,8 +11,10 @@ use time_below::{OffsetDateTime, Timestamp};
 pub struct Front {
     /// How many bytes it has.
     pub count: usize,
-    /// Its moment, unless that is out of range.
+    /// Its moment, unless it has none.
     pub moment: Option<Timestamp>,
+    /// It shows no offset, so that its moment is the one at which a clock shows it.
+    pub is_local: bool,
 }
 
 /// What reads texts at the front of others.
@@ -28,7 +30,6 @@ pub trait Reads {
 }
 
 /// The moment of the value, if its year is in range.
-#[inline(always)]
 pub(crate) fn moment_of_value(value: OffsetDateTime) -> Option<Timestamp>
     ensures some { IfSome result (λ m. (m ≡ local_moment value) × IsMoment m) }
     ensures none { IfNone result (¬ IsMoment (local_moment value)) }

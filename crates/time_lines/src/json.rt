@@ -7,7 +7,6 @@ use crate::runs::{LANES, count_in_lanes};
 
 /// Whether the next position is inside of a string of JSON, which a quote begins and ends unless it
 /// is escaped.
-#[inline(always)]
 fn inside_after(inside: bool, escaped: bool, byte: u8) -> bool
     ensures { result ≡ (if (byte == 34) && not escaped then not inside else inside) }
 {
@@ -19,7 +18,6 @@ fn inside_after(inside: bool, escaped: bool, byte: u8) -> bool
 }
 
 /// Whether the next byte is escaped, by a backslash inside of a string that is not escaped itself.
-#[inline(always)]
 fn escaped_after(inside: bool, escaped: bool, byte: u8) -> bool
     ensures { result ≡ (inside && ((byte == 92) && not escaped)) }
 {
@@ -43,7 +41,6 @@ fn ends_in_string_after(begins_inside: bool, text: &[u8]) -> bool
 }
 
 /// Whether the next position is inside of a string, behind sixteen bytes of which none is escaped.
-#[inline(always)]
 fn inside_after_lanes(inside: bool, text: &[u8]) -> bool
     requires { 16 ≤ length text.now }
     ensures { result
@@ -89,7 +86,6 @@ pub(crate) fn has_exponent(text: &[u8]) -> bool
 }
 
 /// The quotes that stand on both sides of a text, if they are asked for.
-#[inline(always)]
 pub(crate) fn quotes_if(wanted: bool) -> &'static [u8]
     ensures { result.now ≡ quotes_if wanted }
 {

@@ -26,6 +26,6 @@ pub use now::NowJob;
 pub use number::{Numbers, Unit};
 pub use passed::{FirstPassed, Passed, Why};
 pub use read::ReadJob;
-pub use shown::{InPlace, InUtc, Place, Shown, Utc};
+pub use shown::{InPlace, InUtc, Place, Shows, Utc};
 pub use unix::UnixJob;
 pub use until::{Until, Years};

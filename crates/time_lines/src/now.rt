@@ -3,7 +3,7 @@ ghost use Rattle.std.specs.Prelude.{◌≡◌, OnOk};
 ghost use Rattle.time_lines.specs.Now.{IsStamp, NowBecomes, spaced};
 ghost use Rattle.time_lines.specs.Shown.{SameShown};
 
-use crate::shown::Shown;
+use crate::shown::Shows;
 use line_streams::{FilterError, LineJob};
 use std::alloc::AllocError;
 use std::time::Clock;
@@ -12,7 +12,7 @@ use time_below::Timestamp;
 /// Puts before each line what is shown of the moment at which it was read, and a space unless that
 /// is empty or ends with one. The clock is asked once for all lines that one read has ended.
 #[derive(Drop)]
-pub struct NowJob<'a, C: Clock, S: Shown + Drop> {
+pub struct NowJob<'a, C: Clock, S: Shows + Drop> {
     pub clock: &'a C,
     pub shown: S,
     /// What stands before a line.
@@ -32,7 +32,7 @@ fn add_space(text: &mut Vec<u8>) -> Result<(), AllocError>
 }
 
 /// Makes the stamp of a moment.
-fn put_stamp<S: Shown>(
+fn put_stamp<S: Shows>(
     shown: &mut S,
     stamp: &mut Vec<u8>,
     moment: &Timestamp,
@@ -47,7 +47,7 @@ fn put_stamp<S: Shown>(
     Ok(())
 }
 
-impl<C: Clock, S: Shown + Drop> LineJob for NowJob<'_, C, S> {
+impl<C: Clock, S: Shows + Drop> LineJob for NowJob<'_, C, S> {
     ghost becomes = { λ job. NowBecomes (S.shows job.shown) };
 
     ghost is_ready = { λ job. IsStamp (S.shows job.shown) job.stamp.items };

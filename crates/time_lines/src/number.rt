@@ -1,4 +1,6 @@
 //! The numbers of a line that are times, and the moments that they name.
+//!
+//! Without `inline(always)` the compiler leaves calls of the functions that have it.
 ghost use Rattle.std.specs.Prelude.{ℕ, ◌≡◌, ◌≤◌, ◌<◌, ◌-◌, ◌*◌, ◌^◌, pos, true, false, Some, None};
 ghost use Rattle.std.specs.Prelude.{length, drop, IfSome, IfNone, MatchOption};
 ghost use Rattle.std.specs.Char.{is_ascii_digit};
@@ -6,7 +8,8 @@ ghost use Rattle.std.specs.List.{list_all};
 ghost use Rattle.std.specs.Str.Parse.{digits_value};
 ghost use Rattle.time_lines.specs.Number.{begins, decimals_length, decimals_of, decimals_value};
 ghost use Rattle.time_lines.specs.Number.{digit_count, digits_of, first_place, goes_on, has_minus};
-ghost use Rattle.time_lines.specs.Number.{is_digit_at, is_time, moment_after, number_start};
+ghost use Rattle.time_lines.specs.Number.{is_digit_at, is_time, moment_after, named_moment};
+ghost use Rattle.time_lines.specs.Number.{number_start};
 ghost use Rattle.time_lines.specs.Number.{unit_by_digits, unit_for, unit_of, with_sign};
 ghost use Rattle.time_below.specs.Moment.{IsMoment};
 
@@ -39,7 +42,6 @@ pub struct Numbers {
 }
 
 /// The unit by the digits before the point, if there is one.
-#[inline(always)]
 fn unit_by_digits(count: usize) -> Option<Unit>
     ensures { result ≡ unit_by_digits count }
 {
@@ -58,7 +60,6 @@ fn unit_by_digits(count: usize) -> Option<Unit>
 
 /// The unit of a number of so many digits: the one that is asked for, and else the one by its
 /// digits.
-#[inline(always)]
 fn unit_of(asked: Option<Unit>, count: usize) -> Option<Unit>
     ensures { result ≡ unit_of asked count }
 {
@@ -69,7 +70,6 @@ fn unit_of(asked: Option<Unit>, count: usize) -> Option<Unit>
 }
 
 /// The same, and seconds where it has none.
-#[inline(always)]
 fn unit_for(asked: Option<Unit>, count: usize) -> Unit
     ensures { result ≡ unit_for asked count }
 {
@@ -80,7 +80,6 @@ fn unit_for(asked: Option<Unit>, count: usize) -> Unit
 }
 
 /// Whether a number of so many digits is a time. Most have ten, which is told first.
-#[inline(always)]
 fn is_time(numbers: &Numbers, count: usize) -> bool
     ensures { result ≡ is_time numbers.now.unit numbers.now.least count }
 {
@@ -88,7 +87,6 @@ fn is_time(numbers: &Numbers, count: usize) -> bool
 }
 
 /// Whether a digit stands before this position, or a point after a digit.
-#[inline(always)]
 fn goes_on(line: &[u8], at: usize) -> bool
     requires { at ≤ length line.now }
     ensures { result ≡ goes_on line.now at }
@@ -99,7 +97,6 @@ fn goes_on(line: &[u8], at: usize) -> bool
 
 /// The first position from this one on where a digit stands, or where fewer than sixteen bytes are
 /// left.
-#[inline(always)]
 fn past_blocks(line: &[u8], from: usize) -> usize
     requires { from ≤ length line.now }
     ensures after { from ≤ result }
@@ -118,7 +115,6 @@ fn past_blocks(line: &[u8], from: usize) -> usize
 }
 
 /// The first position from this one on where a digit stands, or the end of the line.
-#[inline(always)]
 fn next_digit(line: &[u8], from: usize) -> usize
     requires { from ≤ length line.now }
     ensures after { from ≤ result }
@@ -134,7 +130,6 @@ fn next_digit(line: &[u8], from: usize) -> usize
 }
 
 /// Whether a time begins here, where so many digits stand in a row.
-#[inline(always)]
 fn is_number(line: &[u8], at: usize, count: usize, numbers: &Numbers) -> bool
     requires inside { at ≤ length line.now }
     requires count { count ≡ digit_count (drop at line.now) }
@@ -166,7 +161,6 @@ fn number_from(line: &[u8], numbers: &Numbers, from: usize) -> Option<(usize, us
 }
 
 /// How many digits the line begins with, which is soon told where it begins with another byte.
-#[inline(always)]
 fn first_count(line: &[u8]) -> usize
     ensures count { result ≡ digit_count line.now }
     ensures inside { result ≤ length line.now }
@@ -383,11 +377,9 @@ pub(crate) fn moment_of(
     requires digits { list_all is_ascii_digit digits.now ≡ true }
     requires decimals { list_all is_ascii_digit decimals.now ≡ true }
     ensures some { IfSome result (λ m. (length digits.now ≤ 19) × IsMoment m
-        × (m ≡ with_sign is_negative
-        (moment_after (unit_for asked (length digits.now)) (digits_value 10 digits.now) decimals.now))) }
+        × (m ≡ named_moment asked is_negative digits.now decimals.now)) }
     ensures none { IfNone result (length digits.now ≤ 19
-        → ¬ IsMoment (with_sign is_negative
-        (moment_after (unit_for asked (length digits.now)) (digits_value 10 digits.now) decimals.now))) }
+        → ¬ IsMoment (named_moment asked is_negative digits.now decimals.now)) }
 {
     if digits.len() > 19 {
         return None;

@@ -1,6 +1,7 @@
 //! The lines of a run that passed as they were.
-ghost use Rattle.std.specs.Prelude.{◌≡◌, None};
+ghost use Rattle.std.specs.Prelude.{◌≡◌, ◌↔◌, None, true, IfNone, IfSome, if◌then◌else◌};
 ghost use Rattle.time_lines.specs.Passed.{begun, first_kept, up};
+ghost use Rattle.time_lines.specs.declared.passed.Why.TheVariants.{NoText};
 
 /// Why a line passed as it was.
 #[derive(Clone, Copy, Debug, PartialEq, Eq)]
@@ -14,6 +15,9 @@ pub enum Why {
     /// Its time is no moment of the years -999,999 to 999,999: its year is outside, it has more
     /// than 19 digits, or it is a value of JSON with an exponent.
     NoMoment,
+    /// No clock shows its time in the years -9999 to 9999: the text has no offset, and its year is
+    /// outside or does not have its day.
+    NoLocalMoment,
     /// The description has no text for its moment.
     NoText,
 }
@@ -50,7 +54,6 @@ impl Passed {
     }
 
     /// Counts a line.
-    #[inline(always)]
     pub(crate) fn begin_line(&mut self)
         ensures { self.new ≡ begun self.old }
     {
@@ -58,7 +61,6 @@ impl Passed {
     }
 
     /// Counts a line that passed as it was, which is among the lines already.
-    #[inline(always)]
     pub(crate) fn pass(&mut self, why: Why)
         ensures lines { self.new.lines ≡ self.old.lines }
         ensures count { self.new.count ≡ up self.old.count }
@@ -75,10 +77,30 @@ impl Passed {
     }
 
     /// Counts a line that passed as it was, if there is a reason.
-    #[inline(always)]
-    pub(crate) fn pass_if(&mut self, stays: Option<Why>) {
+    pub(crate) fn pass_if(&mut self, stays: Option<Why>)
+        ensures none { IfNone stays (self.new ≡ self.old) }
+        ensures lines { self.new.lines ≡ self.old.lines }
+        ensures count { IfSome stays (λ _. self.new.count ≡ up self.old.count) }
+        ensures first { IfSome stays (λ why. self.new.first
+            ≡ first_kept self.old.first (record { line = self.old.lines; why = why })) }
+    {
         if let Some(why) = stays {
             self.pass(why);
         }
+    }
+}
+
+/// Why a number or a text stays in its place, if nothing took that: nothing is shown of its moment,
+/// or it has none for this reason.
+pub(crate) fn why_stays(is_shown: bool, has_moment: bool, momentless: Why) -> Option<Why>
+    ensures shown { (result ≡ None) ↔ (is_shown ≡ true) }
+    ensures why { IfSome result (λ why. why ≡ (if has_moment then NoText else momentless)) }
+{
+    if is_shown {
+        None
+    } else if has_moment {
+        Some(Why::NoText)
+    } else {
+        Some(momentless)
     }
 }

@@ -1,16 +1,18 @@
 //! Texts in lines, read and replaced by what is shown of their moments.
 ghost use Rattle.std.specs.Prelude.{◌≡◌, ◌+◌, ◌≤◌, length, take, drop, IfSome, IfNone, OnOk};
+ghost use Rattle.std.specs.Prelude.{if◌then◌else◌};
 ghost use Rattle.line_streams.specs.Filter.{Adds};
 ghost use Rattle.time_lines.specs.Read.{IsFirstText, NoText, NothingBefore, ReadBecomes};
 ghost use Rattle.time_lines.specs.Read.{ReadsRfc3339, SameReads, offset_length, tail_length};
 ghost use Rattle.time_lines.specs.Read.{text_length};
 ghost use Rattle.time_lines.specs.Shown.{IsReplaced, SameShown};
+ghost use Rattle.time_lines.specs.declared.passed.Why.TheVariants.{NoLocalMoment, NoMoment};
 ghost use Rattle.time_read.specs.Lenient.{Rfc3339Means};
 
 use crate::front::{Front, Reads, moment_of_value};
-use crate::passed::{Passed, Why};
+use crate::passed::{Passed, Why, why_stays};
 use crate::runs::digit_count;
-use crate::shown::Shown;
+use crate::shown::Shows;
 use crate::unix::append_replaced;
 use line_streams::{FilterError, LineJob};
 use std::alloc::AllocError;
@@ -21,7 +23,7 @@ use time_read::LenientReader;
 /// `LenientReader` of `time_read` reads those of RFC 3339, and `Described` those of descriptions. A
 /// line without one passes as it is, and is counted; so does one of whose moment nothing is shown.
 #[derive(Drop)]
-pub struct ReadJob<S: Shown + Drop, R: Reads + Drop> {
+pub struct ReadJob<S: Shows + Drop, R: Reads + Drop> {
     pub shown: S,
     pub reader: R,
     pub passed: Passed,
@@ -40,7 +42,6 @@ fn offset_length(text: &[u8]) -> usize
 }
 
 /// How many bytes decimals, if there are any, and an offset have that the text begins with.
-#[inline(always)]
 fn tail_length(text: &[u8]) -> usize
     ensures value { result ≡ tail_length text.now }
     ensures small { result ≤ length text.now + 6 }
@@ -56,7 +57,6 @@ fn tail_length(text: &[u8]) -> usize
 
 /// The text of RFC 3339 that this text begins with, if it does: how many bytes it has, and its
 /// value.
-#[inline(always)]
 fn text_here(reader: &mut LenientReader, text: &[u8]) -> Option<(usize, OffsetDateTime)>
     ensures inside { IfSome result (λ r. r.0 ≤ length text.now) }
     ensures means { IfSome result (λ r. Rfc3339Means r.1 (take r.0 text.now)) }
@@ -81,11 +81,13 @@ fn text_here(reader: &mut LenientReader, text: &[u8]) -> Option<(usize, OffsetDa
 impl Reads for LenientReader {
     ghost reads = { λ _. ReadsRfc3339 };
 
-    #[inline(always)]
     fn read_front(&mut self, text: &[u8]) -> Option<Front> {
         let (count, value) = text_here(self, text)?;
-        let moment = moment_of_value(value);
-        Some(Front { count, moment })
+        Some(Front {
+            count,
+            moment: moment_of_value(value),
+            is_local: false,
+        })
     }
 }
 
@@ -97,7 +99,6 @@ struct FoundText {
 }
 
 /// The first text of the line that is read, if it has one.
-#[inline(always)]
 fn first_text<R: Reads>(reader: &mut R, line: &[u8]) -> Option<FoundText>
     ensures same { SameReads (R.reads reader.old) (R.reads reader.new) }
     ensures some { IfSome result (λ r. IsFirstText (R.reads reader.old) line.now r.at r.front) }
@@ -115,8 +116,7 @@ fn first_text<R: Reads>(reader: &mut R, line: &[u8]) -> Option<FoundText>
 
 /// Appends the line with what is shown of the moment of a text of it in place of the text. Says
 /// whether a text took its place.
-#[inline(always)]
-fn append_found<S: Shown>(
+fn append_found<S: Shows>(
     shown: &mut S,
     output: &mut Vec<u8>,
     line: &[u8],
@@ -126,7 +126,8 @@ fn append_found<S: Shown>(
     requires count { found.now.front.count ≤ length (drop found.now.at line.now) }
     ensures same { SameShown (S.shows shown.old) (S.shows shown.new) }
     ensures appended { OnOk result (Adds (IsReplaced (S.shows shown.old) found.now.front.moment
-        (take found.now.at line.now) (drop found.now.front.count (drop found.now.at line.now)) line.now)
+        (take found.now.at line.now)
+        (drop found.now.front.count (drop found.now.at line.now)) line.now)
         output.old.items output.new.items) }
 {
     let rest = &line[found.at..];
@@ -142,19 +143,18 @@ fn append_found<S: Shown>(
     )
 }
 
-/// Why a text stays in its place, unless what is shown of it took that.
-#[inline(always)]
-fn why_stays(front: &Front, is_shown: bool) -> Option<Why> {
-    if is_shown {
-        return None;
-    }
-    match front.moment {
-        Some(_) => Some(Why::NoText),
-        None => Some(Why::NoMoment),
+/// Why a text that was read has no moment, if it has none.
+fn why_momentless(front: &Front) -> Why
+    ensures { result ≡ (if front.now.is_local then NoLocalMoment else NoMoment) }
+{
+    if front.is_local {
+        Why::NoLocalMoment
+    } else {
+        Why::NoMoment
     }
 }
 
-impl<S: Shown + Drop, R: Reads + Drop> LineJob for ReadJob<S, R> {
+impl<S: Shows + Drop, R: Reads + Drop> LineJob for ReadJob<S, R> {
     ghost becomes = { λ job. ReadBecomes (R.reads job.reader) (S.shows job.shown) };
 
     ghost is_ready = { λ _. Unit {0} };
@@ -171,7 +171,10 @@ impl<S: Shown + Drop, R: Reads + Drop> LineJob for ReadJob<S, R> {
             return Ok(());
         };
         let is_shown = append_found(&mut self.shown, output, line, &found)?;
-        self.passed.pass_if(why_stays(&found.front, is_shown));
+        let has_moment = found.front.moment.is_some();
+        let momentless = why_momentless(&found.front);
+        self.passed
+            .pass_if(why_stays(is_shown, has_moment, momentless));
         Ok(())
     }
 }

@@ -12,7 +12,6 @@ use std::simd::prelude::*;
 pub(crate) const LANES: usize = 16;
 
 /// The position of the lowest bit that is set, and the number of bytes where none is.
-#[inline(always)]
 fn first_set(mask: u64) -> usize
     ensures { result ≡ (if mask == 0 then 16 else trailing_zeros w64 mask) }
 {
@@ -24,7 +23,6 @@ fn first_set(mask: u64) -> usize
 }
 
 /// How many of the sixteen bytes from here on come before the first digit.
-#[inline(always)]
 pub(crate) fn others_in_lanes(text: &[u8], at: usize) -> usize
     requires { at + 16 ≤ length text.now }
     ensures { result ≡ prefix_len (λ b. not (is_ascii_digit b)) (take 16 (drop at text.now)) }
@@ -34,7 +32,6 @@ pub(crate) fn others_in_lanes(text: &[u8], at: usize) -> usize
 }
 
 /// How many of the first sixteen bytes are this one.
-#[inline(always)]
 pub(crate) fn count_in_lanes(text: &[u8], byte: u8) -> u32
     requires { 16 ≤ length text.now }
     ensures { result ≡ count_by (λ b. b == byte) (take 16 text.now) }
@@ -46,7 +43,6 @@ pub(crate) fn count_in_lanes(text: &[u8], byte: u8) -> u32
 }
 
 /// How many of the first sixteen bytes are digits, before the first that is none.
-#[inline(always)]
 fn digits_in_lanes(text: &[u8]) -> usize
     requires { 16 ≤ length text.now }
     ensures { result ≡ prefix_len is_ascii_digit (take 16 text.now) }
@@ -57,7 +53,6 @@ fn digits_in_lanes(text: &[u8]) -> usize
 
 /// How many digits the text begins with, found byte by byte after the first ones, which are so
 /// many.
-#[inline(always)]
 fn digits_after(text: &[u8], first: usize) -> usize
     requires { first ≤ digit_count text.now }
     ensures count { result ≡ digit_count text.now }
@@ -71,7 +66,6 @@ fn digits_after(text: &[u8], first: usize) -> usize
 }
 
 /// How many digits the text begins with.
-#[inline(always)]
 pub(crate) fn digit_count(text: &[u8]) -> usize
     ensures count { result ≡ digit_count text.now }
     ensures inside { result ≤ length text.now }

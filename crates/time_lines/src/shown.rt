@@ -12,7 +12,7 @@ use time_fmt::{Format, Formattable};
 use time_provide::{ComponentProvider, DateState, TimestampState};
 
 /// What is shown of moments.
-pub trait Shown {
+pub trait Shows {
     /// What may be shown of a moment.
     ghost shows: { Self → Moment → Option (List ℕ) → Type 0 };
 
@@ -30,7 +30,8 @@ pub trait Place {
 
     /// The offset of the clock at the moment.
     fn offset_at(&mut self, moment: &Timestamp) -> UtcOffset
-        ensures same { (m : Moment) (o : Offset) → has_offset self.old m o ↔ has_offset self.new m o }
+        ensures same { (m : Moment) (o : Offset)
+            → has_offset self.old m o ↔ has_offset self.new m o }
         ensures offset { has_offset self.old moment.now result };
 }
 
@@ -41,7 +42,6 @@ pub struct Utc;
 impl Place for Utc {
     ghost has_offset = { λ _ _ o. o ≡ utc };
 
-    #[inline(always)]
     fn offset_at(&mut self, _moment: &Timestamp) -> UtcOffset {
         match UtcOffset::from_hms(0, 0, 0) {
             Ok(utc) => utc,
@@ -52,7 +52,6 @@ impl Place for Utc {
 
 /// Appends the text of a value, or nothing where the description refuses it, and says whether it
 /// has one.
-#[inline(always)]
 pub(crate) fn append_text<F: Formattable, V: ComponentProvider>(
     description: &F,
     output: &mut Vec<u8>,
@@ -81,10 +80,10 @@ pub struct InUtc<F: Formattable + Drop> {
     pub description: F,
 }
 
-impl<F: Formattable + Drop> Shown for InUtc<F> {
-    ghost shows = { λ s m text. text ≡ text_of (F.outcome_of s.description (facts_of_timestamp m)) };
+impl<F: Formattable + Drop> Shows for InUtc<F> {
+    ghost shows = { λ s m text. text
+        ≡ text_of (F.outcome_of s.description (facts_of_timestamp m)) };
 
-    #[inline(always)]
     fn append(&mut self, output: &mut Vec<u8>, moment: &Timestamp) -> Result<bool, AllocError> {
         append_text(
             &self.description,
@@ -102,7 +101,7 @@ pub struct InPlace<F: Formattable + Drop, P: Place + Drop> {
     pub place: P,
 }
 
-impl<F: Formattable + Drop, P: Place + Drop> Shown for InPlace<F, P> {
+impl<F: Formattable + Drop, P: Place + Drop> Shows for InPlace<F, P> {
     ghost shows = { λ s m text. (o : Offset) × P.has_offset s.place m o
         × ShowsAt (F.outcome_of s.description) o m text };
 

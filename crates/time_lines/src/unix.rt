@@ -1,24 +1,26 @@
 //! Unix time in lines, replaced by its text.
+//!
+//! Without `inline(always)` the compiler leaves calls of the functions that have it. `cold` and
+//! `inline(never)` keep long or rare bodies out of their callers.
 ghost use Rattle.std.specs.Prelude.{◌≡◌, ◌≤◌, ◌+◌, ◌-◌, ◌++◌, ◌&&◌, true, false, length, drop};
 ghost use Rattle.std.specs.Prelude.{Some, IfNone, IfOk, IfSome, OnOk, if◌then◌else◌};
 ghost use Rattle.line_streams.specs.Filter.{Adds};
 ghost use Rattle.std.specs.Char.{is_ascii_digit};
 ghost use Rattle.std.specs.List.{list_all};
-ghost use Rattle.std.specs.Str.Parse.{digits_value};
 ghost use Rattle.time_below.specs.Moment.{IsMoment};
 ghost use Rattle.time_lines.specs.Json.{has_exponent};
-ghost use Rattle.time_lines.specs.Number.{digit_count, moment_after, number_at, unit_for};
-ghost use Rattle.time_lines.specs.Number.{with_sign};
+ghost use Rattle.time_lines.specs.Number.{digit_count, named_moment, number_at};
 ghost use Rattle.time_lines.specs.Shown.{IsReplaced, SameShown};
 ghost use Rattle.time_lines.specs.Unix.{FromBecomes, HasText, LooksFrom, PieceBecomes, RestBecomes};
-ghost use Rattle.time_lines.specs.Unix.{UnixBecomes, between, is_quoted, moment_of_time};
+ghost use Rattle.time_lines.specs.Unix.{IsFoundNumber, UnixBecomes, between, is_quoted};
+ghost use Rattle.time_lines.specs.Unix.{moment_of_time};
 
 use crate::json::{has_exponent, is_value_at, quotes_if};
 use crate::number::{
     Numbers, Unit, decimals_length, decimals_of, has_minus, moment_of, number_start,
 };
-use crate::passed::{Passed, Why};
-use crate::shown::Shown;
+use crate::passed::{Passed, Why, why_stays};
+use crate::shown::Shows;
 use line_streams::{FilterError, LineJob};
 use memchr::memmem::Finder;
 use std::alloc::AllocError;
@@ -28,7 +30,7 @@ use time_below::Timestamp;
 /// moment. A line without one passes as it is, and is counted; so does one of whose times nothing
 /// is shown.
 #[derive(Drop)]
-pub struct UnixJob<'a, S: Shown + Drop> {
+pub struct UnixJob<'a, S: Shows + Drop> {
     pub shown: S,
     pub numbers: Numbers,
     /// The text after whose first occurrence times are looked for, if one is asked for.
@@ -60,7 +62,7 @@ fn first_place(is_negative: bool, start: usize) -> usize
 /// it. Where there is no moment, or nothing is shown of it, its own text is appended in place of
 /// these. Says whether a text took that place.
 #[inline(always)]
-pub(crate) fn append_replaced<S: Shown>(
+pub(crate) fn append_replaced<S: Shows>(
     shown: &mut S,
     output: &mut Vec<u8>,
     before: &[u8],
@@ -113,7 +115,6 @@ struct FoundNumber {
 }
 
 /// Whether the number whose digits begin here is a value of JSON, whose text is put in quotes.
-#[inline(always)]
 fn is_quoted(numbers: &Numbers, line: &[u8], start: usize) -> bool
     requires { start ≤ length line.now }
     ensures { result ≡ is_quoted numbers.now line.now start }
@@ -122,7 +123,6 @@ fn is_quoted(numbers: &Numbers, line: &[u8], start: usize) -> bool
 }
 
 /// Whether a value of JSON goes on with an exponent.
-#[inline(always)]
 fn is_value_with_exponent(is_value: bool, rest: &[u8]) -> bool
     ensures { result ≡ (is_value && has_exponent rest.now) }
 {
@@ -141,12 +141,9 @@ fn moment_unless(
     requires digits { list_all is_ascii_digit digits.now ≡ true }
     requires decimals { list_all is_ascii_digit decimals.now ≡ true }
     ensures some { IfSome result (λ m. (length digits.now ≤ 19) × IsMoment m
-        × (m ≡ with_sign is_negative
-        (moment_after (unit_for asked (length digits.now)) (digits_value 10 digits.now) decimals.now))
-        × (stays ≡ false)) }
+        × (m ≡ named_moment asked is_negative digits.now decimals.now) × (stays ≡ false)) }
     ensures none { IfNone result (length digits.now ≤ 19 → stays ≡ false
-        → ¬ IsMoment (with_sign is_negative
-        (moment_after (unit_for asked (length digits.now)) (digits_value 10 digits.now) decimals.now))) }
+        → ¬ IsMoment (named_moment asked is_negative digits.now decimals.now)) }
 {
     if stays {
         return None;
@@ -188,18 +185,11 @@ fn found_number(numbers: &Numbers, line: &[u8], start: usize, count: usize) -> F
 /// The same. Most numbers begin their lines and have ten digits, and the copy for these alone is
 /// the shorter one.
 #[inline(always)]
-fn number_found(numbers: &Numbers, line: &[u8], start: usize, count: usize) -> FoundNumber
+fn found_number_by_case(numbers: &Numbers, line: &[u8], start: usize, count: usize) -> FoundNumber
     requires inside { start ≤ length line.now }
     requires digits { count ≤ length line.now - start }
     requires count { count ≡ digit_count (drop start line.now) }
-    ensures first { result.first ≡ (number_at line.now start).first }
-    ensures end { result.end ≡ (number_at line.now start).end }
-    ensures value { result.is_value ≡ is_quoted numbers.now line.now start }
-    ensures some { IfSome result.moment (λ m. (m ≡ moment_of_time numbers.now line.now start)
-        × HasText numbers.now line.now start) }
-    ensures none { IfNone result.moment (¬ HasText numbers.now line.now start) }
-    ensures order { result.first ≤ result.end }
-    ensures inside { result.end ≤ length line.now }
+    ensures { IsFoundNumber numbers.now line.now start result }
 {
     if start == 0 && count == 10 {
         found_number(numbers, line, 0, 10)
@@ -209,7 +199,6 @@ fn number_found(numbers: &Numbers, line: &[u8], start: usize, count: usize) -> F
 }
 
 /// The bytes from one position to another, and none where the second one comes before the first.
-#[inline(always)]
 fn between(line: &[u8], at: usize, to: usize) -> &[u8]
     requires { to ≤ length line.now }
     ensures { result.now ≡ between at to line.now }
@@ -220,7 +209,7 @@ fn between(line: &[u8], at: usize, to: usize) -> &[u8]
 /// Appends what becomes of a line from a position to the end of its number, which has so many
 /// digits from a second position on.
 #[inline(always)]
-fn append_piece<S: Shown>(
+fn append_piece<S: Shows>(
     shown: &mut S,
     numbers: &Numbers,
     output: &mut Vec<u8>,
@@ -239,7 +228,7 @@ fn append_piece<S: Shown>(
         (PieceBecomes (S.shows shown.old) numbers.now line.now at start)
         output.old.items output.new.items) }
 {
-    let found = number_found(numbers, line, start, count);
+    let found = found_number_by_case(numbers, line, start, count);
     let before = between(line, at, found.first);
     let own = &line[found.first..found.end];
     let marks = quotes_if(found.is_value);
@@ -247,26 +236,13 @@ fn append_piece<S: Shown>(
     let is_shown = append_replaced(shown, output, before, marks, own, &[], found.moment)?;
     Ok(Piece {
         end: found.end,
-        stays: why_stays(has_moment, is_shown),
+        stays: why_stays(is_shown, has_moment, Why::NoMoment),
     })
-}
-
-/// Why a number stays in its place, if it does.
-#[inline(always)]
-fn why_stays(has_moment: bool, is_shown: bool) -> Option<Why> {
-    if is_shown {
-        None
-    } else if has_moment {
-        Some(Why::NoText)
-    } else {
-        Some(Why::NoMoment)
-    }
 }
 
 /// Appends what becomes of a line from a position on, where at most so many numbers are replaced.
 /// Says whether a text took the place of one.
-#[inline(never)]
-fn append_rest<S: Shown>(
+fn append_rest<S: Shows>(
     shown: &mut S,
     numbers: &Numbers,
     output: &mut Vec<u8>,
@@ -298,8 +274,7 @@ fn append_rest<S: Shown>(
 /// Appends what becomes of a line after its first number, which came out so: what follows it, or
 /// what becomes of that where each number is replaced. Says why the line passed as it was, if it
 /// did.
-#[inline(always)]
-fn append_behind<S: Shown>(
+fn append_behind<S: Shows>(
     shown: &mut S,
     numbers: &Numbers,
     output: &mut Vec<u8>,
@@ -310,7 +285,8 @@ fn append_behind<S: Shown>(
     ensures same { SameShown (S.shows shown.old) (S.shows shown.new) }
     ensures appended { OnOk result (Adds
         (RestBecomes (S.shows shown.old) numbers.now
-        (if numbers.now.is_all then length line.now - 1 else 0) line.now first.now.end first.now.end)
+        (if numbers.now.is_all then length line.now - 1 else 0)
+        line.now first.now.end first.now.end)
         output.old.items output.new.items) }
 {
     if !numbers.is_all {
@@ -324,7 +300,6 @@ fn append_behind<S: Shown>(
 
 /// Why a line has no time from this position on. It is looked up for the first such line alone.
 #[cold]
-#[inline(never)]
 fn why_none(numbers: &Numbers, line: &[u8], from: usize) -> Why
     requires { from ≤ length line.now }
 {
@@ -339,7 +314,6 @@ fn why_none(numbers: &Numbers, line: &[u8], from: usize) -> Why
 }
 
 /// Appends a line that has no time from this position on, and counts that it passed.
-#[inline(always)]
 fn append_timeless(
     numbers: &Numbers,
     passed: &mut Passed,
@@ -362,8 +336,7 @@ fn append_timeless(
 
 /// Appends what a line becomes whose times are looked for from this position on, and counts a line
 /// that passed.
-#[inline(always)]
-fn append_from<S: Shown>(
+fn append_from<S: Shows>(
     shown: &mut S,
     numbers: &Numbers,
     passed: &mut Passed,
@@ -388,7 +361,6 @@ fn append_from<S: Shown>(
 
 /// From which position on times of the line are looked for, if the text after which they stand is
 /// in it.
-#[inline(always)]
 fn from_place(after: &Option<Finder<'_>>, line: &[u8]) -> Option<usize>
     ensures from { LooksFrom after.now line.now result }
     ensures inside { IfSome result (λ from. from ≤ length line.now) }
@@ -402,7 +374,7 @@ fn from_place(after: &Option<Finder<'_>>, line: &[u8]) -> Option<usize>
 
 /// Appends what a line becomes by all that may be asked for, and counts a line that passed.
 #[inline(never)]
-fn append_asked<S: Shown>(
+fn append_asked<S: Shows>(
     shown: &mut S,
     numbers: &Numbers,
     after: &Option<Finder<'_>>,
@@ -426,7 +398,7 @@ fn append_asked<S: Shown>(
 /// The same where the first time of each line is replaced, and no JSON is read. The compiler drops
 /// from the copy of the numbers what else may be asked for, as long as no call is handed it.
 #[inline(always)]
-fn append_usual<S: Shown>(
+fn append_usual<S: Shows>(
     shown: &mut S,
     numbers: &Numbers,
     passed: &mut Passed,
@@ -453,7 +425,7 @@ fn append_usual<S: Shown>(
     Ok(())
 }
 
-impl<S: Shown + Drop> LineJob for UnixJob<'_, S> {
+impl<S: Shows + Drop> LineJob for UnixJob<'_, S> {
     ghost becomes = { λ job. UnixBecomes (S.shows job.shown) job.numbers job.after };
 
     ghost is_ready = { λ _. Unit {0} };

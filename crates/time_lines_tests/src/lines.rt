@@ -12,7 +12,7 @@ use time_below::{Timestamp, UtcOffset};
 use time_fmt::parts::UNIX_TIMESTAMP;
 use time_known::Rfc2822;
 use time_lines::{
-    FirstPassed, InPlace, InUtc, NowJob, Numbers, Passed, Place, ReadJob, Rfc3339InPlace, Shown,
+    FirstPassed, InPlace, InUtc, NowJob, Numbers, Passed, Place, ReadJob, Rfc3339InPlace, Shows,
     Unit, UnixJob, Utc, Why,
 };
 use time_read::LenientReader;
@@ -43,12 +43,12 @@ fn assert_each_becomes<J: LineJob>(
     }
 }
 
-fn unix_job<S: Shown + Drop>(shown: S) -> UnixJob<'static, S> {
+fn unix_job<S: Shows + Drop>(shown: S) -> UnixJob<'static, S> {
     unix_job_of(shown, Some(Unit::Seconds), 9)
 }
 
 /// The job whose numbers have this unit, or that by their digits, and at least so many of these.
-fn unix_job_of<S: Shown + Drop>(shown: S, unit: Option<Unit>, least: usize) -> UnixJob<'static, S> {
+fn unix_job_of<S: Shows + Drop>(shown: S, unit: Option<Unit>, least: usize) -> UnixJob<'static, S> {
     UnixJob {
         shown,
         numbers: Numbers {

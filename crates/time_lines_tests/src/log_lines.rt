@@ -17,9 +17,9 @@ use time_log::{Decimals, LogTime};
 
 /// A clock that shows what a test sets, and cannot be read where that is nothing.
 #[derive(Clone, Copy)]
-struct Shown<'a>(&'a Cell<Option<Duration>>);
+struct CellClock<'a>(&'a Cell<Option<Duration>>);
 
-impl Clock for Shown<'_> {
+impl Clock for CellClock<'_> {
     fn monotonic(&self) -> io::Result<Duration> {
         Ok(Duration::from_secs(0))
     }
@@ -44,6 +44,14 @@ fn offset(rt: &impl Abort, hours: i8, minutes: i8) -> UtcOffset {
     offset
 }
 
+/// A sink whose times are in UTC, to the millisecond.
+fn in_milliseconds<'a, W: Write>(
+    now: &'a Cell<Option<Duration>>,
+    out: W,
+) -> Timed<CellClock<'a>, LogTime, W> {
+    Timed::new(CellClock(now), LogTime::utc(Milliseconds), out)
+}
+
 /// The line of a record at that moment.
 fn assert_line<T: Times + Drop>(
     rt: &impl Abort,
@@ -53,7 +61,7 @@ fn assert_line<T: Times + Drop>(
     wanted: &[u8],
 ) {
     let now = now();
-    let sink = Timed::new(Shown(&now), times, Vec::new(alloc)).with_place(place);
+    let sink = Timed::new(CellClock(&now), times, Vec::new(alloc)).with_place(place);
     info!(sink; target: "app", "started");
     assert_that(rt, sink.into_inner().as_slice() == wanted);
 }
@@ -117,7 +125,7 @@ fn the_time_follows_the_clock_of_a_zone(rt: HostRuntime) {
     let zone = TimeZone::posix("CET-1CEST,M3.5.0,M10.5.0/3").expect(&rt, "no zone");
     let now = Cell::new(Some(Duration::new(1_792_889_999, 0)));
     let times = ZoneTimes::new(zone.to_plain(), Milliseconds);
-    let sink = Timed::new(Shown(&now), times, Vec::new(rt.alloc()));
+    let sink = Timed::new(CellClock(&now), times, Vec::new(rt.alloc()));
     info!(sink; target: "app", "up");
     now.set(Some(Duration::new(1_792_890_000, 0)));
     info!(sink; target: "app", "up");
@@ -129,11 +137,7 @@ fn the_time_follows_the_clock_of_a_zone(rt: HostRuntime) {
 #[test]
 fn each_record_has_the_time_at_which_it_was_logged(rt: HostRuntime) {
     let now = Cell::new(Some(Duration::new(1_795_341_306, 998_000_000)));
-    let sink = Timed::new(
-        Shown(&now),
-        LogTime::utc(Milliseconds),
-        Vec::new(rt.alloc()),
-    );
+    let sink = in_milliseconds(&now, Vec::new(rt.alloc()));
     info!(sink; target: "app", "up");
     now.set(Some(Duration::new(1_795_341_306, 999_999_999)));
     warn!(sink; target: "app", "up");
@@ -150,11 +154,7 @@ fn each_record_has_the_time_at_which_it_was_logged(rt: HostRuntime) {
 #[test]
 fn spans_and_pairs_stand_where_log_has_them(rt: HostRuntime) {
     let now = now();
-    let sink = Timed::new(
-        Shown(&now),
-        LogTime::utc(Milliseconds),
-        Vec::new(rt.alloc()),
-    );
+    let sink = in_milliseconds(&now, Vec::new(rt.alloc()));
     let logged = Logged::new(rt, Level::Debug, sink);
     let request = logged.span("request").with("id", 7);
     debug!(request; target: "db", rows = 3, cached = true; "read {} bytes", 512);
@@ -170,11 +170,7 @@ fn spans_and_pairs_stand_where_log_has_them(rt: HostRuntime) {
 #[test]
 fn a_time_with_no_text_is_a_dash(rt: HostRuntime) {
     let now = Cell::new(None);
-    let sink = Timed::new(
-        Shown(&now),
-        LogTime::utc(Milliseconds),
-        Vec::new(rt.alloc()),
-    );
+    let sink = in_milliseconds(&now, Vec::new(rt.alloc()));
     info!(sink; target: "app", "up");
     now.set(Some(Duration::new(253_402_300_799, 0)));
     info!(sink; target: "app", "up");
@@ -211,6 +207,17 @@ struct Counted<'a> {
     room: &'a Cell<usize>,
 }
 
+impl<'a> Counted<'a> {
+    /// A writer that has taken nothing.
+    fn new(alloc: Global, writes: &'a Cell<u32>, room: &'a Cell<usize>) -> Counted<'a> {
+        Counted {
+            bytes: Vec::new(alloc),
+            writes,
+            room,
+        }
+    }
+}
+
 impl Write for Counted<'_> {
     fn write(&mut self, buf: &[u8]) -> io::Result<usize> {
         self.writes.set(self.writes.get().saturating_add(1));
@@ -245,12 +252,8 @@ impl Display for Letters {
 /// How many writes the line of a message of so many letters takes, and how many bytes it has.
 fn writes_of(alloc: Global, letters: usize) -> (u32, usize) {
     let (now, writes, room) = (now(), Cell::new(0), Cell::new(10_000));
-    let out = Counted {
-        bytes: Vec::new(alloc),
-        writes: &writes,
-        room: &room,
-    };
-    let sink = Timed::new(Shown(&now), LogTime::utc(Milliseconds), out);
+    let out = Counted::new(alloc, &writes, &room);
+    let sink = in_milliseconds(&now, out);
     info!(sink; target: "app", "{}", Letters(letters));
     let count = sink.into_inner().bytes.len();
     (writes.get(), count)
@@ -272,11 +275,7 @@ fn a_long_piece_of_a_line_is_written_whole(rt: HostRuntime) {
         panic!(rt; "no text")
     };
     let now = now();
-    let sink = Timed::new(
-        Shown(&now),
-        LogTime::utc(Milliseconds),
-        Vec::new(rt.alloc()),
-    );
+    let sink = in_milliseconds(&now, Vec::new(rt.alloc()));
     info!(sink; target: "app", "{}", piece);
     let line = sink.into_inner();
     let line = line.as_slice();
@@ -292,12 +291,8 @@ fn a_long_piece_of_a_line_is_written_whole(rt: HostRuntime) {
 #[test]
 fn a_torn_line_ends_before_the_next_record(rt: HostRuntime) {
     let (now, writes, room) = (now(), Cell::new(0), Cell::new(20));
-    let out = Counted {
-        bytes: Vec::new(rt.alloc()),
-        writes: &writes,
-        room: &room,
-    };
-    let sink = Timed::new(Shown(&now), LogTime::utc(Milliseconds), out);
+    let out = Counted::new(rt.alloc(), &writes, &room);
+    let sink = in_milliseconds(&now, out);
     info!(sink; target: "app", "first");
     info!(sink; target: "app", "dropped, as there is no room for the end of the line");
     room.set(1_000);
@@ -322,12 +317,8 @@ impl Display for Opening<'_> {
 #[test]
 fn a_long_torn_line_ends_before_the_next_record(rt: HostRuntime) {
     let (now, writes, room) = (now(), Cell::new(0), Cell::new(20));
-    let out = Counted {
-        bytes: Vec::new(rt.alloc()),
-        writes: &writes,
-        room: &room,
-    };
-    let sink = Timed::new(Shown(&now), LogTime::utc(Milliseconds), out);
+    let out = Counted::new(rt.alloc(), &writes, &room);
+    let sink = in_milliseconds(&now, out);
     info!(sink; target: "app", "{}", Letters(1_500));
     info!(sink; target: "app", "{}", Opening(&room));
     assert_that(&rt, room.get() == 0);
@@ -341,12 +332,8 @@ fn a_long_torn_line_ends_before_the_next_record(rt: HostRuntime) {
 #[test]
 fn a_flush_reaches_the_writer(rt: HostRuntime) {
     let (now, writes, room) = (now(), Cell::new(0), Cell::new(0));
-    let out = Counted {
-        bytes: Vec::new(rt.alloc()),
-        writes: &writes,
-        room: &room,
-    };
-    let sink = Timed::new(Shown(&now), LogTime::utc(Milliseconds), out);
+    let out = Counted::new(rt.alloc(), &writes, &room);
+    let sink = in_milliseconds(&now, out);
     sink.flush();
     assert_that(&rt, writes.get() == 1);
 }
@@ -365,11 +352,7 @@ impl<L: Log> Display for Logging<'_, L> {
 #[test]
 fn a_record_within_a_record_is_dropped(rt: HostRuntime) {
     let now = now();
-    let sink = Timed::new(
-        Shown(&now),
-        LogTime::utc(Milliseconds),
-        Vec::new(rt.alloc()),
-    );
+    let sink = in_milliseconds(&now, Vec::new(rt.alloc()));
     info!(sink; target: "app", "{}", Logging(&sink));
     let wanted = b"[2026-11-22T09:55:06.120Z INFO  app] shown\n";
     assert_that(&rt, sink.into_inner().as_slice() == wanted.as_slice());
@@ -378,11 +361,7 @@ fn a_record_within_a_record_is_dropped(rt: HostRuntime) {
 #[test]
 fn a_sink_logs_every_record(rt: HostRuntime) {
     let now = now();
-    let sink = Timed::new(
-        Shown(&now),
-        LogTime::utc(Milliseconds),
-        Vec::new(rt.alloc()),
-    );
+    let sink = in_milliseconds(&now, Vec::new(rt.alloc()));
     assert_that(&rt, sink.enabled(&Metadata::new(Level::Trace, "app")));
     assert_that(&rt, sink.target().is_empty());
     sink.flush();

@@ -155,7 +155,7 @@ fn a_text_that_the_description_does_not_write_stays(rt: HostRuntime) -> Result<(
 #[test]
 fn a_day_that_the_year_does_not_have_has_no_moment(rt: HostRuntime) -> Result<(), Fail> {
     let line = "Feb 29 00:00:00";
-    let moment = Some(Why::NoMoment);
+    let moment = Some(Why::NoLocalMoment);
     assert_read(
         &rt,
         rt.alloc(),

@@ -2,7 +2,7 @@
 use crate::format_texts::assert_same;
 use std::process::Abort;
 use time_answers::command::date_time_numbers;
-use time_answers::fields::Fields;
+use time_answers::fields::LineFields;
 use time_answers::value::{
     DateNumbers, DateTimeNumbers, OffsetNumbers, TimeNumbers, ValuePart, date_time_value,
 };
@@ -131,7 +131,7 @@ fn the_month_sets_the_days(rt: HostRuntime) {
 
 /// The value of the ten numbers of a line.
 fn value(rt: &impl Abort, line: &[u8]) -> OffsetDateTime {
-    let Some(numbers) = date_time_numbers(Fields::new(line)) else {
+    let Some(numbers) = date_time_numbers(LineFields::new(line)) else {
         panic!(rt; "no ten numbers");
     };
     let Ok(value) = date_time_value(numbers) else {
@@ -156,7 +156,7 @@ fn ten_numbers_give_a_date_and_time(rt: HostRuntime) {
     assert_same(&rt, value.time().as_hms_nano(), (9, 55, 6, 120_000_000));
     assert_same(&rt, value.offset().as_hms(), (-6, 0, 0));
     for line in NO_TEN_NUMBERS {
-        assert!(rt; date_time_numbers(Fields::new(line)).is_none());
+        assert!(rt; date_time_numbers(LineFields::new(line)).is_none());
     }
 }
 

@@ -1,5 +1,5 @@
 use Rattle.time_answers.proofs.FieldsLemmas.{some_field}
-use Rattle.time_answers.proofs.fields.Fields.is_empty.Goals as goal
+use Rattle.time_answers.proofs.fields.LineFields.is_empty.Goals as goal
 use Rattle.std.proofs.Common.{arith}
 
 pub returns-in-Some : goal.returns-in-Some

@@ -1,7 +1,7 @@
 use Rattle.time_known.specs.Rfc3339.{rfc3339_outcome}
 use Rattle.time_lines.proofs.DayLemmas.{shown_in_place}
 use Rattle.time_lines.proofs.ShownLemmas.{place_shows}
-use Rattle.time_lines.proofs.day.Rfc3339InPlaceShown.append.Goals as goal
+use Rattle.time_lines.proofs.day.Rfc3339InPlaceShows.append.Goals as goal
 
 pub returns-clause-same : goal.returns-clause-same
 returns-clause-same g c = place_shows rfc3339_outcome _ _ c.offset_at-offset.ensures.same

@@ -1,5 +1,5 @@
 use Rattle.time_lines.proofs.ShownLemmas.{place_shows}
-use Rattle.time_lines.proofs.shown.InPlaceShown.append.Goals as goal
+use Rattle.time_lines.proofs.shown.InPlaceShows.append.Goals as goal
 
 pub returns-in-None-clause-same : goal.returns-in-None-clause-same
 returns-in-None-clause-same g c =
