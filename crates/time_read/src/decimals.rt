@@ -1,4 +1,7 @@
 //! Digits after a point.
+//!
+//! The attributes are of the path of RFC 3339, whose texts cost twice as much without those of this
+//! crate.
 ghost use Rattle.std.specs.Prelude.{◌≡◌, ◌↔◌, ◌==◌, ◌<◌, ◌≤◌, ◌-◌, ◌*◌, ◌^◌, IsTrue, length, take};
 ghost use Rattle.std.specs.Str.Parse.{AllDigits, digits_value};
 ghost use Rattle.time_read.specs.Shapes.{FirstDigits, Skipped};
@@ -21,7 +24,6 @@ const POWERS: [u32; 10] = [
 ];
 
 // The number of up to nine digits that begin a text, and how many they are.
-#[inline(always)]
 fn digits(text: &[u8]) -> (u32, usize)
     ensures digits { FirstDigits text.now result.1 }
     ensures value { result.0 ≡ digits_value 10 (take result.1 text.now) }
@@ -40,7 +42,6 @@ fn digits(text: &[u8]) -> (u32, usize)
 }
 
 // Whether no bit is set.
-#[inline(always)]
 fn is_clear(mask: u64) -> bool
     ensures { result ≡ (mask == 0) }
 {
@@ -48,7 +49,6 @@ fn is_clear(mask: u64) -> bool
 }
 
 // Whether a text begins with eight digits, which are looked at together.
-#[inline(always)]
 fn are_eight(text: &[u8]) -> bool
     requires { 8 ≤ length text.now }
     ensures { IsTrue result ↔ AllDigits 10 (take 8 text.now) }
@@ -58,7 +58,6 @@ fn are_eight(text: &[u8]) -> bool
 }
 
 // Whether a text begins with nine digits.
-#[inline(always)]
 fn are_nine(text: &[u8]) -> bool
     requires { 9 ≤ length text.now }
     ensures { IsTrue result ↔ AllDigits 10 (take 9 text.now) }
@@ -67,7 +66,6 @@ fn are_nine(text: &[u8]) -> bool
 }
 
 // The number of some digits. The compiler unrolls the loop for nine.
-#[inline(always)]
 fn number_of(digits: &[u8]) -> u32
     requires few { length digits.now ≤ 9 }
     requires digits { AllDigits 10 digits.now }
@@ -81,7 +79,6 @@ fn number_of(digits: &[u8]) -> u32
 }
 
 // The same as of `digits`, which is soon told where there are nine.
-#[inline(always)]
 pub(crate) fn first_digits(text: &[u8]) -> (u32, usize)
     ensures digits { FirstDigits text.now result.1 }
     ensures value { result.0 ≡ digits_value 10 (take result.1 text.now) }

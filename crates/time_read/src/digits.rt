@@ -1,4 +1,7 @@
 //! Bytes and digits at the front of a text.
+//!
+//! The attributes make one function of the fields of RFC 3339, and keep out of it what makes a
+//! fault. Without those of this crate such a text costs twice as much.
 ghost use Rattle.std.specs.Prelude.{◌≡◌, ◌≢◌, ℕ, List, IfSome, IfNone, ◌+◌, ◌-◌, ◌*◌, ◌/◌, ◌<◌};
 ghost use Rattle.std.specs.Prelude.{◌≤◌, ◌∷◌, ◌↔◌, IfOk, IfErr, IsTrue, min};
 ghost use Rattle.time_known.specs.Rules.{Digits};

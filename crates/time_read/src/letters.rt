@@ -9,7 +9,6 @@ ghost use Rattle.time_read.specs.Names.{HasDay, list_of};
 use crate::fault::Names;
 
 // How many names there are.
-#[inline(always)]
 pub(crate) fn count(names: Names) -> u8
     ensures { result ≡ length (list_of names) }
 {
@@ -20,7 +19,6 @@ pub(crate) fn count(names: Names) -> u8
 }
 
 // How many days a month has in a leap year, by its index from 0.
-#[inline(always)]
 fn longest(place: u8) -> u8
     requires { place < 12 }
     ensures { result ≡ days_in_month true (place + 1) }
@@ -36,7 +34,6 @@ fn longest(place: u8) -> u8
 
 // Whether the name at an index is one of these: whether that month has the day in some year. Each
 // weekday is one.
-#[inline(always)]
 pub(crate) fn has_day(names: Names, place: u8) -> bool
     requires { place < length (list_of names) }
     ensures { IsTrue result ↔ HasDay names place }
@@ -87,7 +84,6 @@ fn month_letters(place: u8) -> (u8, u8, u8)
 }
 
 // The letters of the name at an index.
-#[inline(always)]
 pub(crate) fn letters(names: Names, place: u8) -> (u8, u8, u8)
     requires { place < length (list_of names) }
     ensures { slice_index_or (list_of names) place [] ≡ result.0 ∷ result.1 ∷ result.2 ∷ [] }
@@ -99,7 +95,6 @@ pub(crate) fn letters(names: Names, place: u8) -> (u8, u8, u8)
 }
 
 // The only weekday that may have such a second and third letter: no two have the same key.
-#[inline(always)]
 fn weekday_by(key: u8) -> u8
     ensures value { result ≡ weekday_by key }
     ensures range { result < 7 }
@@ -116,7 +111,6 @@ fn weekday_by(key: u8) -> u8
 }
 
 // The only month that may have such a second and third letter.
-#[inline(always)]
 fn month_by(key: u8) -> u8
     ensures value { result ≡ month_by key }
     ensures range { result < 12 }
@@ -138,7 +132,6 @@ fn month_by(key: u8) -> u8
 }
 
 // The only index at which a name with this second and third letter may be.
-#[inline(always)]
 pub(crate) fn place_by(names: Names, second: u8, third: u8) -> u8
     ensures right { (first place : ℕ) → place < length (list_of names)
         → slice_index_or (list_of names) place [] ≡ first ∷ second ∷ third ∷ [] → result ≡ place }

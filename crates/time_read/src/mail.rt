@@ -17,7 +17,6 @@ use crate::offset::least_minute;
 use crate::parts::clock;
 
 // Reads a comma, a space and a day of a month.
-#[inline(always)]
 fn day_after(text: &[u8]) -> Result<(u8, &[u8]), Fault>
     ensures read { IfOk result (λ r. Front (DayAfter r.0) text.now r.1.now) }
     ensures range { IfOk result (λ r. r.0 ≤ 31) }
@@ -28,7 +27,6 @@ fn day_after(text: &[u8]) -> Result<(u8, &[u8]), Fault>
 }
 
 // Reads a space and the name of a month that has this day in some year: its index from 0.
-#[inline(always)]
 fn month_after(text: &[u8], day: u8) -> Result<(u8, &[u8]), Fault>
     requires { day ≤ 31 }
     ensures read { IfOk result (λ r. Front (MonthAfter day r.0) text.now r.1.now) }
@@ -40,7 +38,6 @@ fn month_after(text: &[u8], day: u8) -> Result<(u8, &[u8]), Fault>
 }
 
 // Reads a digit from the first to the last, by steps of four.
-#[inline(always)]
 fn fourth_digit(text: &[u8], first: u8, last: u8) -> Result<(u8, &[u8]), Fault>
     requires order { first ≤ last }
     requires digits { last < 10 }
@@ -60,7 +57,6 @@ fn fourth_digit(text: &[u8], first: u8, last: u8) -> Result<(u8, &[u8]), Fault>
 }
 
 // The first and the last digit of the leap years of a century and these tens.
-#[inline(always)]
 fn fourths(century: u8, tens: u8) -> (u8, u8)
     ensures first { result.0 ≡ first_fourth century tens }
     ensures last { result.1 ≡ last_fourth tens }
@@ -75,7 +71,6 @@ fn fourths(century: u8, tens: u8) -> (u8, u8)
 }
 
 // Reads the last two digits of a leap year.
-#[inline(always)]
 fn last_of_leap(text: &[u8], century: u8) -> Result<(u8, &[u8]), Fault>
     ensures read { IfOk result (λ r. Front (LastOfLeap century r.0) text.now r.1.now) }
     ensures range { IfOk result (λ r. r.0 < 100) }
@@ -88,7 +83,6 @@ fn last_of_leap(text: &[u8], century: u8) -> Result<(u8, &[u8]), Fault>
 }
 
 // Whether a day of the month at an index from 0 is the leap day.
-#[inline(always)]
 fn is_leap_day(day: u8, place: u8) -> bool
     ensures { IsTrue result ↔ ((day ≡ 29) × (place ≡ 1)) }
 {
@@ -96,7 +90,6 @@ fn is_leap_day(day: u8, place: u8) -> bool
 }
 
 // Reads the last two digits of a year in which the month has this day.
-#[inline(always)]
 fn last_of_year(text: &[u8], day: u8, place: u8, century: u8) -> Result<(u8, &[u8]), Fault>
     requires { day ≤ days_in_month true (place + 1) }
     ensures read { IfOk result (λ r. Front (LastOfYear day place century r.0) text.now r.1.now) }
@@ -111,7 +104,6 @@ fn last_of_year(text: &[u8], day: u8, place: u8, century: u8) -> Result<(u8, &[u
 }
 
 // Reads a space and a year from 1900 on in which the month at an index from 0 has this day.
-#[inline(always)]
 fn year_after(text: &[u8], day: u8, place: u8) -> Result<(u16, &[u8]), Fault>
     requires { day ≤ days_in_month true (place + 1) }
     ensures read { IfOk result (λ r. Front (YearAfter day place r.0) text.now r.1.now) }
@@ -125,7 +117,6 @@ fn year_after(text: &[u8], day: u8, place: u8) -> Result<(u16, &[u8]), Fault>
 
 // Reads a date with the name of some weekday: the weekday, the day, the index of the month from 0
 // and the year.
-#[inline(always)]
 pub(crate) fn named_date(text: &[u8]) -> Result<(u8, u8, u8, u16, &[u8]), Fault>
     ensures read { IfOk result (λ r. Front (NamedParts (r.0, (r.1, (r.2, r.3)))) text.now r.4.now) }
     ensures weekday { IfOk result (λ r. r.0 < 7) }
@@ -140,7 +131,6 @@ pub(crate) fn named_date(text: &[u8]) -> Result<(u8, u8, u8, u16, &[u8]), Fault>
 }
 
 // Reads a space, an hour, a minute and a second.
-#[inline(always)]
 pub(crate) fn clock_after(text: &[u8]) -> Result<(u8, u8, u8, &[u8]), Fault>
     ensures read { IfOk result (λ r. Front (ClockAfter (
         record { hour = r.0; minute = r.1; second = r.2 })) text.now r.3.now) }
@@ -154,7 +144,6 @@ pub(crate) fn clock_after(text: &[u8]) -> Result<(u8, u8, u8, &[u8]), Fault>
 }
 
 // Reads a sign: whether it is a minus.
-#[inline(always)]
 pub(crate) fn sign(text: &[u8]) -> Result<(bool, &[u8]), Fault>
     ensures read { IfOk result (λ r. Front (Sign r.0) text.now r.1.now) }
     ensures fault { IfErr result (λ e. FieldFault 1 (SpellsSome Sign) text.now e) }
@@ -174,7 +163,6 @@ pub(crate) fn sign(text: &[u8]) -> Result<(bool, &[u8]), Fault>
 }
 
 // Reads a space and a sign: whether it is a minus.
-#[inline(always)]
 fn sign_after(text: &[u8]) -> Result<(bool, &[u8]), Fault>
     ensures read { IfOk result (λ r. Front (SignAfter r.0) text.now r.1.now) }
     ensures fault { IfErr result (λ e. FieldFault 2 (SpellsSome SignAfter) text.now e) }
@@ -184,7 +172,6 @@ fn sign_after(text: &[u8]) -> Result<(bool, &[u8]), Fault>
 }
 
 // Reads a space, a sign, two digits of hours and two of minutes, but for `-0000`.
-#[inline(always)]
 pub(crate) fn zone_after(text: &[u8]) -> Result<(bool, u8, u8, &[u8]), Fault>
     ensures read { IfOk result (λ r. Front (ZoneAfter (r.0, (r.1, r.2))) text.now r.3.now) }
     ensures hour { IfOk result (λ r. r.1 ≤ 25) }

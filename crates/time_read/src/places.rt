@@ -1,4 +1,7 @@
 //! The position of a fault, of a text that is refused.
+//!
+//! The attributes are of the path of RFC 3339, whose texts cost twice as much without those of this
+//! crate.
 ghost use Rattle.std.specs.Prelude.{◌≡◌, ◌-◌, ◌<◌, ◌≤◌, ◌↔◌, IsTrue, length};
 ghost use Rattle.time_read.specs.Fault.{IsSecond60, SpellsSome};
 ghost use Rattle.time_read.specs.Front.{TextFault};

@@ -28,7 +28,6 @@ use time_below::{Date, OffsetDateTime, Time, UtcOffset};
 const SECONDS: usize = 23;
 
 // Reads a whole text, with the name of some weekday.
-#[inline(always)]
 fn fields(text: &[u8]) -> Result<(u8, OffsetDateTime), Fault>
     ensures read { IfOk result (λ r. MailText r.0 r.1 text.now) }
     ensures fault { IfErr result (λ e. TextFault (SpellsSome SpellsButWeekday) text.now e) }
@@ -46,7 +45,6 @@ fn fields(text: &[u8]) -> Result<(u8, OffsetDateTime), Fault>
 
 // The value of a text that names this weekday, if that is the weekday of its date. If not, the
 // position of the weekday.
-#[inline(always)]
 fn on_weekday(_text: &[u8], weekday: u8, value: OffsetDateTime) -> Result<OffsetDateTime, NotRead>
     requires { MailText weekday value _text.now }
     ensures read { IfOk result (λ v. Rfc2822Spells v _text.now) }

@@ -1,4 +1,7 @@
 //! RFC 3339.
+//!
+//! The attributes are of the path of RFC 3339, whose texts cost twice as much without those of this
+//! crate.
 ghost use Rattle.std.specs.Prelude.{◌≡◌, ◌≤◌, ◌↔◌, IfOk, IfErr, IsTrue, drop, length, take};
 ghost use Rattle.time_below.specs.Moment.{OffsetDateAndTime};
 ghost use Rattle.time_known.specs.Rfc3339Grammar.{Rfc3339Spells};

@@ -17,7 +17,6 @@ use crate::places::{SECONDS, place_of_fault};
 use time_below::{Time, UtcDateTime};
 
 // Reads nine digits.
-#[inline(always)]
 fn nine_digits(text: &[u8]) -> Result<(u32, &[u8]), Fault>
     ensures read { IfOk result (λ r. Front (Digits 9 r.0) text.now r.1.now) }
     ensures range { IfOk result (λ r. r.0 < 10 ^ 9) }
@@ -34,7 +33,6 @@ fn nine_digits(text: &[u8]) -> Result<(u32, &[u8]), Fault>
 }
 
 // Reads a point and nine digits.
-#[inline(always)]
 fn nine_after(text: &[u8]) -> Result<(u32, &[u8]), Fault>
     ensures read { IfOk result (λ r. Front (NineAfter r.0) text.now r.1.now) }
     ensures range { IfOk result (λ r. r.0 < 10 ^ 9) }
@@ -45,7 +43,6 @@ fn nine_after(text: &[u8]) -> Result<(u32, &[u8]), Fault>
 }
 
 // Reads a whole stamp.
-#[inline(always)]
 fn fields(text: &[u8]) -> Result<UtcDateTime, Fault>
     ensures read { IfOk result (λ v. IsStamp v text.now) }
     ensures fault { IfErr result (λ e. TextFault (SpellsSome IsStamp) text.now e) }

@@ -1,4 +1,7 @@
 //! Fractions and offsets at the end of a text.
+//!
+//! The attributes are of the path of RFC 3339, whose texts cost twice as much without those of this
+//! crate.
 ghost use Rattle.std.specs.Prelude.{◌≡◌, ◌<◌, ◌∷◌, ◌^◌, IfOk, IfErr};
 ghost use Rattle.time_read.specs.Fault.{SpellsSome};
 ghost use Rattle.time_read.specs.Front.{TextFault};

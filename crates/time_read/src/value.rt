@@ -1,4 +1,7 @@
 //! The fields of a text of RFC 3339, one after the other: the value, or the first fault.
+//!
+//! The attributes are of the path of RFC 3339, whose texts cost twice as much without those of this
+//! crate.
 ghost use Rattle.std.specs.Prelude.{List, ℕ, ◌++◌, IfOk, IfErr};
 ghost use Rattle.time_known.specs.Rfc3339Grammar.{FullDate};
 ghost use Rattle.time_read.specs.Fault.{SpellsSome};

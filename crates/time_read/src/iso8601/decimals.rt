@@ -1,4 +1,7 @@
 //! Decimals of a second, of a minute and of an hour.
+//!
+//! The attributes keep out of the readers what makes a fault: without those of ISO 8601 a text
+//! costs four tenths more.
 ghost use Rattle.std.specs.Prelude.{◌<◌, ◌^◌, IfOk};
 
 use crate::decimals::nanosecond;

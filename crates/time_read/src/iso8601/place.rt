@@ -1,4 +1,7 @@
 //! The position of a fault of a text of ISO 8601.
+//!
+//! The attributes keep out of the readers what makes a fault: without those of ISO 8601 a text
+//! costs four tenths more.
 ghost use Rattle.std.specs.Prelude.{◌<◌, ◌≤◌, IfSome, length};
 
 use crate::fault::{Fault, NotRead};
