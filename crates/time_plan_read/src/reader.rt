@@ -11,7 +11,7 @@ ghost use Rattle.time_plan_read.specs.Numbers.{AreKinds, HasUnset};
 ghost use Rattle.time_provide.specs.Real.{AreReal};
 
 use crate::any_step::ReadStep;
-use crate::behind::is_ambiguous;
+use crate::behind::StepsFrom;
 use crate::clock::clear_finer_time;
 use crate::fault::{NoReader, NotRead};
 use crate::fields::Fields;
@@ -139,7 +139,12 @@ fn refusal_of<T: ReadStep, V: Readable>(steps: &[T], texts: &[u8]) -> Option<NoR
         if !supplies::<V>(&step.parts(texts).shown) {
             return Some(NoReader::Unsupplied(index));
         }
-        if is_ambiguous(step, others, texts) {
+        let here = StepsFrom {
+            step,
+            others,
+            texts,
+        };
+        if here.are_ambiguous() {
             return Some(NoReader::Ambiguous(index));
         }
         index = index.saturating_add(1);
@@ -172,7 +177,8 @@ impl<V: Readable> Reader<'_, V> {
         V: Drop,
         ensures written { IfOk result (λ value.
             ⟦<Plan as Formattable>⟧.outcome_of self.now.plan.now (V.facts value) ≡ done text.now) }
-        ensures complete { AreDatesAndTimes V.SUPPLIES_DATE V.SUPPLIES_TIME (shown_of self.now.plan.now)
+        ensures complete { AreDatesAndTimes V.SUPPLIES_DATE V.SUPPLIES_TIME
+            (shown_of self.now.plan.now)
             → (value : V) → AreReal (V.facts value) → HasFourDigits (V.facts value)
             → ⟦<Plan as Formattable>⟧.outcome_of self.now.plan.now (V.facts value) ≡ done text.now
             → IsOk result }
@@ -190,7 +196,8 @@ impl<V: Readable> Reader<'_, V> {
         V::State: Drop,
         V: Drop,
         ensures written { IfOk result (λ read. BeginsWith
-            (⟦<Plan as Formattable>⟧.outcome_of self.now.plan.now (V.facts read.0)) text.now read.1.now) }
+            (⟦<Plan as Formattable>⟧.outcome_of self.now.plan.now
+            (V.facts read.0)) text.now read.1.now) }
         ensures inside { IfErr result (λ fault. fault.at ≤ length text.now) }
     {
         self.reading.read_front(self.plan, text)
@@ -218,7 +225,8 @@ impl<T: ReadStep, V: Readable> StepsReader<'_, T, V> {
         V::State: Drop,
         V: Drop,
         ensures written { IfOk result (λ value.
-            trees_outcome (trees (map (T.tree_of self.now.texts.now) self.now.steps.now)) (V.facts value)
+            trees_outcome (trees (map (T.tree_of self.now.texts.now) self.now.steps.now))
+            (V.facts value)
             ≡ done text.now) }
         ensures inside { IfErr result (λ fault. fault.at ≤ length text.now) }
     {
