@@ -1,5 +1,6 @@
 //! Readers of the texts of a plan, and of steps of any kind.
-ghost use Rattle.std.specs.Prelude.{◌≡◌, ◌≤◌, ◌++◌, [], IfErr, IfOk, IsOk, length, map};
+ghost use Rattle.std.specs.Prelude.{◌≡◌, ◌≤◌, ◌↔◌, ◌++◌, [], IfErr, IfOk, IsOk, IsTrue, length};
+ghost use Rattle.std.specs.Prelude.{map};
 ghost use Rattle.time_below.specs.Tree.{trees};
 ghost use Rattle.time_fmt.specs.Description.{trees_outcome};
 ghost use Rattle.time_fmt.specs.Outcome.{done};
@@ -13,6 +14,7 @@ ghost use Rattle.time_provide.specs.Real.{AreReal};
 use crate::any_step::ReadStep;
 use crate::behind::StepsFrom;
 use crate::clock::clear_finer_time;
+use crate::complete::are_dates_and_times;
 use crate::fault::{NoReader, NotRead};
 use crate::fields::Fields;
 use crate::kinds::{Kinds, shown_by};
@@ -170,6 +172,15 @@ fn supplies<V: Readable>(shown: &Shown) -> bool {
 }
 
 impl<V: Readable> Reader<'_, V> {
+    /// Whether the plan is one of dates and times of day, with a literal behind each: then `read`
+    /// reads each text that the plan writes of a value whose year has four digits.
+    pub fn is_complete(&self) -> bool
+        ensures { IsTrue result
+            ↔ AreDatesAndTimes V.SUPPLIES_DATE V.SUPPLIES_TIME (shown_of self.now.plan.now) }
+    {
+        are_dates_and_times(self.plan, V::SUPPLIES_DATE, V::SUPPLIES_TIME)
+    }
+
     /// The value that the plan writes as this text, or the first fault of the text.
     pub fn read(&self, text: &[u8]) -> Result<V, NotRead>
     where
