@@ -2,10 +2,11 @@
 use Rattle.std.proofs.Common.{◌≡◌, ℕ, List, [], ◌∷◌, ◌++◌, inl, inr, refl, sym, subst, ap, ◌∙◌, append_assoc}
 use Rattle.std.specs.Prelude.{codes}
 use Rattle.std.proofs.lemmas.List.{append-nil}
+use Rattle.time_below.specs.declared.format_description.component.Component.{Component}
 use Rattle.time_below.specs.Facts.{Facts}
 use Rattle.time_below.specs.Tree.{Tree, Trees, all_of, end, more, of_component, text_literal}
 use Rattle.time_plan.specs.Shown.{shown_tree}
-use Rattle.time_plan_read.specs.Left.{Takes, three_tree}
+use Rattle.time_plan_read.specs.Left.{Takes, TakesPart, three_tree}
 use Rattle.time_plan_read.specs.Lenient.{BeginsByZ, HasZero, IsRead, SpellsAll}
 use Rattle.time_plan_read.specs.Parts.{AreSame, parts_tree, ref_bytes}
 use Rattle.time_plan_read.specs.declared.runs.Parts.{Parts}
@@ -70,17 +71,20 @@ one_taken t f text left takes = record {
   };
 }
 
+-- a component and its byte, and then others
+part_taken : (c : Component) (byte : ℕ) (ts : Trees) (f : Facts) (a b rest : List ℕ) → TakesPart c byte f a b
+    → Takes (all_of ts) f b rest
+    → Takes (all_of (more (of_component c) (more (text_literal (byte ∷ [])) ts))) f a rest
+part_taken c byte ts f a b rest part others =
+    more_taken (of_component c) (more (text_literal (byte ∷ [])) ts) f a part.mid rest part.piece
+    (more_taken (text_literal (byte ∷ [])) ts f part.mid b rest part.byte_is others)
+
 -- the parts of a run, one after another
-pub run_taken : (p : Parts) (f : Facts) (a b c d e rest : List ℕ) → Takes (of_component p.first) f a b
-    → Takes (text_literal (p.between.first ∷ [])) f b c → Takes (of_component p.second) f c d
-    → Takes (text_literal (p.between.second ∷ [])) f d e → Takes (of_component p.third) f e rest
-    → Takes (three_tree p) f a rest
-run_taken p f a b c d e rest first between second before third =
-    let from_third = one_taken (of_component p.third) f e rest third in
-    let from_before = more_taken (text_literal (p.between.second ∷ [])) _ f d e rest before from_third in
-    let from_second = more_taken (of_component p.second) _ f c d rest second from_before in
-    let from_between = more_taken (text_literal (p.between.first ∷ [])) _ f b c rest between from_second in
-    more_taken (of_component p.first) _ f a b rest first from_between
+pub run_taken : (p : Parts) (f : Facts) (a b c rest : List ℕ) → TakesPart p.first p.between.first f a b
+    → TakesPart p.second p.between.second f b c → Takes (of_component p.third) f c rest → Takes (three_tree p) f a rest
+run_taken p f a b c rest first second third =
+    part_taken p.first p.between.first _ f a b rest first
+    (part_taken p.second p.between.second _ f b c rest second (one_taken (of_component p.third) f c rest third))
 
 -- what a step shows, and then its literal
 pub step_taken : (t : Tree) (p : StepParts) (f : Facts) (text mid left : List ℕ) → AreSame t (parts_tree p)

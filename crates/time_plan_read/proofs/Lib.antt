@@ -1,4 +1,5 @@
 mod Bytes
+mod ClassLemmas
 mod Fronts
 mod KindLemmas
 mod LenientLemmas

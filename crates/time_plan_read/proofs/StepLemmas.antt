@@ -1,11 +1,12 @@
 -- Steps by their parts: what a step of a plan means, and what a component or a literal alone does.
-use Rattle.std.proofs.Common.{◌≡◌, ℕ, Bool, true, false, List, [], ◌∷◌, ◌++◌, Option, Some, None, refl, sym, subst, ap, ◌∙◌}
+use Rattle.std.proofs.Common.{◌≡◌, ℕ, Bool, true, false, List, [], ◌∷◌, ◌++◌, refl, sym, subst, ap, ◌∙◌}
 use Rattle.std.proofs.lemmas.List.{append-nil}
 use Rattle.time_below.specs.declared.format_description.component.Component.{Component}
 use Rattle.time_below.specs.Facts.{Facts}
 use Rattle.time_below.specs.Tree.{byte_literal, nothing, of_component}
 use Rattle.time_fmt.specs.Description.{tree_outcome}
-use Rattle.time_fmt.specs.Outcome.{Outcome, Refusal, done, join}
+use Rattle.time_fmt.specs.Outcome.{Outcome, done, join}
+use Rattle.time_plan.proofs.StepLemmas.{join_nothing, step_outcome}
 use Rattle.time_plan.specs.Literal.{literal_bytes, literal_tree}
 use Rattle.time_plan.specs.Shown.{shown_tree}
 use Rattle.time_plan.specs.Steps.{step_tree}
@@ -16,28 +17,6 @@ use Rattle.time_plan.specs.declared.step.Step.{Step}
 use Rattle.time_plan_read.specs.Lenient.{Spells, lower}
 use Rattle.time_plan_read.specs.Parts.{AreSame, parts_tree, ref_bytes}
 use Rattle.time_plan_read.specs.declared.any_step.StepParts.{StepParts}
-
-nothing_behind : (x : List ℕ) (r : Option Refusal)
-    → join (record { bytes = x; refusal = r }) (done []) ≡ record { bytes = x; refusal = r }
-nothing_behind x (Some r) = refl
-nothing_behind x None = ap (λ (bs : List ℕ). record { bytes = bs; refusal = None }) (append-nil x)
-
--- nothing changes an outcome behind it
-pub join_nothing : (a : Outcome) → join a (done []) ≡ a
-join_nothing a = nothing_behind a.bytes a.refusal
-
--- a literal gives its bytes, as a text or as bytes
-literal_outcome : (is_text : Bool) (bytes : List ℕ) (f : Facts) → tree_outcome (literal_tree is_text bytes) f ≡ done bytes
-literal_outcome true bytes f = refl
-literal_outcome false bytes f = refl
-
--- a step of a plan gives what it shows, and then its literal
-step_outcome : (s : Step) (f : Facts)
-    → tree_outcome (step_tree s) f ≡ join (tree_outcome (shown_tree s.shown) f) (done (literal_bytes s.literal))
-step_outcome s f =
-    ap (λ (o : Outcome). join (tree_outcome (shown_tree s.shown) f) o)
-    (ap (λ (o : Outcome). join o (done [])) (literal_outcome s.is_text (literal_bytes s.literal) f)
-    ∙ join_nothing (done (literal_bytes s.literal)))
 
 -- parts give what is shown, and then the literal
 pub parts_outcome : (p : StepParts) (f : Facts)

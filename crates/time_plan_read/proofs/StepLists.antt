@@ -1,5 +1,5 @@
 -- What is left of lists.
-use Rattle.std.proofs.Common.{◌≡◌, ◌∙◌, ℕ, Bool, true, false, ◌&&◌, ◌+◌, ◌-◌, ◌<◌, ◌≤◌, List, [], ◌∷◌, length, take, drop, sym, ap, refl, arith, get_or}
+use Rattle.std.proofs.Common.{◌≡◌, ◌∙◌, ℕ, Bool, true, false, ◌&&◌, ◌+◌, ◌-◌, ◌<◌, ◌≤◌, List, [], ◌∷◌, IfSome, Option, Some, None, length, take, drop, sym, ap, refl, arith, get_or}
 use Rattle.std.proofs.lemmas.List.{drop_more, take_all}
 
 -- the element at an index, and those behind it
@@ -24,3 +24,8 @@ no_step (s ∷ ss) few = let no : ⊥ = omega arith in absurd no
 pub both_true : (a b : Bool) → (a && b) ≡ true → (a ≡ true) × (b ≡ true)
 both_true true b is = (refl, is)
 both_true false b is = let no : ⊥ = cc in absurd no
+
+-- what holds of each value that may be there
+pub if_some : {A : Type 0} (P Q : A → Type 0) (o : Option A) → ((a : A) → P a → Q a) → IfSome o P → IfSome o Q
+if_some P Q (Some a) f is = f a is
+if_some P Q None f is = is

@@ -14,6 +14,7 @@ use Rattle.time_plan.specs.Literal.{literal_bytes}
 use Rattle.time_fmt.specs.Runs.{run_tree}
 use Rattle.time_plan.specs.Shown.{shown_tree}
 use Rattle.time_plan.specs.Steps.{step_tree, step_trees}
+use Rattle.time_fmt.specs.declared.runs.Run.{Run}
 use Rattle.time_fmt.specs.declared.runs.Run.TheVariants as run
 use Rattle.time_fmt.specs.declared.separators.Separators.{Separators}
 use Rattle.time_plan.specs.declared.shown.Shown.{Shown}
@@ -68,62 +69,96 @@ step_text t p f text same is =
     (sym (parts_outcome p f) ∙ sym (same.outcome f) ∙ is) in
     record { shown_is = both.first; text_is = both.text_is }
 
--- where what is shown ends, and the literal stands
-pub record IsReadStep (p : StepParts) (f : Facts) (text rest a : List ℕ) : Type 0 where
-  pub shown_is : tree_outcome (shown_tree p.shown) f ≡ done a
-  pub text_is : text ≡ a ++ (ref_bytes p.literal ++ rest)
-  pub long : length a ≤ length text
-  pub behind : drop (length a) text ≡ ref_bytes p.literal ++ rest
+-- a step, and what is behind it
+pub step_before : (t : Tree) (p : StepParts) (others : Trees) (f : Facts) (text a mid left : List ℕ) → AreSame t (parts_tree p)
+    → tree_outcome (shown_tree p.shown) f ≡ done a → text ≡ a ++ mid → mid ≡ ref_bytes p.literal ++ left
+    → trees_outcome others f ≡ done left → trees_outcome (more t others) f ≡ done text
+step_before t p others f text a mid left same shown_is text_is mid_is others_is =
+    ap (λ (o : Outcome). join o (trees_outcome others f)) (same.outcome f ∙ parts_outcome p f
+    ∙ ap (λ (o : Outcome). join o (done (ref_bytes p.literal))) shown_is)
+    ∙ ap (λ (o : Outcome). join (done (a ++ ref_bytes p.literal)) o) others_is
+    ∙ ap done (append_assoc a (ref_bytes p.literal) left ∙ ap (λ (it : List ℕ). a ++ it) (sym mid_is) ∙ sym text_is)
 
-pub is_read_step : (t : Tree) (p : StepParts) (f : Facts) (front rest text : List ℕ) → AreSame t (parts_tree p)
-    → tree_outcome t f ≡ done front → text ≡ front ++ rest
-    → IsReadStep p f text rest (tree_outcome (shown_tree p.shown) f).bytes
-is_read_step t p f front rest text same is text_is =
-    let a = (tree_outcome (shown_tree p.shown) f).bytes in
+-- what is left of a text behind what a step shows
+pub left_of_step : (t : Tree) (p : StepParts) (f : Facts) (front rest text a mid : List ℕ) → AreSame t (parts_tree p)
+    → tree_outcome t f ≡ done front → text ≡ front ++ rest → tree_outcome (shown_tree p.shown) f ≡ done a → text ≡ a ++ mid
+    → mid ≡ ref_bytes p.literal ++ rest
+left_of_step t p f front rest text a mid same is text_is shown_is begins =
+    let literal = ref_bytes p.literal in
+    let step = step_text t p f front same is in
+    let a_is = ap (λ (o : Outcome). o.bytes) shown_is in
+    let parts = text_is ∙ ap (λ (bs : List ℕ). bs ++ rest) step.text_is
+    ∙ append_assoc (tree_outcome (shown_tree p.shown) f).bytes literal rest
+    ∙ ap (λ (bs : List ℕ). bs ++ (literal ++ rest)) a_is in
+    sym (begins_by_all text a mid begins).2 ∙ (begins_by_all text a (literal ++ rest) parts).2
+
+-- what is shown of a value
+abbrev shown_bytes : Shown → Facts → List ℕ
+shown_bytes s f = (tree_outcome (shown_tree s) f).bytes
+
+-- where what is shown ends, and the literal stands
+pub record IsReadStep (s : Shown) (p : StepParts) (f : Facts) (text rest : List ℕ) : Type 0 where
+  pub shown_is : tree_outcome (shown_tree s) f ≡ done (shown_bytes s f)
+  pub text_is : text ≡ shown_bytes s f ++ (ref_bytes p.literal ++ rest)
+  pub long : length (shown_bytes s f) ≤ length text
+  pub behind : drop (length (shown_bytes s f)) text ≡ ref_bytes p.literal ++ rest
+
+pub is_read_step : (t : Tree) (s : Shown) (p : StepParts) (f : Facts) (front rest text : List ℕ) → AreSame t (parts_tree p)
+    → p.shown ≡ s → tree_outcome t f ≡ done front → text ≡ front ++ rest → IsReadStep s p f text rest
+is_read_step t s p f front rest text same one is text_is =
+    let a = shown_bytes p.shown f in
     let step = step_text t p f front same is in
     let parts = text_is ∙ ap (λ (bs : List ℕ). bs ++ rest) step.text_is ∙ append_assoc a (ref_bytes p.literal) rest in
     let begins = begins_by_all text a (ref_bytes p.literal ++ rest) parts in
-    record { shown_is = step.shown_is; text_is = parts; long = begins.0; behind = begins.2 }
+    subst (λ (s : Shown). IsReadStep s p f text rest) one
+    (record { shown_is = step.shown_is; text_is = parts; long = begins.0; behind = begins.2 })
+
+-- what is shown of a value is read
+abbrev pub ReadsShown : Shown → List ℕ → Fields → Fields → Option ℕ → Type 0
+ReadsShown s text old new read =
+    (f : Facts) (front rest : List ℕ) → AreReal f → HasFourDigits f → is_run s ≡ true
+    → tree_outcome (shown_tree s) f ≡ done front → text ≡ front ++ rest
+    → (read ≡ Some (length front)) × Sets s f old new
+
+pub shown_is_read : (t : Tree) (s : Shown) (p : StepParts) (f : Facts) (front rest text : List ℕ) (old new : Fields)
+    (read : Option ℕ) → AreSame t (parts_tree p) → p.shown ≡ s → is_run s ≡ true → AreReal f → HasFourDigits f
+    → tree_outcome t f ≡ done front → text ≡ front ++ rest → ReadsShown p.shown text old new read
+    → (read ≡ Some (length (shown_bytes s f))) × Sets s f old new
+shown_is_read t s p f front rest text old new read same one runs real four is text_is reads =
+    let step = is_read_step t s p f front rest text same one is text_is in
+    subst (λ (s : Shown). ReadsShown s text old new read) one reads f (shown_bytes s f) (ref_bytes p.literal ++ rest)
+    real four runs step.shown_is step.text_is
 
 -- ---- dates and times of day
 
-pub record IsTimeRun (f : Facts) (b : Separators) (text : List ℕ) : Type 0 where
-  pub there : is_some f.time ≡ true
-  pub text_is : text ≡ time_run b.first b.second (the_time f)
+-- the bytes of a date or a time of day that is complete
+abbrev run_bytes : Run → Facts → List ℕ
+run_bytes run.Empty f = []
+run_bytes (run.Date b) f = date_run b.first b.second (the_date f)
+run_bytes (run.Time b) f = time_run b.first b.second (the_time f)
 
--- a complete time of day
-time_of_part : (b : Separators) (f : Facts) (has : Bool) (text : List ℕ) → is_some f.time ≡ has
-    → tree_outcome (run_tree (run.Time b)) f ≡ done text → IsTimeRun f b text
-time_of_part b f true text has is = record {
-  there = has;
-  text_is = let e = rw has at is in sym (ap (λ (o : Outcome). o.bytes) e) ∙ grind (arith, append-nil, append_assoc);
-}
-time_of_part b f false text has is =
+-- whether a value has what a run shows
+abbrev has_run : Run → Facts → Bool
+has_run run.Empty f = true
+has_run (run.Date b) f = is_some f.date
+has_run (run.Time b) f = is_some f.time
+
+run_of_part : (r : Run) (f : Facts) (has : Bool) (text : List ℕ) → has_run r f ≡ has
+    → tree_outcome (run_tree r) f ≡ done text → text ≡ run_bytes r f
+run_of_part run.Empty f has text _ is = sym (ap (λ (o : Outcome). o.bytes) is)
+run_of_part (run.Date b) f true text has is =
+    let e = rw has at is in sym (ap (λ (o : Outcome). o.bytes) e) ∙ grind (arith, append-nil, append_assoc)
+run_of_part (run.Time b) f true text has is =
+    let e = rw has at is in sym (ap (λ (o : Outcome). o.bytes) e) ∙ grind (arith, append-nil, append_assoc)
+run_of_part (run.Date b) f false text has is =
+    let e = rw has at is in
+    let no : ⊥ = cc (ap (λ (o : Outcome). o.refusal) e) in absurd no
+run_of_part (run.Time b) f false text has is =
     let e = rw has at is in
     let no : ⊥ = cc (ap (λ (o : Outcome). o.refusal) e) in absurd no
 
-pub time_text : (b : Separators) (f : Facts) (text : List ℕ) → tree_outcome (run_tree (run.Time b)) f ≡ done text
-    → IsTimeRun f b text
-time_text b f text is = time_of_part b f (is_some f.time) text refl is
-
-pub record IsDateRun (f : Facts) (b : Separators) (text : List ℕ) : Type 0 where
-  pub there : is_some f.date ≡ true
-  pub text_is : text ≡ date_run b.first b.second (the_date f)
-
--- a complete date
-date_of_part : (b : Separators) (f : Facts) (has : Bool) (text : List ℕ) → is_some f.date ≡ has
-    → tree_outcome (run_tree (run.Date b)) f ≡ done text → IsDateRun f b text
-date_of_part b f true text has is = record {
-  there = has;
-  text_is = let e = rw has at is in sym (ap (λ (o : Outcome). o.bytes) e) ∙ grind (arith, append-nil, append_assoc);
-}
-date_of_part b f false text has is =
-    let e = rw has at is in
-    let no : ⊥ = cc (ap (λ (o : Outcome). o.refusal) e) in absurd no
-
-pub date_text : (b : Separators) (f : Facts) (text : List ℕ) → tree_outcome (run_tree (run.Date b)) f ≡ done text
-    → IsDateRun f b text
-date_text b f text is = date_of_part b f (is_some f.date) text refl is
+run_text : (r : Run) (f : Facts) (text : List ℕ) → tree_outcome (run_tree r) f ≡ done text → text ≡ run_bytes r f
+run_text r f text is = run_of_part r f (has_run r f) text refl is
 
 -- the month and the day of a real date have two digits
 pub record HasTwoDigits (d : DateFacts) : Type 0 where
@@ -149,11 +184,10 @@ pub time_is_read : (s : Shown) (b : Separators) (f : Facts) (front rest text : L
     → (read ≡ Some 8) × (new ≡ record old { hour_24 = t.hour; minute = t.minute; second = t.second }))
     → (read ≡ Some (length front)) × Sets s f old new
 time_is_read s b f front rest text old new read s_is real is text_is reads =
-    let run_is = time_text b f front (ap (λ (s : Shown). tree_outcome (shown_tree s) f) (sym s_is) ∙ is) in
-    let set = reads b.first b.second (the_time f) rest real.time
-    (text_is ∙ ap (λ (bs : List ℕ). bs ++ rest) run_is.text_is) in
+    let run_is = run_text (run.Time b) f front (ap (λ (s : Shown). tree_outcome (shown_tree s) f) (sym s_is) ∙ is) in
+    let set = reads b.first b.second (the_time f) rest real.time (text_is ∙ ap (λ (bs : List ℕ). bs ++ rest) run_is) in
     let long = length-time_run b.first b.second (the_time f) real.time in (
-      set.0 ∙ ap (λ (n : ℕ). Some n) (sym (ap length run_is.text_is ∙ long)),
+      set.0 ∙ ap (λ (n : ℕ). Some n) (sym (ap length run_is ∙ long)),
       subst (λ (s : Shown). Sets s f old new) (sym s_is) set.1,
     )
 
@@ -165,13 +199,13 @@ pub date_is_read : (s : Shown) (b : Separators) (f : Facts) (front rest text : L
     → (read ≡ Some 10) × (new ≡ record old { year = d.year; month = d.month; day = d.day }))
     → (read ≡ Some (length front)) × Sets s f old new
 date_is_read s b f front rest text old new read s_is real four is text_is reads =
-    let run_is = date_text b f front (ap (λ (s : Shown). tree_outcome (shown_tree s) f) (sym s_is) ∙ is) in
+    let run_is = run_text (run.Date b) f front (ap (λ (s : Shown). tree_outcome (shown_tree s) f) (sym s_is) ∙ is) in
     let two = two_digits_of_date f real in
     let year = unsigned_abs (the_date f).year in
     let set = reads b.first b.second year (the_date f) rest four.1 four.0 two.month two.day
-    (text_is ∙ ap (λ (bs : List ℕ). bs ++ rest) run_is.text_is) in
+    (text_is ∙ ap (λ (bs : List ℕ). bs ++ rest) run_is) in
     let long = length-date_run b.first b.second year (the_date f) four.1 four.0 two.month two.day in (
-      set.0 ∙ ap (λ (n : ℕ). Some n) (sym (ap length run_is.text_is ∙ long)),
+      set.0 ∙ ap (λ (n : ℕ). Some n) (sym (ap length run_is ∙ long)),
       subst (λ (s : Shown). Sets s f old new) (sym s_is) set.1,
     )
 
@@ -205,12 +239,12 @@ all_left all ts f front rest text x runs is text_is unset =
     }
 
 -- what the next step is read of
-pub record IsNext (s : Shown) (t : Tree) (ts : Trees) (f : Facts) (text rest : List ℕ) : Type 0 where
+record IsNext (s : Shown) (t : Tree) (ts : Trees) (f : Facts) (text rest : List ℕ) : Type 0 where
   pub runs : is_run s ≡ true
   pub step_is : tree_outcome t f ≡ done (tree_outcome t f).bytes
   pub text_is : text ≡ (tree_outcome t f).bytes ++ ((trees_outcome ts f).bytes ++ rest)
 
-pub next_text : (all left : List Shown) (s : Shown) (t : Tree) (ts : Trees) (f : Facts) (text rest : List ℕ) (x : Fields)
+next_text : (all left : List Shown) (s : Shown) (t : Tree) (ts : Trees) (f : Facts) (text rest : List ℕ) (x : Fields)
     → IsLeft all (s ∷ left) (more t ts) f text rest x → IsNext s t ts f text rest
 next_text all left s t ts f text rest x is =
     let both = are_both (tree_outcome t f) (trees_outcome ts f) (trees_outcome (more t ts) f).bytes is.complete_is in
@@ -267,7 +301,7 @@ set_by all left (shown.Run (run.Time between)) f x y set sets =
 set_by all left (shown.Component k) f x y set sets = absurd sets
 
 -- one step less is left
-pub left_behind : (all left : List Shown) (s : Shown) (t : Tree) (ts : Trees) (f : Facts) (text rest behind : List ℕ)
+left_behind : (all left : List Shown) (s : Shown) (t : Tree) (ts : Trees) (f : Facts) (text rest behind : List ℕ)
     (x y : Fields) → IsLeft all (s ∷ left) (more t ts) f text rest x → behind ≡ (trees_outcome ts f).bytes ++ rest
     → Sets s f x y → IsLeft all left ts f behind rest y
 left_behind all left s t ts f text rest behind x y is behind_is sets =
@@ -277,6 +311,30 @@ left_behind all left s t ts f text rest behind x y is behind_is sets =
       complete_is = both.second;
       text_is = behind_is;
       set = set_by all left s f x y is.set sets;
+    }
+
+-- the next step is read, and what it leaves is left of the others
+pub record IsStepRead (all left : List Shown) (ts : Trees) (f : Facts) (rest : List ℕ) (y : Fields)
+    (Leaves : List ℕ → Type 0) : Type 0 where
+  pub leaves : Leaves ((trees_outcome ts f).bytes ++ rest)
+  pub others : (behind : List ℕ) → behind ≡ (trees_outcome ts f).bytes ++ rest → IsLeft all left ts f behind rest y
+
+pub step_is_read : {T : Type 0} (shown_of : T → Shown) (tree_of : T → Tree) (all : List Shown) (steps others : List T) (s : T)
+    (f : Facts) (text rest : List ℕ) (x y : Fields) (Leaves : List ℕ → Type 0) → steps ≡ s ∷ others
+    → IsLeft all (map shown_of steps) (trees (map tree_of steps)) f text rest x
+    → ((front rest : List ℕ) → is_run (shown_of s) ≡ true → tree_outcome (tree_of s) f ≡ done front → text ≡ front ++ rest
+    → Leaves rest × Sets (shown_of s) f x y)
+    → IsStepRead all (map shown_of others) (trees (map tree_of others)) f rest y Leaves
+step_is_read {T} shown_of tree_of all steps others s f text rest x y Leaves next is reads =
+    let left = map shown_of others in
+    let ts = trees (map tree_of others) in
+    let here = subst (λ (ss : List T). IsLeft all (map shown_of ss) (trees (map tree_of ss)) f text rest x) next is in
+    let text_is = next_text all left (shown_of s) (tree_of s) ts f text rest x here in
+    let read = reads (tree_outcome (tree_of s) f).bytes ((trees_outcome ts f).bytes ++ rest) text_is.runs text_is.step_is
+    text_is.text_is in
+    record {
+      leaves = read.0;
+      others = λ behind behind_is. left_behind all left (shown_of s) (tree_of s) ts f text rest behind x y here behind_is read.1;
     }
 
 -- ---- two values with one date and one time of day up to the second

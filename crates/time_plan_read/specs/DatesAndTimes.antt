@@ -41,9 +41,13 @@ abbrev pub show_time : List Shown → Bool
 show_time [] = false
 show_time (s ∷ ss) = is_time s || show_time ss
 
+-- what some steps show
+abbrev pub shown_in : List Step → List Shown
+shown_in steps = map (λ (step : Step). step.shown) steps
+
 -- what the steps of a plan show
 abbrev pub shown_by : Plan → List Shown
-shown_by plan = map (λ (step : Step). step.shown) (steps_of plan)
+shown_by plan = shown_in (steps_of plan)
 
 -- Each step is a date, a time of day or nothing, before its literal. A date is shown where the values have one, and so
 -- is a time of day.

@@ -1,6 +1,7 @@
 -- What is left of a text that is read leniently.
 use Rattle.std.specs.Prelude.{◌≡◌, ℕ, List, [], ◌∷◌, ◌++◌}
 use Rattle.time_below.specs.Facts.{Facts}
+use Rattle.time_below.specs.declared.format_description.component.Component.{Component}
 use Rattle.time_below.specs.Tree.{Tree, all_of, end, more, of_component, text_literal}
 use Rattle.time_plan_read.specs.Lenient.{Spells}
 use Rattle.time_plan_read.specs.declared.left.Left.{Left}
@@ -15,6 +16,12 @@ pub record Takes (t : Tree) (f : Facts) (text left : List ℕ) : Type 0 where
   pub piece : List ℕ
   pub parts : text ≡ piece ++ left
   pub spelled : Spells t f piece
+
+-- the same of a component and the byte behind it
+pub record TakesPart (c : Component) (byte : ℕ) (f : Facts) (text left : List ℕ) : Type 0 where
+  pub mid : List ℕ
+  pub piece : Takes (of_component c) f text mid
+  pub byte_is : Takes (text_literal (byte ∷ [])) f mid left
 
 -- three components, and a byte between each two
 abbrev pub three_tree : Parts → Tree

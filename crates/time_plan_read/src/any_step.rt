@@ -51,7 +51,6 @@ impl ReadStep for Step {
 
     ghost shown_of = { λ _ step. step.shown };
 
-    #[inline(always)]
     #[tactic(auto, using(crate::proofs::StepLemmas::step_is_same))]
     fn parts<'a>(&'a self, _texts: &'a [u8]) -> StepParts<'a> {
         StepParts {
@@ -71,7 +70,6 @@ impl ReadStep for StepParts<'_> {
 }
 
 /// A literal of a plan.
-#[inline(always)]
 fn literal_of(literal: &Literal) -> LiteralRef<'_>
     ensures { ref_bytes result ≡ literal_bytes literal.now }
 {

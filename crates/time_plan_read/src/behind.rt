@@ -1,9 +1,76 @@
 //! What follows a component: how many digits of a run of digits are not its own.
+ghost use Rattle.std.specs.Prelude.{◌≡◌, ⊤};
+
 use crate::any_step::{LiteralRef, ReadStep};
 use crate::digits::{digits, sign};
+use std::alloc::AllocError;
+use std::clone::Clone;
 use time_below::format_description::Component;
 use time_below::format_description::modifier::{Padding, SubsecondDigits};
 use time_plan::{Run, Shown};
+
+/// How the texts of a component look.
+#[derive(Clone, Copy)]
+enum Shape {
+    /// A number in so many places.
+    Number(Padding, usize),
+    /// A number that may have a sign, and whether it has one in any case.
+    Signed(Padding, bool),
+    /// The same of as many digits as the value needs.
+    Open(bool),
+    /// Decimals of the second.
+    Decimals(SubsecondDigits),
+    /// Letters.
+    Letters,
+    /// There is no text.
+    Nothing,
+}
+
+/// How the texts of a component that is not deprecated look.
+fn shape_of(component: Component) -> Shape {
+    match component {
+        Component::Day(m) => Shape::Number(m.padding, 2),
+        Component::MonthNumerical(m) => Shape::Number(m.padding, 2),
+        Component::Ordinal(m) => Shape::Number(m.padding, 3),
+        Component::WeekNumberIso(m) => Shape::Number(m.padding, 2),
+        Component::WeekNumberSunday(m) => Shape::Number(m.padding, 2),
+        Component::WeekNumberMonday(m) => Shape::Number(m.padding, 2),
+        Component::CalendarYearLastTwo(m) => Shape::Number(m.padding, 2),
+        Component::IsoYearLastTwo(m) => Shape::Number(m.padding, 2),
+        Component::Hour12(m) => Shape::Number(m.padding, 2),
+        Component::Hour24(m) => Shape::Number(m.padding, 2),
+        Component::Minute(m) => Shape::Number(m.padding, 2),
+        Component::Second(m) => Shape::Number(m.padding, 2),
+        Component::OffsetMinute(m) => Shape::Number(m.padding, 2),
+        Component::OffsetSecond(m) => Shape::Number(m.padding, 2),
+        Component::WeekdaySunday(_) | Component::WeekdayMonday(_) => {
+            Shape::Number(Padding::Zero, 1)
+        }
+        Component::CalendarYearFullExtendedRange(m) => Shape::Open(m.sign_is_mandatory),
+        Component::CalendarYearFullStandardRange(m) => Shape::Signed(
+            m.padding,
+            m.sign_is_mandatory,
+        ),
+        Component::CalendarYearCenturyExtendedRange(m) => Shape::Open(m.sign_is_mandatory),
+        Component::CalendarYearCenturyStandardRange(m) => {
+            Shape::Signed(m.padding, m.sign_is_mandatory)
+        }
+        Component::IsoYearFullExtendedRange(m) => Shape::Open(m.sign_is_mandatory),
+        Component::IsoYearFullStandardRange(m) => Shape::Signed(m.padding, m.sign_is_mandatory),
+        Component::IsoYearCenturyExtendedRange(m) => Shape::Open(m.sign_is_mandatory),
+        Component::IsoYearCenturyStandardRange(m) => Shape::Signed(m.padding, m.sign_is_mandatory),
+        Component::OffsetHour(m) => Shape::Signed(m.padding, m.sign_is_mandatory),
+        Component::UnixTimestampSecond(m) => Shape::Open(m.sign_is_mandatory),
+        Component::UnixTimestampMillisecond(m) => Shape::Open(m.sign_is_mandatory),
+        Component::Subsecond(m) => Shape::Decimals(m.digits),
+        Component::MonthShort(_)
+        | Component::MonthLong(_)
+        | Component::WeekdayShort(_)
+        | Component::WeekdayLong(_)
+        | Component::Period(_) => Shape::Letters,
+        _ => Shape::Nothing,
+    }
+}
 
 /// How the texts of a component begin.
 #[derive(Clone, Copy)]
@@ -18,68 +85,35 @@ enum Front {
     Nothing,
 }
 
-/// How the texts of a number in so many places begin.
-fn front_of_number(padding: Padding, places: usize) -> Front {
-    match padding {
-        Padding::Zero => Front::Digits(places),
-        _ => Front::Open,
-    }
-}
-
-/// How the texts of a number with a sign begin.
-fn front_of_signed(sign_is_mandatory: bool) -> Front {
-    if sign_is_mandatory {
-        Front::NoDigit
-    } else {
-        Front::Open
-    }
-}
-
 /// How the texts of a component that is not deprecated begin.
 fn front_of(component: Component) -> Front {
-    match component {
-        Component::Day(m) => front_of_number(m.padding, 2),
-        Component::MonthNumerical(m) => front_of_number(m.padding, 2),
-        Component::Ordinal(m) => front_of_number(m.padding, 3),
-        Component::WeekNumberIso(m) => front_of_number(m.padding, 2),
-        Component::WeekNumberSunday(m) => front_of_number(m.padding, 2),
-        Component::WeekNumberMonday(m) => front_of_number(m.padding, 2),
-        Component::CalendarYearLastTwo(m) => front_of_number(m.padding, 2),
-        Component::IsoYearLastTwo(m) => front_of_number(m.padding, 2),
-        Component::Hour12(m) => front_of_number(m.padding, 2),
-        Component::Hour24(m) => front_of_number(m.padding, 2),
-        Component::Minute(m) => front_of_number(m.padding, 2),
-        Component::Second(m) => front_of_number(m.padding, 2),
-        Component::OffsetMinute(m) => front_of_number(m.padding, 2),
-        Component::OffsetSecond(m) => front_of_number(m.padding, 2),
-        Component::WeekdaySunday(_) | Component::WeekdayMonday(_) => Front::Digits(1),
-        Component::MonthShort(_)
-        | Component::MonthLong(_)
-        | Component::WeekdayShort(_)
-        | Component::WeekdayLong(_)
-        | Component::Period(_) => Front::NoDigit,
-        Component::Subsecond(m) => match fixed_decimals(m.digits) {
+    match shape_of(component) {
+        Shape::Number(Padding::Zero, places) => Front::Digits(places),
+        Shape::Number(_, _) | Shape::Signed(_, false) | Shape::Open(false) => Front::Open,
+        Shape::Signed(_, true) | Shape::Open(true) | Shape::Letters => Front::NoDigit,
+        Shape::Decimals(digits) => match fixed_decimals(digits) {
             Some(count) => Front::Digits(count),
             None => Front::Open,
         },
-        Component::CalendarYearFullExtendedRange(m) => front_of_signed(m.sign_is_mandatory),
-        Component::CalendarYearFullStandardRange(m) => front_of_signed(m.sign_is_mandatory),
-        Component::CalendarYearCenturyExtendedRange(m) => front_of_signed(m.sign_is_mandatory),
-        Component::CalendarYearCenturyStandardRange(m) => front_of_signed(m.sign_is_mandatory),
-        Component::IsoYearFullExtendedRange(m) => front_of_signed(m.sign_is_mandatory),
-        Component::IsoYearFullStandardRange(m) => front_of_signed(m.sign_is_mandatory),
-        Component::IsoYearCenturyExtendedRange(m) => front_of_signed(m.sign_is_mandatory),
-        Component::IsoYearCenturyStandardRange(m) => front_of_signed(m.sign_is_mandatory),
-        Component::OffsetHour(m) => front_of_signed(m.sign_is_mandatory),
-        Component::UnixTimestampSecond(m) => front_of_signed(m.sign_is_mandatory),
-        Component::UnixTimestampMillisecond(m) => front_of_signed(m.sign_is_mandatory),
-        _ => Front::Nothing,
+        Shape::Nothing => Front::Nothing,
+    }
+}
+
+/// Whether a component that is not deprecated ends by digits whose number depends on the value.
+fn is_open(component: Component) -> bool {
+    match shape_of(component) {
+        Shape::Number(padding, _) | Shape::Signed(padding, _) => match padding {
+            Padding::None => true,
+            _ => false,
+        },
+        Shape::Open(_) => true,
+        Shape::Decimals(digits) => fixed_decimals(digits).is_none(),
+        Shape::Letters | Shape::Nothing => false,
     }
 }
 
 /// Whether the digits of a component that is not deprecated are there, where it takes as many bytes
 /// in any case.
-#[cold]
 pub(crate) fn has_digits(component: Component, text: &[u8]) -> bool {
     let (_, width) = sign(text);
     match component {
@@ -101,7 +135,6 @@ pub(crate) fn has_digits(component: Component, text: &[u8]) -> bool {
 }
 
 /// How many decimals there are, where that does not depend on the value.
-#[inline]
 pub(crate) fn fixed_decimals(digits: SubsecondDigits) -> Option<usize> {
     match digits {
         SubsecondDigits::One => Some(1),
@@ -117,47 +150,6 @@ pub(crate) fn fixed_decimals(digits: SubsecondDigits) -> Option<usize> {
     }
 }
 
-/// Whether the number has all digits that it needs, and no more.
-fn is_bare(padding: Padding) -> bool {
-    match padding {
-        Padding::None => true,
-        _ => false,
-    }
-}
-
-/// Whether a component that is not deprecated ends by digits whose number depends on the value.
-fn is_open(component: Component) -> bool {
-    match component {
-        Component::Day(m) => is_bare(m.padding),
-        Component::MonthNumerical(m) => is_bare(m.padding),
-        Component::Ordinal(m) => is_bare(m.padding),
-        Component::WeekNumberIso(m) => is_bare(m.padding),
-        Component::WeekNumberSunday(m) => is_bare(m.padding),
-        Component::WeekNumberMonday(m) => is_bare(m.padding),
-        Component::CalendarYearLastTwo(m) => is_bare(m.padding),
-        Component::IsoYearLastTwo(m) => is_bare(m.padding),
-        Component::Hour12(m) => is_bare(m.padding),
-        Component::Hour24(m) => is_bare(m.padding),
-        Component::Minute(m) => is_bare(m.padding),
-        Component::Second(m) => is_bare(m.padding),
-        Component::OffsetHour(m) => is_bare(m.padding),
-        Component::OffsetMinute(m) => is_bare(m.padding),
-        Component::OffsetSecond(m) => is_bare(m.padding),
-        Component::Subsecond(m) => fixed_decimals(m.digits).is_none(),
-        Component::CalendarYearFullStandardRange(m) => is_bare(m.padding),
-        Component::CalendarYearCenturyStandardRange(m) => is_bare(m.padding),
-        Component::IsoYearFullStandardRange(m) => is_bare(m.padding),
-        Component::IsoYearCenturyStandardRange(m) => is_bare(m.padding),
-        Component::CalendarYearFullExtendedRange(_)
-        | Component::CalendarYearCenturyExtendedRange(_)
-        | Component::IsoYearFullExtendedRange(_)
-        | Component::IsoYearCenturyExtendedRange(_)
-        | Component::UnixTimestampSecond(_)
-        | Component::UnixTimestampMillisecond(_) => true,
-        _ => false,
-    }
-}
-
 /// The first byte of a literal.
 fn first_byte(literal: LiteralRef<'_>) -> Option<u8> {
     match literal {
@@ -167,24 +159,52 @@ fn first_byte(literal: LiteralRef<'_>) -> Option<u8> {
     }
 }
 
-/// How many digits follow what a step shows at once, unless that depends on the value.
-#[inline]
-pub(crate) fn digits_behind<T: ReadStep>(step: &T, others: &[T], texts: &[u8]) -> Option<usize> {
-    match first_byte(step.parts(texts).literal) {
-        Some(byte) if byte.is_ascii_digit() => None,
-        Some(_) => Some(0),
-        None => digits_of(others, texts),
+/// How many digits follow a component at once before a byte, unless that depends on the value.
+pub(crate) fn digits_before(byte: u8) -> Option<usize> {
+    if byte.is_ascii_digit() { None } else { Some(0) }
+}
+
+/// A step, those behind it, and what their literals may lie in.
+#[derive_where(Copy)]
+pub(crate) struct StepsFrom<'a, T> {
+    pub(crate) step: &'a T,
+    pub(crate) others: &'a [T],
+    pub(crate) texts: &'a [u8],
+}
+
+impl<T> Clone for StepsFrom<'_, T> {
+    ghost is_clone = { λ steps copy. copy ≡ steps };
+
+    ghost is_infallible = { λ _. ⊤ };
+
+    fn clone(&self) -> Result<Self, AllocError> {
+        Ok(*self)
     }
 }
 
-/// How many digits of a run of digits belong to what follows the text of a step.
-#[inline]
-pub(crate) fn digits_left<T: ReadStep>(step: &T, others: &[T], texts: &[u8]) -> usize {
-    digits_behind(step, others, texts).unwrap_or(0)
+impl<T: ReadStep> StepsFrom<'_, T> {
+    /// How many digits follow what the step shows at once, unless that depends on the value.
+    pub(crate) fn digits_behind(self) -> Option<usize> {
+        match first_byte(self.step.parts(self.texts).literal) {
+            Some(byte) => digits_before(byte),
+            None => digits_of(self.others, self.texts),
+        }
+    }
+
+    /// Whether the step ends by digits whose number depends on the value, and it is not told where
+    /// they end.
+    pub(crate) fn are_ambiguous(self) -> bool {
+        match self.step.parts(self.texts).shown {
+            Shown::Component(component) => {
+                is_open(component.current()) && self.digits_behind().is_none()
+            }
+            Shown::Run(Run::Date(between)) => between.first.is_ascii_digit(),
+            Shown::Run(_) => false,
+        }
+    }
 }
 
 /// How many digits the steps begin with, unless that depends on the value.
-#[cold]
 fn digits_of<T: ReadStep>(steps: &[T], texts: &[u8]) -> Option<usize> {
     let mut sum = 0usize;
     for step in steps {
@@ -216,16 +236,4 @@ fn digits_of<T: ReadStep>(steps: &[T], texts: &[u8]) -> Option<usize> {
         }
     }
     Some(sum)
-}
-
-/// Whether a step ends by digits whose number depends on the value, and it is not told where they
-/// end.
-pub(crate) fn is_ambiguous<T: ReadStep>(step: &T, others: &[T], texts: &[u8]) -> bool {
-    match step.parts(texts).shown {
-        Shown::Component(component) => {
-            is_open(component.current()) && digits_behind(step, others, texts).is_none()
-        }
-        Shown::Run(Run::Date(between)) => { between.first.is_ascii_digit() }
-        _ => false,
-    }
 }

@@ -2,6 +2,7 @@
 ghost use Rattle.std.specs.Prelude.{◌≤◌, length};
 
 use crate::any_step::ReadStep;
+use crate::behind::StepsFrom;
 use crate::fault::{NotRead, Reason, Stop, not_read};
 use crate::fields::Fields;
 use crate::kinds::{Kinds, kind_of, shown_by};
@@ -12,8 +13,6 @@ use time_plan::Shown;
 
 /// The fault of a text whose numbers no value has: the first number that is out of its own range,
 /// or the one that picks no date of its year.
-#[cold]
-#[inline(never)]
 pub(crate) fn no_value<T: ReadStep>(
     steps: &[T],
     texts: &[u8],
@@ -30,7 +29,12 @@ pub(crate) fn no_value<T: ReadStep>(
         if let Some(stop) = place_in(&step.parts(texts).shown, left, kind) {
             return not_read(text, stop);
         }
-        match checked_step(step, others, texts, left, &mut unused) {
+        let here = StepsFrom {
+            step,
+            others,
+            texts,
+        };
+        match checked_step(here, left, &mut unused) {
             Ok(rest) => left = rest,
             Err(_) => break 'steps,
         }

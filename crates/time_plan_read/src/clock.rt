@@ -9,7 +9,6 @@ use crate::kinds::Kinds;
 use time_below::Time;
 
 /// The hour of numbers.
-#[inline(always)]
 #[tactic(auto, using(crate::proofs::KindLemmas::have_hour))]
 fn hour_of(fields: &Fields, kinds: Kinds) -> u8
     ensures { Have kinds.0 of_time → result ≡ fields.now.hour_24 }
@@ -22,7 +21,6 @@ fn hour_of(fields: &Fields, kinds: Kinds) -> u8
 }
 
 /// The time of day of numbers.
-#[inline(always)]
 pub(crate) fn time_of(fields: &Fields, kinds: Kinds) -> Option<Time>
     ensures { (t : TimeOfDay) → IsTimeOfDay t → Have kinds.0 of_time → fields.now.hour_24 ≡ t.hour
         → fields.now.minute ≡ t.minute → fields.now.second ≡ t.second

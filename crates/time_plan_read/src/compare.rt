@@ -43,8 +43,10 @@ fn whole_difference<V: ComponentProvider>(steps: &[Step], text: &[u8], value: &V
 where
     V::State: Drop,
     requires room { trees_width (step_trees steps.now) ≤ ROOM }
-    ensures same { IfNone result (trees_outcome (step_trees steps.now) (V.facts value.now) ≡ done text.now) }
-    ensures other { trees_outcome (step_trees steps.now) (V.facts value.now) ≡ done text.now → IsNone result }
+    ensures same { IfNone result (trees_outcome (step_trees steps.now) (V.facts value.now)
+        ≡ done text.now) }
+    ensures other { trees_outcome (step_trees steps.now) (V.facts value.now) ≡ done text.now
+        → IsNone result }
 {
     let mut room = [0u8; ROOM];
     let Some(count) = written::<Brand, V>(steps, &mut room, value) else {
@@ -72,7 +74,8 @@ where
     ensures text { IfSome result (λ count. trees_outcome (step_trees steps.now) (V.facts value.now)
         ≡ done (take count room.new)) }
     ensures within { IfSome result (λ count. count ≤ length room.new) }
-    ensures whole { (text : List ℕ) → trees_outcome (step_trees steps.now) (V.facts value.now) ≡ done text
+    ensures whole { (text : List ℕ) → trees_outcome (step_trees steps.now) (V.facts value.now)
+        ≡ done text
         → IsSome result }
 {
     let mut state = V::State::default();
@@ -96,10 +99,12 @@ pub(crate) fn stepwise_difference<T: ReadStep, V: ComponentProvider>(
 ) -> Option<usize>
 where
     V::State: Drop,
-    ensures same { IfNone result (trees_outcome (trees (map (T.tree_of texts.now) steps.now)) (V.facts value.now)
+    ensures same { IfNone result (trees_outcome (trees (map (T.tree_of texts.now) steps.now))
+        (V.facts value.now)
         ≡ done text.now) }
     ensures other { are_runs (map (T.shown_of texts.now) steps.now) ≡ true
-        → trees_outcome (trees (map (T.tree_of texts.now) steps.now)) (V.facts value.now) ≡ done text.now
+        → trees_outcome (trees (map (T.tree_of texts.now) steps.now)) (V.facts value.now)
+        ≡ done text.now
         → IsNone result }
 {
     let mut state = V::State::default();
@@ -127,8 +132,10 @@ fn behind_step<'a, T: ReadStep, V: ComponentProvider>(
 ) -> Option<&'a [u8]>
     requires agrees { V.agrees state.old value.now }
     ensures agrees { V.agrees state.new value.now }
-    ensures behind { IfSome result (λ rest. (others : Trees) → trees_outcome others (V.facts value.now) ≡ done rest.now
-        → trees_outcome (more (T.tree_of texts.now step.now) others) (V.facts value.now) ≡ done text.now) }
+    ensures behind { IfSome result (λ rest. (others : Trees)
+        → trees_outcome others (V.facts value.now) ≡ done rest.now
+        → trees_outcome (more (T.tree_of texts.now step.now) others) (V.facts value.now)
+        ≡ done text.now) }
     ensures reads { (front rest : List ℕ) → is_run (T.shown_of texts.now step.now) ≡ true
         → tree_outcome (T.tree_of texts.now step.now) (V.facts value.now) ≡ done front
         → text.now ≡ front ++ rest → IsSomeAnd result (λ left. left.now ≡ rest) }
@@ -168,7 +175,6 @@ pub(crate) fn shown_in_room<B: Before, V: ComponentProvider>(
 }
 
 /// How many bytes two texts have in common at the front.
-#[cold]
 fn same_bytes(own: &[u8], text: &[u8]) -> usize {
     let mut count = 0usize;
     for (a, b) in own.iter().zip(text) {

@@ -61,12 +61,10 @@ impl Described for Plan {
 
     ghost shown = { shown_by };
 
-    #[inline(always)]
     fn steps(&self) -> &[Step] {
         self.steps()
     }
 
-    #[inline(always)]
     fn texts(&self) -> &[u8] {
         &[]
     }

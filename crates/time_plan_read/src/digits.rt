@@ -4,7 +4,6 @@ ghost use Rattle.std.specs.Prelude.{◌≡◌, ◌≤◌, ◌<◌, ◌+◌, ◌/
 use time_below::format_description::modifier::Padding;
 
 /// The number of two digits, and some number of other bytes.
-#[inline(always)]
 pub(crate) fn two(tens: u8, units: u8) -> u8
     ensures reads { (n : ℕ) → n < 100 → tens ≡ 48 + n / 10 → units ≡ 48 + n % 10 → result ≡ n }
 {
@@ -13,7 +12,6 @@ pub(crate) fn two(tens: u8, units: u8) -> u8
 }
 
 /// The number of four digits, and some number of other bytes.
-#[inline(always)]
 pub(crate) fn four(a: u8, b: u8, c: u8, d: u8) -> i32
     ensures reads { (n : ℕ) → n ≤ 9_999 → a ≡ 48 + n / 1000 → b ≡ 48 + n / 100 % 10
         → c ≡ 48 + n / 10 % 10 → d ≡ 48 + n % 10 → result ≡ pos n }
@@ -47,7 +45,6 @@ fn digits_at_front(text: &[u8]) -> usize {
 
 /// The number of from so many digits to so many, and how many there are: all but those that belong
 /// to what follows.
-#[inline(never)]
 pub(crate) fn some_digits(
     text: &[u8],
     least: usize,
@@ -75,7 +72,6 @@ fn spaces(text: &[u8], places: usize) -> usize {
 
 /// A number in so many places, of at most so many digits, and how many bytes it has. So many digits
 /// belong to what follows.
-#[inline(never)]
 pub(crate) fn padded(
     text: &[u8],
     padding: Padding,
@@ -104,7 +100,6 @@ pub(crate) fn padded(
 }
 
 /// A sign, if there is one: whether it is a minus, and how many bytes it has.
-#[inline(always)]
 pub(crate) fn sign(text: &[u8]) -> (Option<bool>, usize) {
     match text {
         [b'-', ..] => (Some(true), 1),

@@ -55,8 +55,6 @@ pub(crate) struct Stop {
 }
 
 /// The fault of a text by the bytes that are left.
-#[cold]
-#[inline(never)]
 pub(crate) fn not_read(text: &[u8], stop: Stop) -> NotRead
     ensures { result.at ≤ length text.now }
 {

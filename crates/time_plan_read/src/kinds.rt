@@ -73,7 +73,6 @@ impl Kinds {
     const ANY_TIME: Kinds = Kinds(0x7_e000);
 
     /// Whether all of the others are there.
-    #[inline(always)]
     pub(crate) fn have(self, others: Kinds) -> bool
         ensures { IsTrue result ↔ (bit_and self.0 others.0 ≡ others.0) }
     {
@@ -86,7 +85,6 @@ impl Kinds {
     }
 
     /// Both together.
-    #[inline(always)]
     pub(crate) fn and(self, others: Kinds) -> Kinds
         ensures { result.0 ≡ bit_or self.0 others.0 }
     {
@@ -94,19 +92,16 @@ impl Kinds {
     }
 
     /// Whether the year is determined.
-    #[inline(always)]
     pub(crate) fn have_year(self) -> bool {
         self.have(Kinds::YEAR) || self.have(Kinds::CENTURY.and(Kinds::LAST_TWO))
     }
 
     /// Whether the year of the week calendar is determined.
-    #[inline(always)]
     pub(crate) fn have_iso_year(self) -> bool {
         self.have(Kinds::ISO_YEAR) || self.have(Kinds::ISO_CENTURY.and(Kinds::ISO_LAST_TWO))
     }
 
     /// Whether the date is determined by its own components.
-    #[inline(always)]
     pub(crate) fn have_date(self) -> bool {
         let has_weeks = self.have(Kinds::SUNDAY_WEEK) || self.have(Kinds::MONDAY_WEEK);
         let is_weekday = self.have(Kinds::WEEKDAY);
@@ -119,7 +114,6 @@ impl Kinds {
 
     /// Whether the time of day is determined by its own components: those behind the last one that
     /// is shown are zero.
-    #[inline(always)]
     pub(crate) fn have_time(self) -> bool {
         let has_hour = self.have(Kinds::HOUR24) || self.have(Kinds::HOUR12.and(Kinds::PERIOD));
         let is_whole = (self.have(Kinds::MINUTE) || !self.have(Kinds::SECOND))
@@ -128,14 +122,12 @@ impl Kinds {
     }
 
     /// Whether the offset is determined.
-    #[inline(always)]
     pub(crate) fn have_offset(self) -> bool {
         self.have(Kinds::OFFSET_HOUR)
             && (self.have(Kinds::OFFSET_MINUTE) || !self.have(Kinds::OFFSET_SECOND))
     }
 
     /// Whether the moment is determined by itself.
-    #[inline(always)]
     #[tactic(auto, using(crate::proofs::KindLemmas::no_seconds, crate::proofs::KindLemmas::no_milliseconds))]
     pub(crate) fn have_moment(self) -> bool
         ensures { bit_and self.0 of_moment ≡ 0 → result ≡ false }

@@ -5,6 +5,7 @@ ghost use Rattle.time_plan_read.specs.Left.{left_bytes};
 ghost use Rattle.time_plan_read.specs.Lenient.{BeginsByZ, HasZero, IsRead, SpellsAll};
 
 use crate::any_step::ReadStep;
+use crate::behind::StepsFrom;
 use crate::blame::blamed;
 use crate::fault::{NotRead, Reason, Stop, not_read};
 use crate::fields::Fields;
@@ -45,7 +46,12 @@ fn read_loose_steps<'a, T: ReadStep>(
     let mut others = steps;
     for step in steps {
         others = behind_first(others);
-        match read_step_loosely(step, others, texts, left, fields, blamed) {
+        let here = StepsFrom {
+            step,
+            others,
+            texts,
+        };
+        match read_step_loosely(here, left, fields, blamed) {
             Ok(rest) => left = rest,
             Err(stop) => return Err(stop),
         }
@@ -85,7 +91,8 @@ impl<T: ReadStep, V: Readable> LenientReader<'_, T, V> {
         V::State: Drop,
         V: Drop,
         ensures written { IfOk result (λ value.
-            IsRead (trees (map (T.tree_of self.now.texts.now) self.now.steps.now)) (V.facts value) text.now) }
+            IsRead (trees (map (T.tree_of self.now.texts.now) self.now.steps.now))
+            (V.facts value) text.now) }
         ensures inside { IfErr result (λ fault. fault.at ≤ length text.now) }
     {
         let stop = match self.value_of(Left::of(text)) {
@@ -109,7 +116,8 @@ impl<T: ReadStep, V: Readable> LenientReader<'_, T, V> {
         V::State: Drop,
         V: Drop,
         ensures { IfOk result (λ value. HasZero
-            (trees (map (T.tree_of self.now.texts.now) self.now.steps.now)) (V.facts value) front.now rest.now) }
+            (trees (map (T.tree_of self.now.texts.now) self.now.steps.now))
+            (V.facts value) front.now rest.now) }
     {
         let zero: &[u8] = b"+00:00";
         let with_colon = match self.value_of(Left { front, zero, rest }) {
@@ -136,7 +144,8 @@ impl<T: ReadStep, V: Readable> LenientReader<'_, T, V> {
         V::State: Drop,
         V: Drop,
         ensures { IfOk result (λ value.
-            SpellsAll (trees (map (T.tree_of self.now.texts.now) self.now.steps.now)) (V.facts value)
+            SpellsAll (trees (map (T.tree_of self.now.texts.now) self.now.steps.now))
+            (V.facts value)
             (left_bytes text.entry)) }
     {
         let mut fields = self.reading.base;
@@ -163,7 +172,6 @@ impl<T: ReadStep, V: Readable> LenientReader<'_, T, V> {
     }
 
     /// Where the number begins that is that of no value.
-    #[cold]
     fn stop_of_fields(&self, text: Left<'_>, fields: &Fields) -> Stop {
         let kind = blamed(fields, shown_by(self.steps, self.texts));
         let mut unused = Fields::default();

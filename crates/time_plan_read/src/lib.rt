@@ -10,6 +10,7 @@ mod behind;
 mod blame;
 mod clock;
 mod compare;
+mod complete;
 mod components;
 mod dates;
 mod described;

@@ -2,8 +2,7 @@
 //!
 //! What is read here is compared later: whatever a function of this file answers, a text is read
 //! only where its pieces are like those of the value.
-use crate::any_step::ReadStep;
-use crate::behind::{digits_behind, has_digits};
+use crate::behind::has_digits;
 use crate::components::read_component;
 use crate::fields::Fields;
 use crate::names::{half_day, month_long, month_short, weekday_long, weekday_short};
@@ -94,13 +93,12 @@ fn spaces(text: &[u8]) -> usize {
     count
 }
 
-/// Reads a component leniently, and returns how many bytes its piece has. A number before other
-/// digits is read as it is written, since nothing else tells where it ends.
-pub(crate) fn read_loosely<T: ReadStep>(
+/// Reads a component leniently, and returns how many bytes its piece has. So many digits follow it
+/// at once. A number before other digits is read as it is written, since nothing else tells where
+/// it ends.
+pub(crate) fn read_loosely(
     component: Component,
-    step: &T,
-    others: &[T],
-    texts: &[u8],
+    behind: Option<usize>,
     text: &[u8],
     fields: &mut Fields,
 ) -> Option<usize> {
@@ -108,31 +106,22 @@ pub(crate) fn read_loosely<T: ReadStep>(
     if let Some(count) = read_name(component, text, fields) {
         return Some(count);
     }
-    if let Some(count) = read_bare(component, step, others, texts, text, fields) {
-        return Some(count);
+    if behind == Some(0) {
+        if let Some(count) = read_bare(component, text, fields) {
+            return Some(count);
+        }
     }
     if !has_digits(component, text) {
         return None;
     }
-    read_component(component, step, others, texts, text, fields)
+    read_component(component, behind.unwrap_or(0), text, fields)
 }
 
-/// Reads a number with no zeros or with spaces in their place, if no digits stand behind it, and
-/// returns how many bytes its piece has.
-fn read_bare<T: ReadStep>(
-    component: Component,
-    step: &T,
-    others: &[T],
-    texts: &[u8],
-    text: &[u8],
-    fields: &mut Fields,
-) -> Option<usize> {
+/// Reads a number with no zeros or with spaces in their place, and returns how many bytes its piece
+/// has.
+fn read_bare(component: Component, text: &[u8], fields: &mut Fields) -> Option<usize> {
     let bare = unpadded(component)?;
-    if digits_behind(step, others, texts) != Some(0) {
-        return None;
-    }
     let count = spaces(text);
-    let behind = text.get(count..)?;
-    let digits = read_component(bare, step, others, texts, behind, fields)?;
+    let digits = read_component(bare, 0, text.get(count..)?, fields)?;
     Some(digits.saturating_add(count))
 }

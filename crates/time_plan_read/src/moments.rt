@@ -9,7 +9,6 @@ use std::convert::TryFrom;
 use time_below::{Timestamp, UtcOffset};
 
 /// The offset of numbers.
-#[inline(always)]
 pub(crate) fn offset_of(fields: &Fields) -> Option<UtcOffset>
     ensures { fields.now.offset_hour ≤ 25 → fields.now.offset_minute ≤ 59
         → fields.now.offset_second ≤ 59 → IsSome result }
@@ -34,7 +33,6 @@ pub(crate) fn offset_of(fields: &Fields) -> Option<UtcOffset>
 }
 
 /// The moment of numbers.
-#[inline(never)]
 pub(crate) fn moment_of(fields: &Fields, kinds: Kinds) -> Option<Timestamp> {
     if kinds.have(Kinds::UNIX_SECOND) {
         let nanosecond = if kinds.have(Kinds::DECIMALS) {

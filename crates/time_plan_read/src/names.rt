@@ -5,7 +5,6 @@ ghost use Rattle.time_plan_read.specs.Parts.{ref_bytes};
 use crate::any_step::LiteralRef;
 
 /// What follows a byte.
-#[inline(always)]
 #[tactic(auto, using(crate::proofs::Fronts::first_and_rest, crate::proofs::Fronts::begins_by))]
 pub(crate) fn after(text: &[u8], byte: u8) -> Option<&[u8]>
     ensures behind { IfSome result (λ rest. text.now ≡ byte ∷ rest.now) }
@@ -21,7 +20,6 @@ pub(crate) fn after(text: &[u8], byte: u8) -> Option<&[u8]>
 }
 
 /// What follows so many bytes.
-#[inline(always)]
 pub(crate) fn behind(text: &[u8], count: usize) -> Option<&[u8]>
     ensures { count ≤ length text.now → IsSomeAnd result (λ rest. rest.now ≡ drop count text.now) }
 {
@@ -32,7 +30,6 @@ pub(crate) fn behind(text: &[u8], count: usize) -> Option<&[u8]>
 }
 
 /// What follows these bytes.
-#[inline]
 #[tactic(auto, using(crate::proofs::Fronts::begins_by_all))]
 pub(crate) fn after_all<'a>(text: &'a [u8], bytes: &[u8]) -> Option<&'a [u8]>
     ensures behind { IfSome result (λ rest. text.now ≡ bytes.now ++ rest.now) }

@@ -3,12 +3,13 @@ ghost use Rattle.std.specs.Prelude.{◌≡◌, IfNone, IfSome, map};
 ghost use Rattle.time_below.specs.Facts.{Facts};
 ghost use Rattle.time_below.specs.Tree.{Trees, more, of_component, text_literal, trees};
 ghost use Rattle.time_plan.specs.Shown.{shown_tree};
-ghost use Rattle.time_plan_read.specs.Left.{Takes, left_bytes, three_tree};
+ghost use Rattle.time_plan_read.specs.Left.{Takes, TakesPart, left_bytes, three_tree};
 ghost use Rattle.time_plan_read.specs.Lenient.{SpellsAll};
 ghost use Rattle.time_plan_read.specs.Parts.{ref_bytes};
 
 use crate::alike::are_alike;
-use crate::any_step::{LiteralRef, ReadStep, StepParts};
+use crate::any_step::{LiteralRef, ReadStep};
+use crate::behind::{StepsFrom, digits_before};
 use crate::compare::shown_in_room;
 use crate::fault::{Reason, Stop};
 use crate::fields::Fields;
@@ -25,11 +26,9 @@ use time_plan::Shown;
 
 /// Reads a component leniently into the fields, and returns what is left behind its piece. One of a
 /// kind that is blamed is where it stops.
-fn read_piece<'a, T: ReadStep>(
+fn read_piece<'a>(
     component: Component,
-    step: &T,
-    others: &[T],
-    texts: &[u8],
+    behind: Option<usize>,
     left: Left<'a>,
     fields: &mut Fields,
     blamed: Option<Kinds>,
@@ -40,7 +39,7 @@ fn read_piece<'a, T: ReadStep>(
             reason: Reason::NoValue(component),
         });
     }
-    let read = read_loosely(component, step, others, texts, left.front, fields);
+    let read = read_loosely(component, behind, left.front, fields);
     match read.and_then(|count| left.split(count)) {
         Some((_, rest)) => Ok(rest),
         None => Err(Stop {
@@ -82,14 +81,6 @@ fn read_letters<'a>(literal: LiteralRef<'_>, left: Left<'a>) -> Result<Left<'a>,
     }
 }
 
-/// A component of a run and the byte behind it, as a step.
-fn part_of(component: Component, byte: u8) -> StepParts<'static> {
-    StepParts {
-        shown: Shown::Component(component),
-        literal: LiteralRef::Byte(byte),
-    }
-}
-
 /// Reads a component and the byte behind it.
 fn read_part<'a>(
     component: Component,
@@ -98,19 +89,16 @@ fn read_part<'a>(
     fields: &mut Fields,
     blamed: Option<Kinds>,
 ) -> Result<Left<'a>, Stop> {
-    let step = part_of(component, byte);
-    match read_piece(component, &step, &[], &[], left, fields, blamed) {
-        Ok(rest) => read_letters(step.literal, rest),
+    match read_piece(component, digits_before(byte), left, fields, blamed) {
+        Ok(rest) => read_letters(LiteralRef::Byte(byte), rest),
         Err(stop) => Err(stop),
     }
 }
 
-/// Reads a run of components, of which the last one is the step's.
-fn read_run<'a, T: ReadStep>(
+/// Reads a run of components. So many digits follow the last one at once.
+fn read_run<'a>(
     run: Parts<'_>,
-    step: &T,
-    others: &[T],
-    texts: &[u8],
+    behind: Option<usize>,
     left: Left<'a>,
     fields: &mut Fields,
     blamed: Option<Kinds>,
@@ -120,7 +108,7 @@ fn read_run<'a, T: ReadStep>(
         Err(stop) => return Err(stop),
     };
     match read_part(run.second, run.between.second, second, fields, blamed) {
-        Ok(third) => read_piece(run.third, step, others, texts, third, fields, blamed),
+        Ok(third) => read_piece(run.third, behind, third, fields, blamed),
         Err(stop) => Err(stop),
     }
 }
@@ -128,20 +116,17 @@ fn read_run<'a, T: ReadStep>(
 /// Reads a step leniently into the fields, and returns what is left behind it, or where the text is
 /// none of it.
 pub(crate) fn read_step_loosely<'a, T: ReadStep>(
-    step: &T,
-    others: &[T],
-    texts: &[u8],
+    steps: StepsFrom<'_, T>,
     left: Left<'a>,
     fields: &mut Fields,
     blamed: Option<Kinds>,
 ) -> Result<Left<'a>, Stop> {
-    let parts = step.parts(texts);
+    let parts = steps.step.parts(steps.texts);
+    let behind = steps.digits_behind();
     let read = match parts.shown {
-        Shown::Component(component) => read_piece(
-            component, step, others, texts, left, fields, blamed,
-        ),
+        Shown::Component(component) => read_piece(component, behind, left, fields, blamed),
         Shown::Run(run) => match parts_of(run, &[]) {
-            Some(run) => read_run(run, step, others, texts, left, fields, blamed),
+            Some(run) => read_run(run, behind, left, fields, blamed),
             None => Ok(left),
         },
     };
@@ -155,11 +140,9 @@ pub(crate) fn read_step_loosely<'a, T: ReadStep>(
 const ROOM: usize = 32;
 
 /// What is left behind the piece of a component, if it is like what is written of a value.
-fn behind_piece<'a, T: ReadStep, V: ComponentProvider>(
+fn behind_piece<'a, V: ComponentProvider>(
     component: Component,
-    step: &T,
-    others: &[T],
-    texts: &[u8],
+    behind: Option<usize>,
     left: Left<'a>,
     value: &V,
     state: &mut V::State,
@@ -172,7 +155,7 @@ fn behind_piece<'a, T: ReadStep, V: ComponentProvider>(
     let mut room = [0u8; ROOM];
     let own = shown_in_room::<Brand, V>(&Shown::Component(component), &mut room, value, state)?;
     let mut unused = Fields::default();
-    let count = read_loosely(component, step, others, texts, left.front, &mut unused)?;
+    let count = read_loosely(component, behind, left.front, &mut unused)?;
     let (piece, rest) = left.split(count)?;
     if are_alike(component.current(), &room[..own], piece) {
         Some(rest)
@@ -181,12 +164,31 @@ fn behind_piece<'a, T: ReadStep, V: ComponentProvider>(
     }
 }
 
-/// What is left behind a run of components, of which the last one is the step's.
-fn behind_run<'a, T: ReadStep, V: ComponentProvider>(
+/// What is left behind a component and the byte behind it, if they are like what is written of a
+/// value.
+fn behind_part<'a, V: ComponentProvider>(
+    component: Component,
+    byte: u8,
+    left: Left<'a>,
+    value: &V,
+    state: &mut V::State,
+) -> Option<Left<'a>>
+    requires agrees { V.agrees state.old value.now }
+    ensures agrees { V.agrees state.new value.now }
+    ensures takes { IfSome result (λ rest. TakesPart component byte (V.facts value.now)
+        (left_bytes left.entry) (left_bytes rest)) }
+{
+    match behind_piece(component, digits_before(byte), left, value, state) {
+        Some(rest) => behind_letters(LiteralRef::Byte(byte), rest),
+        None => None,
+    }
+}
+
+/// What is left behind a run of components, if they are like what is written of a value. So many
+/// digits follow the last one at once.
+fn behind_run<'a, V: ComponentProvider>(
     run: Parts<'_>,
-    step: &T,
-    others: &[T],
-    texts: &[u8],
+    behind: Option<usize>,
     left: Left<'a>,
     value: &V,
     state: &mut V::State,
@@ -196,23 +198,15 @@ fn behind_run<'a, T: ReadStep, V: ComponentProvider>(
     ensures takes { IfSome result (λ rest. Takes (three_tree run.entry) (V.facts value.now)
         (left_bytes left.entry) (left_bytes rest)) }
 {
-    let (first, second) = (run.between.first, run.between.second);
-    let part = part_of(run.first, first);
-    let left = behind_piece(run.first, &part, &[], &[], left, value, state)?;
-    let left = behind_letters(LiteralRef::Byte(first), left)?;
-    let part = part_of(run.second, second);
-    let left = behind_piece(run.second, &part, &[], &[], left, value, state)?;
-    let left = behind_letters(LiteralRef::Byte(second), left)?;
-    let left = behind_piece(run.third, step, others, texts, left, value, state)?;
-    Some(left)
+    let second = behind_part(run.first, run.between.first, left, value, state)?;
+    let third = behind_part(run.second, run.between.second, second, value, state)?;
+    behind_piece(run.third, behind, third, value, state)
 }
 
 /// What is left behind what a step shows, if it is like what is written of a value.
-fn behind_shown<'a, T: ReadStep, V: ComponentProvider>(
+fn behind_shown<'a, V: ComponentProvider>(
     shown: Shown,
-    step: &T,
-    others: &[T],
-    texts: &[u8],
+    behind: Option<usize>,
     left: Left<'a>,
     value: &V,
     state: &mut V::State,
@@ -223,11 +217,9 @@ fn behind_shown<'a, T: ReadStep, V: ComponentProvider>(
         (left_bytes left.entry) (left_bytes rest)) }
 {
     match shown {
-        Shown::Component(component) => {
-            behind_piece(component, step, others, texts, left, value, state)
-        }
+        Shown::Component(component) => behind_piece(component, behind, left, value, state),
         Shown::Run(run) => match parts_of(run, &[]) {
-            Some(parts) => behind_run(parts, step, others, texts, left, value, state),
+            Some(parts) => behind_run(parts, behind, left, value, state),
             None => Some(left),
         },
     }
@@ -235,20 +227,21 @@ fn behind_shown<'a, T: ReadStep, V: ComponentProvider>(
 
 /// What is left behind a step, if its pieces are like what is written of a value.
 fn behind_step<'a, T: ReadStep, V: ComponentProvider>(
-    step: &T,
-    others: &[T],
-    texts: &[u8],
+    steps: StepsFrom<'_, T>,
     left: Left<'a>,
     value: &V,
     state: &mut V::State,
 ) -> Option<Left<'a>>
     requires agrees { V.agrees state.old value.now }
     ensures agrees { V.agrees state.new value.now }
-    ensures behind { IfSome result (λ rest. (others : Trees) → SpellsAll others (V.facts value.now) (left_bytes rest)
-        → SpellsAll (more (T.tree_of texts.now step.now) others) (V.facts value.now) (left_bytes left.entry)) }
+    ensures behind { IfSome result (λ rest. (others : Trees)
+        → SpellsAll others (V.facts value.now) (left_bytes rest)
+        → SpellsAll (more (T.tree_of steps.entry.texts.now steps.entry.step.now) others)
+        (V.facts value.now)
+        (left_bytes left.entry)) }
 {
-    let parts = step.parts(texts);
-    let behind = behind_shown(parts.shown, step, others, texts, left, value, state)?;
+    let parts = steps.step.parts(steps.texts);
+    let behind = behind_shown(parts.shown, steps.digits_behind(), left, value, state)?;
     let rest = behind_letters(parts.literal, behind)?;
     Some(rest)
 }
@@ -271,7 +264,8 @@ pub(crate) fn unlike<T: ReadStep, V: ComponentProvider>(
 ) -> Option<usize>
 where
     V::State: Drop,
-    ensures spelled { IfNone result (SpellsAll (trees (map (T.tree_of texts.now) steps.now)) (V.facts value.now)
+    ensures spelled { IfNone result (SpellsAll (trees (map (T.tree_of texts.now) steps.now))
+        (V.facts value.now)
         (left_bytes text.entry)) }
 {
     let mut state = V::State::default();
@@ -279,7 +273,12 @@ where
     let mut others = steps;
     for step in steps {
         others = behind_first(others);
-        match behind_step(step, others, texts, left, value, &mut state) {
+        let here = StepsFrom {
+            step,
+            others,
+            texts,
+        };
+        match behind_step(here, left, value, &mut state) {
             Some(rest) => left = rest,
             None => return Some(left.len()),
         }

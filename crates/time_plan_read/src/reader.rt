@@ -1,5 +1,6 @@
 //! Readers of the texts of a plan, and of steps of any kind.
-ghost use Rattle.std.specs.Prelude.{◌≡◌, ◌≤◌, ◌++◌, [], IfErr, IfOk, IsOk, length, map};
+ghost use Rattle.std.specs.Prelude.{◌≡◌, ◌≤◌, ◌↔◌, ◌++◌, [], IfErr, IfOk, IsOk, IsTrue, length};
+ghost use Rattle.std.specs.Prelude.{map};
 ghost use Rattle.time_below.specs.Tree.{trees};
 ghost use Rattle.time_fmt.specs.Description.{trees_outcome};
 ghost use Rattle.time_fmt.specs.Outcome.{done};
@@ -11,8 +12,9 @@ ghost use Rattle.time_plan_read.specs.Numbers.{AreKinds, HasUnset};
 ghost use Rattle.time_provide.specs.Real.{AreReal};
 
 use crate::any_step::ReadStep;
-use crate::behind::is_ambiguous;
+use crate::behind::StepsFrom;
 use crate::clock::clear_finer_time;
+use crate::complete::are_dates_and_times;
 use crate::fault::{NoReader, NotRead};
 use crate::fields::Fields;
 use crate::kinds::{Kinds, shown_by};
@@ -139,7 +141,12 @@ fn refusal_of<T: ReadStep, V: Readable>(steps: &[T], texts: &[u8]) -> Option<NoR
         if !supplies::<V>(&step.parts(texts).shown) {
             return Some(NoReader::Unsupplied(index));
         }
-        if is_ambiguous(step, others, texts) {
+        let here = StepsFrom {
+            step,
+            others,
+            texts,
+        };
+        if here.are_ambiguous() {
             return Some(NoReader::Ambiguous(index));
         }
         index = index.saturating_add(1);
@@ -165,6 +172,15 @@ fn supplies<V: Readable>(shown: &Shown) -> bool {
 }
 
 impl<V: Readable> Reader<'_, V> {
+    /// Whether the plan is one of dates and times of day, with a literal behind each: then `read`
+    /// reads each text that the plan writes of a value whose year has four digits.
+    pub fn is_complete(&self) -> bool
+        ensures { IsTrue result
+            ↔ AreDatesAndTimes V.SUPPLIES_DATE V.SUPPLIES_TIME (shown_of self.now.plan.now) }
+    {
+        are_dates_and_times(self.plan, V::SUPPLIES_DATE, V::SUPPLIES_TIME)
+    }
+
     /// The value that the plan writes as this text, or the first fault of the text.
     pub fn read(&self, text: &[u8]) -> Result<V, NotRead>
     where
@@ -172,7 +188,8 @@ impl<V: Readable> Reader<'_, V> {
         V: Drop,
         ensures written { IfOk result (λ value.
             ⟦<Plan as Formattable>⟧.outcome_of self.now.plan.now (V.facts value) ≡ done text.now) }
-        ensures complete { AreDatesAndTimes V.SUPPLIES_DATE V.SUPPLIES_TIME (shown_of self.now.plan.now)
+        ensures complete { AreDatesAndTimes V.SUPPLIES_DATE V.SUPPLIES_TIME
+            (shown_of self.now.plan.now)
             → (value : V) → AreReal (V.facts value) → HasFourDigits (V.facts value)
             → ⟦<Plan as Formattable>⟧.outcome_of self.now.plan.now (V.facts value) ≡ done text.now
             → IsOk result }
@@ -190,7 +207,8 @@ impl<V: Readable> Reader<'_, V> {
         V::State: Drop,
         V: Drop,
         ensures written { IfOk result (λ read. BeginsWith
-            (⟦<Plan as Formattable>⟧.outcome_of self.now.plan.now (V.facts read.0)) text.now read.1.now) }
+            (⟦<Plan as Formattable>⟧.outcome_of self.now.plan.now
+            (V.facts read.0)) text.now read.1.now) }
         ensures inside { IfErr result (λ fault. fault.at ≤ length text.now) }
     {
         self.reading.read_front(self.plan, text)
@@ -218,7 +236,8 @@ impl<T: ReadStep, V: Readable> StepsReader<'_, T, V> {
         V::State: Drop,
         V: Drop,
         ensures written { IfOk result (λ value.
-            trees_outcome (trees (map (T.tree_of self.now.texts.now) self.now.steps.now)) (V.facts value)
+            trees_outcome (trees (map (T.tree_of self.now.texts.now) self.now.steps.now))
+            (V.facts value)
             ≡ done text.now) }
         ensures inside { IfErr result (λ fault. fault.at ≤ length text.now) }
     {

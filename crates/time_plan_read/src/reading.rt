@@ -27,7 +27,6 @@ pub(crate) struct Reading<V> {
 }
 
 /// Whether the steps were read, and nothing follows them.
-#[inline(always)]
 fn is_end(left: Option<&[u8]>) -> bool
     ensures { IsSomeAnd left.entry (λ rest. rest.now ≡ []) → IsTrue result }
 {
@@ -116,7 +115,8 @@ impl<V: Readable> Reading<V> {
             D.outcome_of described.now (V.facts value) ≡ done text.now) }
         ensures complete { (other : V) → are_runs (D.shown described.now) ≡ true
             → D.outcome_of described.now (V.facts other) ≡ done text.now
-            → AreNumbersOf V.SUPPLIES_DATE V.SUPPLIES_TIME self.now.kinds.0 fields.now (V.facts other)
+            → AreNumbersOf V.SUPPLIES_DATE V.SUPPLIES_TIME self.now.kinds.0 fields.now
+            (V.facts other)
             → IsSome result }
     {
         let value = V::of_fields(fields, self.kinds)?;
@@ -127,7 +127,6 @@ impl<V: Readable> Reading<V> {
     }
 
     /// The first fault of a text that is not read, which is to be read to its end or at its front.
-    #[cold]
     #[inline(never)]
     fn fault_of<D: Described>(&self, described: &D, text: &[u8], is_whole: bool) -> NotRead
     where

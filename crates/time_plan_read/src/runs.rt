@@ -66,7 +66,6 @@ pub(crate) fn read_date(text: &[u8], fields: &mut Fields) -> Option<usize>
 }
 
 /// Reads a year with a sign, a month and a day.
-#[inline(never)]
 fn read_long_date(text: &[u8], fields: &mut Fields) -> Option<usize> {
     let count = signed_year(text, Padding::Zero, 6, 0, &mut fields.year)?;
     let [_, a, b, _, c, d, ..] = text.get(count..)? else {
@@ -107,7 +106,8 @@ pub(crate) fn parts_of(run: Run, text: &[u8]) -> Option<Parts<'_>>
 
 /// The parts of a date.
 fn parts_of_date(between: Separators, text: &[u8]) -> Parts<'_>
-    ensures { three_tree result ≡ three_parts year_part between.first month_part between.second day_part }
+    ensures { three_tree result
+        ≡ three_parts year_part between.first month_part between.second day_part }
 {
     let padding = Padding::Zero;
     Parts {
@@ -124,7 +124,8 @@ fn parts_of_date(between: Separators, text: &[u8]) -> Parts<'_>
 
 /// The parts of a time of day.
 fn parts_of_time(between: Separators, text: &[u8]) -> Parts<'_>
-    ensures { three_tree result ≡ three_parts hour_part between.first minute_part between.second second_part }
+    ensures { three_tree result
+        ≡ three_parts hour_part between.first minute_part between.second second_part }
 {
     let padding = Padding::Zero;
     Parts {
@@ -160,7 +161,6 @@ fn two_or_stop(text: &[u8], byte: u8, part: Component) -> Result<&[u8], Stop> {
 }
 
 /// Where a text is none of a run, if it is none.
-#[cold]
 pub(crate) fn stop_of_run(run: Run, text: &[u8]) -> Option<Stop> {
     let parts = parts_of(run, text)?;
     let Some(rest) = parts.rest else {
@@ -180,7 +180,6 @@ pub(crate) fn stop_of_run(run: Run, text: &[u8]) -> Option<Stop> {
 }
 
 /// Where the part of a run begins that has this kind, if one has.
-#[cold]
 pub(crate) fn place_in_run(run: Run, text: &[u8], kind: Kinds) -> Option<Stop> {
     let parts = parts_of(run, text)?;
     let behind_first = parts.rest?.len();

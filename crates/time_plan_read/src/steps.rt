@@ -11,8 +11,8 @@ ghost use Rattle.time_plan_read.specs.Numbers.{AreSet, HasUnset, Sets};
 ghost use Rattle.time_provide.specs.Real.{AreReal};
 
 use crate::any_step::{LiteralRef, ReadStep, StepParts};
-use crate::behind::has_digits;
-use crate::components::{read_component_of, read_often};
+use crate::behind::{StepsFrom, has_digits};
+use crate::components::{read_component, read_usual};
 use crate::fault::{NotRead, Reason, Stop, not_read};
 use crate::fields::Fields;
 use crate::names::{after_literal, behind};
@@ -40,15 +40,18 @@ pub(crate) fn read_steps<'a, T: ReadStep>(
     let mut left = text;
     let mut steps_left = steps;
     'steps: while let [step, others @ ..] = steps_left {
-        left = read_step(step, others, texts, left, fields)?;
+        let here = StepsFrom {
+            step,
+            others,
+            texts,
+        };
+        left = read_step(here, left, fields)?;
         steps_left = others;
     }
     Some(left)
 }
 
 /// The same, and how many bytes are left, or the first place where the text is none of the steps.
-#[cold]
-#[inline(never)]
 pub(crate) fn checked_steps<T: ReadStep>(
     steps: &[T],
     texts: &[u8],
@@ -60,7 +63,12 @@ pub(crate) fn checked_steps<T: ReadStep>(
     let mut left = text;
     let mut steps_left = steps;
     'steps: while let [step, others @ ..] = steps_left {
-        match checked_step(step, others, texts, left, fields) {
+        let here = StepsFrom {
+            step,
+            others,
+            texts,
+        };
+        match checked_step(here, left, fields) {
             Ok(rest) => left = rest,
             Err(stop) => return Err(not_read(text, stop)),
         }
@@ -72,21 +80,20 @@ pub(crate) fn checked_steps<T: ReadStep>(
 /// Reads what a step shows into the fields, and its literal, and returns what follows them.
 #[inline(always)]
 fn read_step<'a, T: ReadStep>(
-    step: &T,
-    others: &[T],
-    texts: &[u8],
+    steps: StepsFrom<'_, T>,
     text: &'a [u8],
     fields: &mut Fields,
 ) -> Option<&'a [u8]>
     ensures reads { (f : Facts) (front rest : List ℕ) → AreReal f → HasFourDigits f
-        → is_run (T.shown_of texts.now step.now) ≡ true
-        → tree_outcome (T.tree_of texts.now step.now) f ≡ done front → text.now ≡ front ++ rest
+        → is_run (T.shown_of steps.entry.texts.now steps.entry.step.now) ≡ true
+        → tree_outcome (T.tree_of steps.entry.texts.now steps.entry.step.now) f ≡ done front
+        → text.now ≡ front ++ rest
         → IsSomeAnd result (λ left. left.now ≡ rest)
-        × Sets (T.shown_of texts.now step.now) f fields.old fields.new }
+        × Sets (T.shown_of steps.entry.texts.now steps.entry.step.now) f fields.old fields.new }
 {
-    let shown = step.parts(texts).shown;
-    let count = read_shown(&shown, step, others, texts, text, fields)?;
-    let literal = step.parts(texts).literal;
+    let shown = steps.step.parts(steps.texts).shown;
+    let count = read_shown(&shown, steps, text, fields)?;
+    let literal = steps.step.parts(steps.texts).literal;
     after_literal(behind(text, count)?, literal)
 }
 
@@ -94,9 +101,7 @@ fn read_step<'a, T: ReadStep>(
 #[inline(always)]
 fn read_shown<T: ReadStep>(
     shown: &Shown,
-    step: &T,
-    others: &[T],
-    texts: &[u8],
+    steps: StepsFrom<'_, T>,
     text: &[u8],
     fields: &mut Fields,
 ) -> Option<usize>
@@ -106,32 +111,42 @@ fn read_shown<T: ReadStep>(
         → (result ≡ Some (length front)) × Sets shown.now f fields.old fields.new }
 {
     match shown {
-        Shown::Component(component) => {
-            match read_often(*component, step, others, texts, text, fields) {
-                Some(count) => count,
-                None => read_component_of(step, others, texts, text, fields),
-            }
-        }
+        Shown::Component(component) => match read_usual(*component, text, fields) {
+            Some(count) => Some(count),
+            None => read_otherwise(steps, text, fields),
+        },
         Shown::Run(Run::Empty) => Some(0),
         Shown::Run(Run::Time(_)) => read_time(text, fields),
         Shown::Run(Run::Date(_)) => read_date(text, fields),
     }
 }
 
-/// Reads a step as `read_step` does, or tells where the text is none of it.
+/// Reads the component that a step shows, in any form. It takes the step and not the component,
+/// which else would lie in memory for this call.
 #[inline(never)]
+fn read_otherwise<T: ReadStep>(
+    steps: StepsFrom<'_, T>,
+    text: &[u8],
+    fields: &mut Fields,
+) -> Option<usize> {
+    let behind = steps.digits_behind().unwrap_or(0);
+    match steps.step.parts(steps.texts).shown {
+        Shown::Component(component) => read_component(component, behind, text, fields),
+        Shown::Run(_) => None,
+    }
+}
+
+/// Reads a step as `read_step` does, or tells where the text is none of it.
 pub(crate) fn checked_step<'a, T: ReadStep>(
-    step: &T,
-    others: &[T],
-    texts: &[u8],
+    steps: StepsFrom<'_, T>,
     text: &'a [u8],
     fields: &mut Fields,
 ) -> Result<&'a [u8], Stop> {
-    let StepParts { shown, literal } = step.parts(texts);
+    let StepParts { shown, literal } = steps.step.parts(steps.texts);
     if let Some(stop) = stop_of_digits(&shown, text) {
         return Err(stop);
     }
-    let read = read_shown(&shown, step, others, texts, text, fields);
+    let read = read_shown(&shown, steps, text, fields);
     let Some(rest) = read.and_then(|count| behind(text, count)) else {
         return Err(stop_of_shown(&shown, text));
     };

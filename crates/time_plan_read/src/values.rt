@@ -23,7 +23,8 @@ pub trait Readable: ComponentProvider + Sized {
     /// that time of day.
     fn of_fields(fields: &Fields, kinds: Kinds) -> Option<Self>
         ensures complete { (other : Self)
-            → AreNumbersOf Self.SUPPLIES_DATE Self.SUPPLIES_TIME kinds.0 fields.now (Self.facts other)
+            → AreNumbersOf Self.SUPPLIES_DATE Self.SUPPLIES_TIME kinds.0 fields.now
+            (Self.facts other)
             → IsSomeAnd result (λ value. HaveOneSecond (Self.facts value) (Self.facts other)) };
 
     /// The numbers of the value.
@@ -63,7 +64,6 @@ impl Readable for Date {
         kinds.have_date()
     }
 
-    #[inline(always)]
     fn of_fields(fields: &Fields, kinds: Kinds) -> Option<Date> {
         date_of(fields, kinds)
     }
@@ -84,7 +84,6 @@ impl Readable for Time {
         kinds.have_time()
     }
 
-    #[inline(always)]
     fn of_fields(fields: &Fields, kinds: Kinds) -> Option<Time> {
         time_of(fields, kinds)
     }
@@ -105,7 +104,6 @@ impl Readable for UtcOffset {
         kinds.have_offset()
     }
 
-    #[inline(always)]
     fn of_fields(fields: &Fields, _kinds: Kinds) -> Option<UtcOffset> {
         offset_of(fields)
     }

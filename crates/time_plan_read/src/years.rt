@@ -4,7 +4,6 @@ use time_below::format_description::modifier::Padding;
 
 /// Reads a year, of at most so many digits behind a sign and of four without one, and returns how
 /// many bytes it has.
-#[inline(never)]
 pub(crate) fn signed_year(
     text: &[u8],
     padding: Padding,
@@ -26,7 +25,6 @@ pub(crate) fn signed_year(
 
 /// Reads a century, of at most so many digits behind a sign and of two without one, and whether it
 /// is negative, and returns how many bytes they have.
-#[inline(never)]
 pub(crate) fn century(
     text: &[u8],
     padding: Padding,

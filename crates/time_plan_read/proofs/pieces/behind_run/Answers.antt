@@ -1,11 +1,17 @@
-use Rattle.time_plan_read.specs.Left.{left_bytes}
+use Rattle.time_plan_read.specs.Left.{Takes, left_bytes, three_tree}
+use Rattle.time_below.specs.Tree.{of_component}
+use Rattle.time_plan_read.specs.declared.left.Left.{Left}
 use Rattle.time_plan_read.proofs.LenientLemmas.{run_taken}
+use Rattle.time_plan_read.proofs.StepLists.{if_some}
 use Rattle.time_plan_read.proofs.pieces.behind_run.Goals as goal
 
 pub returns-clause-takes : goal.returns-clause-takes
 returns-clause-takes g c =
     let f = g.V.ComponentProvider.facts c.args.value.now in
-    run_taken c.args.run f (left_bytes c.args.left) (left_bytes c.in_ok-left.left) (left_bytes c.in_ok-left-2.left)
-    (left_bytes c.in_ok-left-3.left) (left_bytes c.in_ok-left-4.left) (left_bytes c.in_ok-left-5.left)
-    c.in_ok-left.ensures.takes (c.in_ok-left-2.ensures f) c.in_ok-left-3.ensures.takes (c.in_ok-left-4.ensures f)
-    c.in_ok-left-5.ensures.takes
+    let second = left_bytes c.in_ok-second.second in
+    let third = left_bytes c.in_ok-third.third in
+    if_some (λ (rest : Left). Takes (of_component c.args.run.third) f third (left_bytes rest))
+    (λ (rest : Left). Takes (three_tree c.args.run) f (left_bytes c.args.left) (left_bytes rest)) c.behind_piece.result
+    (λ rest. run_taken c.args.run f (left_bytes c.args.left) second third (left_bytes rest) c.in_ok-second.ensures.takes
+    c.in_ok-third.ensures.takes)
+    c.behind_piece.ensures.takes
