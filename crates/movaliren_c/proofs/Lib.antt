@@ -9,3 +9,4 @@ pub mod ReadIsoLemmas
 pub mod ReadItemLemmas
 pub mod ReadLemmas
 pub mod RoomLemmas
+pub mod StepLemmas
