@@ -48,11 +48,19 @@ ISO = [
     "2026-11-22T09:55:06.123456789+05:30",
     "2026-11-22T09:55:66.123456789Z",
 ]
-# Texts by a description of `strftime`: the letters by which the program knows its reader and the kit's, and the name by
-# which `read/described.rs` knows it.
+# Texts by a description of `strftime`: the letters by which the program knows its reader, the lenient one and the kit's,
+# and the name by which `read/described.rs` knows it.
 DESCRIBED = {
-    "2026-11-28 13:30:06": ("%Y-%m-%d %H:%M:%S", "p", "P", "plain"),
-    "10/Oct/2000:13:55:36 -0700": ("%d/%b/%Y:%H:%M:%S %z", "n", "N", "log"),
+    "2026-11-28 13:30:06": ("%Y-%m-%d %H:%M:%S", "p", "q", "P", "plain"),
+    "10/Oct/2000:13:55:36 -0700": ("%d/%b/%Y:%H:%M:%S %z", "n", "o", "N", "log"),
+}
+# Texts that are read from C: the words by which `read/calls.c` knows the call, and the description of `strptime`.
+FROM_C = {
+    "2026-11-28 13:30:06": ("items", "%Y-%m-%d %H:%M:%S"),
+    "10/Oct/2000:13:55:36 -0700": ("items", "%d/%b/%Y:%H:%M:%S %z"),
+    "2026-11-22T09:55:06Z": ("iso", "%Y-%m-%dT%H:%M:%SZ"),
+    "2026-11-22T09:55:06": ("iso", "%Y-%m-%dT%H:%M:%S"),
+    "2026-11-22T09:55:06.123456789Z": ("iso", None),
 }
 
 
@@ -103,7 +111,8 @@ def strptime(folder):
 def described(folder, own, others):
     """The ways to the texts of DESCRIBED."""
     ways = [("`Reader::read`", lambda text: ours(own, DESCRIBED[text][1], text)),
-            ("kit's `jiff_strtime`", lambda text: ours(own, DESCRIBED[text][2], text))]
+            ("`LenientReader::read`", lambda text: ours(own, DESCRIBED[text][2], text)),
+            ("kit's `jiff_strtime`", lambda text: ours(own, DESCRIBED[text][3], text))]
     c = strptime(folder)
     if c:
         ways.append(("`strptime`", lambda text: run.Way(
@@ -111,14 +120,32 @@ def described(folder, own, others):
     cargo = by_cargo(folder) if others else None
     if cargo:
         ways += [(f"`{name}` {version} (2022)", lambda text, name=name: run.Way(
-            lambda turns: [cargo, f"{name}-{DESCRIBED[text][3]}", text, str(turns)], lambda turns: b""))
+            lambda turns: [cargo, f"{name}-{DESCRIBED[text][4]}", text, str(turns)], lambda turns: b""))
             for name, version in [("time", "0.3.9"), ("chrono", "0.4.23")]]
     return ways
 
 
-def table(ways, texts):
+def from_c(folder):
+    """The calls of C and `strptime`, or nothing where they cannot be built."""
+    theirs, program, library = strptime(folder), folder / "calls", TOP / "crates/movaliren_c/out/libmovaliren_c.a"
+    if theirs is None or not library.exists():
+        print("SKIPPED: the calls of C, which need gcc and the library that rt lib leaves", file=sys.stderr)
+        return []
+    words = ["gcc", "-O2", f"-I{TOP / 'bindings/c'}", TOP / "bench/read/calls.c", library, "-o", program]
+    subprocess.run(words, check=True)
+
+    def by_strptime(text):
+        description = FROM_C[text][1]
+        return description and run.Way(lambda turns: [theirs, description, text, str(turns)], lambda turns: b"")
+
+    return [("From C", lambda text: run.Way(
+        lambda turns: [program, FROM_C[text][0], FROM_C[text][1] or "", text, str(turns)], lambda turns: b"")),
+            ("`strptime`", by_strptime)]
+
+
+def table(ways, texts, first="Text"):
     """Prints the instructions of each text by each way."""
-    print("|Text|" + "|".join(name for name, _ in ways) + "|\n|" + "---|" * (len(ways) + 1))
+    print(f"|{first}|" + "|".join(name for name, _ in ways) + "|\n|" + "---|" * (len(ways) + 1))
     for text in texts:
         counts = run.counts_of([way(text) for _, way in ways])
         print(f"|`{text}`|" + "|".join(map(run.shown, counts)) + "|", flush=True)
@@ -136,11 +163,15 @@ def main():
                      ("`chrono` 0.4.23 (2022)", lambda text: theirs(others, "chrono", text))]
         table(ways, TEXTS)
         table([("`rfc2822::read`", lambda text: ours(own, "m", text)),
+               ("`read_lenient`", lambda text: ours(own, "M", text)),
                ("kit's `jiff_fmt`", lambda text: ours(own, "k", text))], MAIL)
         table([("`stamp::read`", lambda text: ours(own, "t", text)), ("`read`", lambda text: ours(own, "s", text))], STAMPS)
         table([("`iso8601::read`", lambda text: ours(own, "i", text)), ("`read`", lambda text: ours(own, "s", text)),
                ("kit's `jiff_fmt`", lambda text: ours(own, "j", text))], ISO)
         table(described(folder, own, others), DESCRIBED)
+        calls = from_c(folder)
+        if calls:
+            table(calls, FROM_C, "Text that C reads")
         print(f"{run.Bench.commit()}.")
 
 

@@ -113,7 +113,8 @@ SECTIONS = [
     ),
     Section(
         "|Text|`rfc2822::read`|", "",
-        "RFC 2822. The kit's `jiff_fmt` also computes the moment, and takes `GMT`.",
+        "RFC 2822, and what else mail has (`read_lenient`). The kit's `jiff_fmt` also computes the "
+        "moment, and takes `GMT`.",
     ),
     Section(
         "|Text|`stamp::read`|", "",
@@ -126,9 +127,15 @@ SECTIONS = [
     Section(
         "|Text|`Reader::read`|", "",
         "By `%Y-%m-%d %H:%M:%S` as a `PlainDateTime`, and by `%d/%b/%Y:%H:%M:%S %z` as an "
-        "`OffsetDateTime`. The plan and its reader are made before. The kit's `jiff_strtime` reads "
+        "`OffsetDateTime`. The plan and its readers are made before. The kit's `jiff_strtime` reads "
         "its pattern at each text, and makes a moment of the second one. `strptime` fills a `tm` that "
         "is cleared before, and takes February 31.",
+    ),
+    Section(
+        "|Text that C reads|", "",
+        "A call from C beside `strptime`. The first two texts are read as seconds since 1970 by items, "
+        "which were made before: each call makes its reader. The others are read by a configuration of "
+        "ISO 8601, with as many decimals as the text has.",
     ),
     Section(
         "|Line|", "The program of the tests",

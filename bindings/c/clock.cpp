@@ -140,6 +140,13 @@ static movaliren_moment value_of(const movaliren_utc_moment &moment)
     return value;
 }
 
+// What strptime reads of a text.
+static long by_strptime(const char *text, const char *form)
+{
+    tm parts = tm();
+    return strptime(text, form, &parts) - text;
+}
+
 // All values, as a batch of them needs.
 static const movaliren_moment *all_values()
 {
@@ -386,7 +393,9 @@ static const struct {
     { "read_iso8601_with", ONE(movaliren_read_iso8601_with(&nanoseconds, ISO_TEXT, &read_moment, &read_place)), 0 },
     { "read_iso8601_with_utc", ONE(movaliren_read_iso8601_with_utc(&nanoseconds, ISO_TEXT, &read_utc, &read_place)), 0 },
     { "items_read:nginx", ONE(movaliren_items_read(log_items, log_count, log_form, sizeof log_form - 1, LOG_TEXT, &read_moment, &read_place)), 0 },
+    { "items_read:nginx/strptime", ONE(by_strptime(log_texts[&moment - moments], log_form)), 0 },
     { "items_read_utc:11-items", ONE(movaliren_items_read_utc(items, 11, texts, 5, LINE_TEXT, &read_utc, &read_place)), 0 },
+    { "items_read_utc:11-items/strptime", ONE(by_strptime(line_texts[&moment - moments], conversions)), 0 },
     { "building:11-items", ONE((build(line), moment.nanosecond)), 0 },
     { "building:8000-items", ONE(build_long(8000)), 0 },
     { "building:16000-items", ONE(build_long(16000)), 0 },

@@ -486,8 +486,9 @@ ptrdiff_t movaliren_read_iso8601_utc(const void *text, size_t text_len,
     MOVALIREN_NONNULL_(4) MOVALIREN_CHECKED_;
 
 /* Reads a text of ISO 8601 that movaliren_iso8601_with writes by this configuration of a moment whose finer parts are zero.
- * The configuration writes a date, a time and an offset: any other one is MOVALIREN_ERROR_UNDETERMINED. It is tested first,
- * and the error is then unchanged. */
+ * The configuration writes a date, a time and an offset: any other one is MOVALIREN_ERROR_UNDETERMINED. The call that ends in
+ * _utc needs no offset: where the configuration writes none, the date and the time are those of UTC. The configuration is
+ * tested first, and the error is then unchanged. */
 ptrdiff_t movaliren_read_iso8601_with(const struct movaliren_iso8601_config *config,
     const void *text, size_t text_len, struct movaliren_moment *moment,
     struct movaliren_read_error *error) MOVALIREN_NONNULL_(1) MOVALIREN_NONNULL_(4)

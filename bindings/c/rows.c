@@ -600,44 +600,58 @@ static void try_reading_all(void)
 
 /* ---- ISO 8601, whose readers read what the formats write, and nothing else */
 
+/* The answers as a moment by its parts, and as one in UTC, which needs no offset. */
 static const struct {
     struct movaliren_iso8601_config config;
     const char *text;
-    ptrdiff_t answer;
+    ptrdiff_t by_parts;
+    ptrdiff_t in_utc;
     int64_t seconds;
     uint32_t nanosecond;
     size_t at;
 } iso_rows[] = {
-    { MOVALIREN_ISO8601_DEFAULT, "1997-11-12T09:55:06.120000000-06:00", 0, 879350106, 120000000, 0 },
-    { MOVALIREN_ISO8601_DEFAULT, "1997-11-12T15:55:06.120000000Z", 0, 879350106, 120000000, 0 },
-    { MOVALIREN_ISO8601_DEFAULT, "1997-11-12T15:55:06.120000000+00:00", MOVALIREN_ERROR_NOT_READ, 0, 0, 29 },
-    { MOVALIREN_ISO8601_DEFAULT, "1997-11-31T15:55:06.120000000Z", MOVALIREN_ERROR_NOT_READ, 0, 0, 9 },
-    { MOVALIREN_ISO8601_DECIMALS(3), "1997-11-12T15:55:06.120Z", 0, 879350106, 120000000, 0 },
-    { { 5, MOVALIREN_ISO8601_BY_WEEK, 2, 3, 1, 1, 0, 1 }, "1997-W46-3T15:55:06,120Z", 0, 879350106, 120000000, 0 },
-    { { 5, MOVALIREN_ISO8601_BY_ORDINAL, 1, 0, 1, 0, 1, 0 }, "+001997316T1555Z", 0, 879350100, 0, 0 },
-    { { 1, 0, 2, 0, 1, 1, 0, 0 }, "1997-11-12", MOVALIREN_ERROR_UNDETERMINED, 0, 0, 77 },
-    { { 7, 0, 2, 0, 1, 1, 0, 0 }, "1997-11-12", MOVALIREN_ERROR_BAD_CONFIG, 0, 0, 77 },
+    { MOVALIREN_ISO8601_DEFAULT, "1997-11-12T09:55:06.120000000-06:00", 0, 0, 879350106, 120000000, 0 },
+    { MOVALIREN_ISO8601_DEFAULT, "1997-11-12T15:55:06.120000000Z", 0, 0, 879350106, 120000000, 0 },
+    { MOVALIREN_ISO8601_DEFAULT, "1997-11-12T15:55:06.120000000+00:00", MOVALIREN_ERROR_NOT_READ, MOVALIREN_ERROR_NOT_READ, 0, 0, 29 },
+    { MOVALIREN_ISO8601_DEFAULT, "1997-11-31T15:55:06.120000000Z", MOVALIREN_ERROR_NOT_READ, MOVALIREN_ERROR_NOT_READ, 0, 0, 9 },
+    { MOVALIREN_ISO8601_DECIMALS(3), "1997-11-12T15:55:06.120Z", 0, 0, 879350106, 120000000, 0 },
+    { { 5, MOVALIREN_ISO8601_BY_WEEK, 2, 3, 1, 1, 0, 1 }, "1997-W46-3T15:55:06,120Z", 0, 0, 879350106, 120000000, 0 },
+    { { 5, MOVALIREN_ISO8601_BY_ORDINAL, 1, 0, 1, 0, 1, 0 }, "+001997316T1555Z", 0, 0, 879350100, 0, 0 },
+    { { 4, 0, 2, 3, 1, 1, 0, 0 }, "1997-11-12T15:55:06.120", MOVALIREN_ERROR_UNDETERMINED, 0, 879350106, 120000000, 0 },
+    { { 4, 0, 2, 0, 1, 1, 0, 0 }, "1997-11-12T15:55:06Z", MOVALIREN_ERROR_UNDETERMINED, MOVALIREN_ERROR_NOT_READ, 0, 0, 19 },
+    { { 1, 0, 2, 0, 1, 1, 0, 0 }, "1997-11-12", MOVALIREN_ERROR_UNDETERMINED, MOVALIREN_ERROR_UNDETERMINED, 0, 0, 0 },
+    { { 6, 0, 2, 0, 1, 1, 0, 0 }, "15:55:06Z", MOVALIREN_ERROR_UNDETERMINED, MOVALIREN_ERROR_UNDETERMINED, 0, 0, 0 },
+    { { 7, 0, 2, 0, 1, 1, 0, 0 }, "1997-11-12", MOVALIREN_ERROR_BAD_CONFIG, MOVALIREN_ERROR_BAD_CONFIG, 0, 0, 0 },
 };
+
+/* The place, which is set by a text that is not read alone. */
+static size_t place_after(ptrdiff_t answer, size_t at)
+{
+    return answer == MOVALIREN_ERROR_NOT_READ ? at : 77;
+}
 
 static void try_reading_iso8601(size_t i)
 {
     const char *text = iso_rows[i].text;
+    const ptrdiff_t by_parts = iso_rows[i].by_parts, in_utc = iso_rows[i].in_utc;
     const struct movaliren_moment before = MOMENT(-7, 7, 7, 7, 7, 7, 7, 7, 7, 7);
+    const struct movaliren_read_error no_place = { 77, 77, 77, 77, 77, 77 };
     struct movaliren_moment moment = before;
     struct movaliren_utc_moment utc = { -7, 7 };
-    struct movaliren_read_error place = { 77, 77, 77, 77, 77, 77 };
+    struct movaliren_read_error place = no_place, place_of_utc = no_place;
     const ptrdiff_t answer = movaliren_read_iso8601_with(&iso_rows[i].config, text, strlen(text), &moment, &place);
-    const ptrdiff_t of_utc = movaliren_read_iso8601_with_utc(&iso_rows[i].config, text, strlen(text), &utc, &place);
-    expect_true(answer == iso_rows[i].answer && of_utc == answer, text, "read or refused");
+    const ptrdiff_t of_utc = movaliren_read_iso8601_with_utc(&iso_rows[i].config, text, strlen(text), &utc, &place_of_utc);
+    expect_true(answer == by_parts && of_utc == in_utc, text, "read or refused");
     expect_true(is_same_moment(&moment, &before) == (answer != 0), text, "another moment");
-    expect_true(utc.seconds == (answer ? -7 : iso_rows[i].seconds), text, "another second");
-    expect_true(utc.nanosecond == (answer ? 7 : iso_rows[i].nanosecond), text, "another nanosecond");
-    expect_true(place.at == (answer == MOVALIREN_ERROR_NOT_READ ? iso_rows[i].at : 77), text, "another place");
+    expect_true(utc.seconds == (of_utc ? -7 : iso_rows[i].seconds), text, "another second");
+    expect_true(utc.nanosecond == (of_utc ? 7 : iso_rows[i].nanosecond), text, "another nanosecond");
+    expect_true(place.at == place_after(answer, iso_rows[i].at), text, "another place");
+    expect_true(place_of_utc.at == place_after(of_utc, iso_rows[i].at), text, "another place in UTC");
     if (iso_rows[i].config.decimals == 9) {
-        place.at = 77;
+        place = no_place;
         expect_true(movaliren_read_iso8601(text, strlen(text), &moment, &place) == answer, text, "read or refused by default");
         expect_true(movaliren_read_iso8601_utc(text, strlen(text), &utc, &place) == answer, text, "read or refused by default");
-        expect_true(place.at == (answer ? iso_rows[i].at : 77), text, "another place by default");
+        expect_true(place.at == place_after(answer, iso_rows[i].at), text, "another place by default");
     }
 }
 

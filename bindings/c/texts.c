@@ -324,6 +324,10 @@ static void expect_fault_of(const char *piece, size_t count, parser *parse, size
 
 /* ---- texts read by a description: what strptime and timegm make of the first ones, and the first place where one is none */
 
+/* A description of more components than the library keeps as steps. */
+#define MANY_DAYS "%Y-%m-%dT%H:%M:%S %d %d %d %d %d %d %d %d %d %d %d %d %d %d %d"
+#define MANY_SIXTHS " 06 06 06 06 06 06 06 06 06 06 06 06 06 06"
+
 static const struct {
     parser *parse;
     const char *format, *text;
@@ -347,6 +351,16 @@ static const struct {
         "November 6, 1994, 8:49 AM +00", 0, 0, 784111740, 0, 0, 0 },
     { movaliren_description_parse_strftime, "%-d%-m%Y %H:%M %z", "1111994 08:49 +0000",
         MOVALIREN_ERROR_UNDETERMINED, MOVALIREN_ERROR_UNDETERMINED, 0, 0, 0, 0 },
+    { movaliren_description_parse_strftime, "%Y-%m-%d %H:%M:%S", "1994-11-06 08:49:37", MOVALIREN_ERROR_UNDETERMINED, 0,
+        784111777, 0, 0, 0 },
+    { movaliren_description_parse_strftime, "%Y-%m-%d %H:%M:%S%z", "1994-02-31 08:49:37+0000",
+        MOVALIREN_ERROR_NOT_READ, MOVALIREN_ERROR_NOT_READ, 0, 0, 0, "byte 8: no value has this [day]" },
+    { movaliren_description_parse_strftime, "%Y\xc2\xb7%m\xc2\xb7%d %H:%M:%S %z", "1994\xc2\xb7" "11\xc2\xb7" "06 08:49:37 +0000",
+        0, 0, 784111777, 0, 0, 0 },
+    { movaliren_description_parse_strftime, MANY_DAYS, "1994-11-06T08:49:37" MANY_SIXTHS " 06", MOVALIREN_ERROR_UNDETERMINED, 0,
+        784111777, 0, 0, 0 },
+    { movaliren_description_parse_strftime, MANY_DAYS, "1994-11-06T08:49:37" MANY_SIXTHS " 07", MOVALIREN_ERROR_UNDETERMINED,
+        MOVALIREN_ERROR_NOT_READ, 0, 0, 0, "byte 8: the value is written otherwise from here on" },
     { movaliren_description_parse_strftime, "%Y-%m-%d", "1994-11-06", MOVALIREN_ERROR_UNDETERMINED,
         MOVALIREN_ERROR_UNDETERMINED, 0, 0, 0, 0 },
     { movaliren_description_parse_strftime, "%d/%b/%Y:%H:%M:%S %z", "10/Okt/2000:13:55:36 -0700",
@@ -368,7 +382,7 @@ static long offset_of(const struct movaliren_moment *m)
 
 static void try_reading(size_t i)
 {
-    struct movaliren_item items[32];
+    struct movaliren_item items[64];
     char copy_line[128], said[MOVALIREN_READ_MESSAGE_SIZE];
     struct movaliren_description line = MOVALIREN_DESCRIPTION_INIT(items, copy_line);
     struct movaliren_read_error error = { 77, 77, 77, 77, 77, 77 };
@@ -392,15 +406,19 @@ static void try_reading(size_t i)
         expect_true(!strcmp(movaliren_read_error_message(&error, said), readings[i].words), readings[i].words, said);
 }
 
-/* Invalid items come before the text. */
+/* Invalid items come before the text, also behind many others. */
 static void try_reading_invalid_items(void)
 {
     static const struct movaliren_item items[] = { { .kind = MOVALIREN_KIND_YEAR }, { .kind = 0 } };
+    struct movaliren_item many[20];
     struct movaliren_read_error error = { 77, 77, 77, 77, 77, 77 };
     struct movaliren_moment moment = { 77, 1, 1, 0, 0, 0, 0, 0, 0, 0 };
     struct movaliren_utc_moment utc = { 77, 77 };
     expect_true(movaliren_items_read(items, 2, "", 0, "", 0, &moment, &error) == MOVALIREN_ERROR_BAD_ITEM, "items_read", "read");
     expect_true(movaliren_items_read_utc(items, 2, "", 0, "", 0, &utc, &error) == MOVALIREN_ERROR_BAD_ITEM, "items_read_utc", "read");
+    for (size_t i = 0; i < 20; i++)
+        many[i] = items[i / 19];
+    expect_true(movaliren_items_read(many, 20, "", 0, "", 0, &moment, &error) == MOVALIREN_ERROR_BAD_ITEM, "many items", "read");
     expect_true(moment.year == 77 && utc.seconds == 77 && error.at == 77, "items_read", "something has changed");
 }
 

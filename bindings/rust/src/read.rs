@@ -120,7 +120,7 @@ impl Iso8601By {
     /// # Errors
     ///
     /// - [`Unread::Description`] with [`Error::Undetermined`]: the configuration does not write a date, a time and an
-    ///   offset.
+    ///   offset. Without an offset the texts of a [`UtcMoment`](crate::UtcMoment) are in UTC.
     /// - [`Unread::Text`]: no moment has this text: the place, and what could have come there.
     ///
     /// ```

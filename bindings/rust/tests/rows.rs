@@ -763,6 +763,23 @@ fn a_text_of_rfc_2822_is_read_back() {
 }
 
 #[test]
+fn iso8601_without_an_offset_is_read_in_utc() {
+    let config = Iso8601By::new()
+        .parts(Parts::DateTime)
+        .time_precision(TimePrecision::Second, 3);
+    let utc = config.read("1997-11-12T15:55:06.120");
+    assert_eq!(utc, Ok(UtcMoment::new(879_350_106, 120_000_000)));
+    let undetermined = Err(Unread::Description(Error::Undetermined));
+    assert_eq!(
+        config.read::<Moment>("1997-11-12T15:55:06.120"),
+        undetermined
+    );
+    let date = Iso8601By::new().parts(Parts::Date);
+    let undetermined = Err(Unread::Description(Error::Undetermined));
+    assert_eq!(date.read::<UtcMoment>("1997-11-12"), undetermined);
+}
+
+#[test]
 fn a_text_of_a_description_is_read_back() {
     let line = Description::parse_strftime("%d/%b/%Y:%H:%M:%S %z").unwrap();
     let opened = Moment::new(2000, 10, 10).at(13, 55, 36, 0).offset(-7, 0, 0);

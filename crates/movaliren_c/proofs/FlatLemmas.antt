@@ -15,7 +15,7 @@ use Rattle.std.proofs.lemmas.Grind.{common_steps}
 
 -- ---- outcomes
 
-join_assoc : (a b c : Outcome) → join (join a b) c ≡ join a (join b c)
+pub join_assoc : (a b c : Outcome) → join (join a b) c ≡ join a (join b c)
 join_assoc a b c = grind (arith, common_steps, append_assoc)
 
 pub alone : (a : Outcome) → join a (done []) ≡ a

@@ -5,6 +5,8 @@ pub mod ItemLemmas
 pub mod LogLemmas
 pub mod MeaningLemmas
 pub mod NumberLemmas
+pub mod ReadIsoLemmas
 pub mod ReadItemLemmas
 pub mod ReadLemmas
 pub mod RoomLemmas
+pub mod StepLemmas

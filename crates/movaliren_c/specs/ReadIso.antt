@@ -23,31 +23,34 @@ abbrev pub TellsMoment : Choices → Type 0
 TellsMoment c = SuppliesParts c true true true
     × IsTrue (has_date c.formatted_components && (has_time c.formatted_components && has_offset c.formatted_components))
 
--- these are the choices, which tell a moment
-abbrev pub IsReaderOf : Result Choices Reason → Choices → Type 0
-IsReaderOf choices c = (choices ≡ Ok c) × TellsMoment c
+-- the texts of the choices show a date and a time of day, which are those of UTC where there is no offset
+abbrev pub TellsMomentInUtc : Choices → Type 0
+TellsMomentInUtc c = SuppliesParts c true true true
+    × IsTrue (has_date c.formatted_components && has_time c.formatted_components)
 
 -- the choices do not tell a moment, or a number chooses nothing
-abbrev pub IsWhy : Result Choices Reason → Reason → Type 0
-IsWhy choices r = MatchResult choices (λ c. (r ≡ reason.Undetermined) × ¬ TellsMoment c) (λ invalid. r ≡ invalid)
+abbrev pub IsWhy : (Choices → Type 0) → Result Choices Reason → Reason → Type 0
+IsWhy Tells choices r = MatchResult choices (λ c. (r ≡ reason.Undetermined) × ¬ Tells c) (λ invalid. r ≡ invalid)
 
 -- the choices tell a moment, and a text is read by them
-pub record ReadsBy {M : Type 0} (choices : Result Choices Reason) (Holds : M → OffsetDateAndTime → Type 0)
-    (text : List ℕ) (number : ℤ) (before after : M) (old new : ReadError) : Type 0 where
+pub record ReadsBy {M : Type 0} (Tells : Choices → Type 0) (choices : Result Choices Reason)
+    (Holds : M → OffsetDateAndTime → Type 0) (text : List ℕ) (number : ℤ) (before after : M) (old new : ReadError)
+    : Type 0 where
   pub by : Choices
-  pub are : IsReaderOf choices by
+  pub are : choices ≡ Ok by
+  pub tell : Tells by
   pub read : IsRead (Iso8601Reads by) place_of Holds text number before after old new
 
 -- no text is read by the choices, for a reason, and all is unchanged
-pub record ReadsNone {M : Type 0} (choices : Result Choices Reason) (number : ℤ) (before after : M) (old new : ReadError)
-    : Type 0 where
+pub record ReadsNone {M : Type 0} (Tells : Choices → Type 0) (choices : Result Choices Reason) (number : ℤ)
+    (before after : M) (old new : ReadError) : Type 0 where
   pub why : Reason
-  pub is : IsWhy choices why
+  pub is : IsWhy Tells choices why
   pub number_of : number ≡ reason_number why
   pub moment : after ≡ before
   pub place : new ≡ old
 
-abbrev pub IsReadByChoices : {M : Type 0} → Result Choices Reason → (M → OffsetDateAndTime → Type 0) → List ℕ → ℤ → M → M
-    → ReadError → ReadError → Type 0
-IsReadByChoices choices Holds text number before after old new =
-    ReadsBy choices Holds text number before after old new ⊎ ReadsNone choices number before after old new
+abbrev pub IsReadByChoices : {M : Type 0} → (Choices → Type 0) → Result Choices Reason → (M → OffsetDateAndTime → Type 0)
+    → List ℕ → ℤ → M → M → ReadError → ReadError → Type 0
+IsReadByChoices Tells choices Holds text number before after old new =
+    ReadsBy Tells choices Holds text number before after old new ⊎ ReadsNone Tells choices number before after old new

@@ -64,6 +64,11 @@ abbrev pub IsUnread : Result (List Tree) Reason → List ℕ → Unread → Type
 IsUnread description text (unread.Never r) = MatchResult description (λ _. r ≡ reason.Undetermined) (λ invalid. r ≡ invalid)
 IsUnread description text (unread.At e) = IsOk description × (e.at ≤ length text)
 
+-- a description determines no moment, or this text is not read at a place within it
+abbrev pub IsNoText : List ℕ → Unread → Type 0
+IsNoText text (unread.Never r) = r ≡ reason.Undetermined
+IsNoText text (unread.At e) = e.at ≤ length text
+
 -- ---- what a call leaves
 
 -- The number is 0, the moment is kept, and the place is unchanged; or the moment is unchanged, and the number is that of

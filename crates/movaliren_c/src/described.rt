@@ -23,7 +23,7 @@ mod item_room;
 mod length;
 mod local_parts;
 pub mod made_item;
-mod run;
+pub mod run;
 mod syntax;
 
 use crate::answers::reason::{Reason, answer_number, reason_of};

@@ -10,6 +10,7 @@ mod iso8601;
 mod items;
 mod mail;
 mod place;
+mod steps;
 
 use crate::answers::reason::{Reason, answer_number};
 use crate::values::moment::{Moment, UtcMoment, parts_of};

@@ -1,16 +1,21 @@
 //! Texts by a description, read back as moments.
-ghost use Rattle.std.specs.Prelude.{◌≡◌, IfErr, IfOk, MatchResult, Ok};
+ghost use Rattle.std.specs.Prelude.{◌≡◌, ℕ, IfErr, IfOk, List, MatchResult, Ok, Result, map};
 ghost use Rattle.movaliren_c.specs.Items.{trees_of};
-ghost use Rattle.movaliren_c.specs.ReadItems.{HasText, HasTextInUtc, HasTextOfMoment};
+ghost use Rattle.movaliren_c.specs.ReadItems.{HasText, HasTextInUtc, HasTextOfMoment, IsNoText};
 ghost use Rattle.movaliren_c.specs.ReadItems.{IsReadBy, IsTextOf, IsUnread, LeavesRead, read_tree};
+ghost use Rattle.movaliren_c.specs.Steps.{IsRight, trees_by};
 ghost use Rattle.movaliren_c.specs.Value.{timestamp_value};
+ghost use Rattle.movaliren_c.specs.declared.answers.reason.Reason.{Reason};
+ghost use Rattle.time_below.specs.Tree.{Tree, trees};
+ghost use Rattle.time_fmt.specs.Description.{trees_outcome};
+ghost use Rattle.time_fmt.specs.Outcome.{done};
 
 use crate::answers::reason::{Reason, answer_number};
 use crate::described::item::{Item, Part, part_of};
 use crate::described::made_item::item_of;
-use crate::described::width;
 use crate::read::OfValue;
 use crate::read::place::ReadError;
+use crate::read::steps::{KEPT, first_steps, no_step, put_steps};
 use crate::values::moment::{Moment, UtcMoment};
 use std::convert::TryFrom;
 use time_below::format_description::Component;
@@ -46,23 +51,57 @@ impl ReadStep for Item {
     }
 }
 
-/// The value whose text by the items is this text, or why none is read.
-fn value_of<V: Readable>(items: &[Item], texts: &[u8], text: &[u8]) -> Result<V, Unread>
+/// A description by its items, and by its steps where these are kept.
+#[derive(Clone, Copy)]
+pub struct Description<'a> {
+    items: &'a [Item],
+    texts: &'a [u8],
+    steps: Option<&'a [StepParts<'a>]>,
+}
+
+/// A moment that is read by a description.
+pub trait OfText: Copy {
+    /// Whether this is its text by the description.
+    ghost HasText: { Result (List Tree) Reason → List ℕ → Self → Type 0 };
+
+    /// The moment of the text, or why none is read.
+    fn of_text(description: &Description<'_>, text: &[u8]) -> Result<Self, Unread>
+        requires right { IsRight description.now }
+        ensures read { MatchResult result (HasText (trees_by description.now) text.now)
+            (IsUnread (trees_by description.now) text.now) };
+}
+
+/// The value that the steps write as this text, or why none is read.
+fn value_by<T: ReadStep, V: Readable>(steps: &[T], texts: &[u8], text: &[u8]) -> Result<V, Unread>
 where
     V::State: Drop,
     V: Drop,
-    ensures read { IfOk result (λ v. IsTextOf (trees_of texts.now items.now) (V.facts v) text.now) }
-    ensures unread { IfErr result (IsUnread (trees_of texts.now items.now) text.now) }
+    ensures read { IfOk result (λ v.
+        trees_outcome (trees (map (T.tree_of texts.now) steps.now)) (V.facts v) ≡ done text.now) }
+    ensures unread { IfErr result (IsNoText text.now) }
 {
-    if let Err(invalid) = width(items, texts) {
-        return Err(Unread::Never(invalid));
-    }
-    let Ok(reader) = reader_of_steps::<Item, V>(items, texts) else {
+    let Ok(reader) = reader_of_steps::<T, V>(steps, texts) else {
         return Err(Unread::Never(Reason::Undetermined));
     };
     match reader.read(text) {
         Ok(value) => Ok(value),
         Err(fault) => Err(Unread::At(fault)),
+    }
+}
+
+/// The value whose text by the description is this text, or why none is read.
+#[tactic(auto, using(crate::proofs::ReadItemLemmas::read_by_items, crate::proofs::ReadItemLemmas::read_by_steps, crate::proofs::ReadItemLemmas::unread_by_valid))]
+fn value_of<V: Readable>(description: &Description<'_>, text: &[u8]) -> Result<V, Unread>
+where
+    V::State: Drop,
+    V: Drop,
+    requires right { IsRight description.now }
+    ensures read { IfOk result (λ v. IsTextOf (trees_by description.now) (V.facts v) text.now) }
+    ensures unread { IfErr result (IsUnread (trees_by description.now) text.now) }
+{
+    match description.steps {
+        Some(steps) => value_by::<StepParts<'_>, V>(steps, &[], text),
+        None => value_by::<Item, V>(description.items, description.texts, text),
     }
 }
 
@@ -109,14 +148,14 @@ fn leave<M: Copy>(read: Result<M, Unread>, moment: &mut M, error: &mut ReadError
     }
 }
 
-/// The moment by its parts whose text by the items is this text.
-fn parts_of_text(items: &[Item], texts: &[u8], text: &[u8]) -> Result<Moment, Unread>
-    ensures { MatchResult result (HasText (trees_of texts.now items.now) text.now)
-        (IsUnread (trees_of texts.now items.now) text.now) }
-{
-    match value_of::<OffsetDateTime>(items, texts, text) {
-        Ok(value) => Ok(Moment::of_value(value)),
-        Err(unread) => Err(unread),
+impl OfText for Moment {
+    ghost HasText = { HasText };
+
+    fn of_text(description: &Description<'_>, text: &[u8]) -> Result<Moment, Unread> {
+        match value_of::<OffsetDateTime>(description, text) {
+            Ok(value) => Ok(Moment::of_value(value)),
+            Err(unread) => Err(unread),
+        }
     }
 }
 
@@ -131,28 +170,56 @@ fn utc_parts(moment: Timestamp) -> UtcMoment
     }
 }
 
-/// The moment in UTC whose text by the items is this text.
-fn moment_in_utc(items: &[Item], texts: &[u8], text: &[u8]) -> Result<UtcMoment, Unread>
-    ensures { MatchResult result (HasTextInUtc (trees_of texts.now items.now) text.now)
-        (IsUnread (trees_of texts.now items.now) text.now) }
+/// The moment in UTC whose text by the description is this text.
+fn moment_in_utc(description: &Description<'_>, text: &[u8]) -> Result<UtcMoment, Unread>
+    requires right { IsRight description.now }
+    ensures read { MatchResult result (HasTextInUtc (trees_by description.now) text.now)
+        (IsUnread (trees_by description.now) text.now) }
 {
-    match value_of::<Timestamp>(items, texts, text) {
+    match value_of::<Timestamp>(description, text) {
         Ok(value) => Ok(utc_parts(value)),
         Err(unread) => Err(unread),
     }
 }
 
-/// The moment whose text by the items is this text: with its offset, or in UTC where the items show
-/// none.
-fn moment_of_text(items: &[Item], texts: &[u8], text: &[u8]) -> Result<UtcMoment, Unread>
-    ensures { MatchResult result (HasTextOfMoment (trees_of texts.now items.now) text.now)
-        (IsUnread (trees_of texts.now items.now) text.now) }
-{
-    match value_of::<OffsetDateTime>(items, texts, text) {
-        Ok(value) => Ok(UtcMoment::of_value(value)),
-        Err(Unread::Never(Reason::Undetermined)) => moment_in_utc(items, texts, text),
-        Err(unread) => Err(unread),
+impl OfText for UtcMoment {
+    ghost HasText = { HasTextOfMoment };
+
+    /// The moment is that of a local date and time with its offset, or in UTC where the description
+    /// shows no offset.
+    fn of_text(description: &Description<'_>, text: &[u8]) -> Result<UtcMoment, Unread> {
+        match value_of::<OffsetDateTime>(description, text) {
+            Ok(value) => Ok(UtcMoment::of_value(value)),
+            Err(Unread::Never(Reason::Undetermined)) => moment_in_utc(description, text),
+            Err(unread) => Err(unread),
+        }
     }
+}
+
+/// Reads a text by a description.
+#[tactic(auto, using(crate::proofs::StepLemmas::steps_of_room))]
+fn read_by<'a, M: OfText>(
+    items: &'a [Item],
+    texts: &'a [u8],
+    text: &[u8],
+    moment: &mut M,
+    error: &mut ReadError,
+) -> isize
+    ensures { IsReadBy (M.HasText (trees_of texts.now items.now) text.now)
+        (IsUnread (trees_of texts.now items.now) text.now) result
+        moment.old moment.new error.old error.new }
+{
+    let mut room = [no_step(); KEPT];
+    let count = match put_steps(items, texts, &mut room) {
+        Ok(count) => count,
+        Err(reason) => return leave(Err(Unread::Never(reason)), moment, error),
+    };
+    let description = Description {
+        items,
+        texts,
+        steps: first_steps(&room, count),
+    };
+    leave(M::of_text(&description, text), moment, error)
 }
 
 /// Reads a text by a description as a moment by its parts.
@@ -168,7 +235,7 @@ pub extern "C" fn movaliren_items_read(
         (IsUnread (trees_of texts.now items.now) text.now) result
         moment.old moment.new error.old error.new }
 {
-    leave(parts_of_text(items, texts, text), moment, error)
+    read_by(items, texts, text, moment, error)
 }
 
 /// Reads a text by a description as a moment in UTC.
@@ -184,5 +251,5 @@ pub extern "C" fn movaliren_items_read_utc(
         (IsUnread (trees_of texts.now items.now) text.now) result
         moment.old moment.new error.old error.new }
 {
-    leave(moment_of_text(items, texts, text), moment, error)
+    read_by(items, texts, text, moment, error)
 }
