@@ -1,6 +1,4 @@
 //! Steps of any kind: what is read of them.
-//!
-//! `inline(always)` makes the parts of a plan's step those of the plan, with no copy.
 ghost use Rattle.std.specs.Prelude.{◌≡◌, true, List, ℕ};
 ghost use Rattle.time_below.specs.Tree.{Tree};
 ghost use Rattle.time_plan.specs.Literal.{literal_bytes};

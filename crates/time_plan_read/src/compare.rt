@@ -1,4 +1,6 @@
 //! The text of a value by the steps of a plan, compared with another one.
+//!
+//! Its attributes make a read one function with what is met often, as those of `steps` do.
 ghost use Rattle.std.specs.Prelude.{◌≡◌, ◌≤◌, ℕ, true, List, ◌++◌, IfSome, IfNone, IsNone, IsSome};
 ghost use Rattle.std.specs.Prelude.{IsSomeAnd, length, map, take};
 ghost use Rattle.time_below.specs.Tree.{Tree, Trees, more, trees};

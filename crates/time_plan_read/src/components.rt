@@ -1,7 +1,6 @@
 //! The components of a text, one by one.
 //!
-//! `inline(always)` and `inline(never)` keep what is met often, in its usual form, in the loop over
-//! the steps, and all else out of it.
+//! Its attribute makes a read one function with what is met often, as those of `steps` do.
 ghost use Rattle.std.specs.Prelude.{◌<◌, IfSome};
 
 use crate::behind::fixed_decimals;

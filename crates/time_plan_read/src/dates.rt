@@ -1,4 +1,6 @@
 //! The date that the numbers of a text are of.
+//!
+//! Its attributes make a read one function with what is met often, as those of `steps` do.
 ghost use Rattle.std.specs.Prelude.{◌≡◌};
 ghost use Rattle.time_below.specs.Calendar.{OrdinalDate, IsDate, day_of as day_in_month, month_of};
 ghost use Rattle.time_plan_read.specs.Kinds.{Have, of_date};

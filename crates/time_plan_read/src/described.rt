@@ -1,4 +1,6 @@
 //! Descriptions by their steps.
+//!
+//! Its attributes make a read one function with what is met often, as those of `steps` do.
 ghost use Rattle.std.specs.Prelude.{◌≡◌, ◌∷◌, ◌++◌, ℕ, true, IfNone, IsNone, IsSomeAnd, List, []};
 ghost use Rattle.std.specs.Prelude.{map};
 ghost use Rattle.time_below.specs.Facts.{Facts};

@@ -1,4 +1,6 @@
 //! Names and literals at the front of a text.
+//!
+//! Its attributes make a read one function with what is met often, as those of `steps` do.
 ghost use Rattle.std.specs.Prelude.{◌≡◌, ◌≤◌, ◌∷◌, ◌++◌, ℕ, List, IfSome, IsSomeAnd, length, drop};
 ghost use Rattle.time_plan_read.specs.Parts.{ref_bytes};
 

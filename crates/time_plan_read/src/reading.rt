@@ -1,4 +1,6 @@
 //! Reading the texts of a description.
+//!
+//! Its attributes make a read one function with what is met often, as those of `steps` do.
 ghost use Rattle.std.specs.Prelude.{◌≡◌, ◌≤◌, ◌++◌, true, [], IfErr, IfOk, IfSome, IsOk, IsSome};
 ghost use Rattle.std.specs.Prelude.{IsSomeAnd, IsTrue, length};
 ghost use Rattle.time_fmt.specs.Outcome.{done};

@@ -1,4 +1,6 @@
 //! Dates and times of day that are one step.
+//!
+//! Its attributes make a read one function with what is met often, as those of `steps` do.
 ghost use Rattle.std.specs.Prelude.{◌≡◌, ◌≤◌, ◌<◌, ◌++◌, ℕ, IfNone, IfSome, List, pos};
 ghost use Rattle.time_fmt.specs.Runs.{day_part, hour_part, minute_part, month_part, run_tree};
 ghost use Rattle.time_fmt.specs.Runs.{second_part, three_parts, year_part};

@@ -1,4 +1,6 @@
 //! The values that are read.
+//!
+//! Its attributes make a read one function with what is met often, as those of `steps` do.
 ghost use Rattle.std.specs.Prelude.{IsSomeAnd};
 ghost use Rattle.time_plan_read.specs.Numbers.{AreNumbersOf, Completes, HasUnset, HaveOneSecond};
 
