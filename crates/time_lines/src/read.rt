@@ -1,4 +1,6 @@
 //! Texts in lines, read and replaced by what is shown of their moments.
+//!
+//! Without `inline(always)` the compiler leaves calls of the functions that have it.
 ghost use Rattle.std.specs.Prelude.{◌≡◌, ◌+◌, ◌≤◌, length, take, drop, IfSome, IfNone, OnOk};
 ghost use Rattle.std.specs.Prelude.{if◌then◌else◌};
 ghost use Rattle.line_streams.specs.Filter.{Adds};
@@ -42,6 +44,7 @@ fn offset_length(text: &[u8]) -> usize
 }
 
 /// How many bytes decimals, if there are any, and an offset have that the text begins with.
+#[inline(always)]
 fn tail_length(text: &[u8]) -> usize
     ensures value { result ≡ tail_length text.now }
     ensures small { result ≤ length text.now + 6 }
@@ -57,6 +60,7 @@ fn tail_length(text: &[u8]) -> usize
 
 /// The text of RFC 3339 that this text begins with, if it does: how many bytes it has, and its
 /// value.
+#[inline(always)]
 fn text_here(reader: &mut LenientReader, text: &[u8]) -> Option<(usize, OffsetDateTime)>
     ensures inside { IfSome result (λ r. r.0 ≤ length text.now) }
     ensures means { IfSome result (λ r. Rfc3339Means r.1 (take r.0 text.now)) }
@@ -81,6 +85,7 @@ fn text_here(reader: &mut LenientReader, text: &[u8]) -> Option<(usize, OffsetDa
 impl Reads for LenientReader {
     ghost reads = { λ _. ReadsRfc3339 };
 
+    #[inline(always)]
     fn read_front(&mut self, text: &[u8]) -> Option<Front> {
         let (count, value) = text_here(self, text)?;
         Some(Front {
@@ -99,6 +104,7 @@ struct FoundText {
 }
 
 /// The first text of the line that is read, if it has one.
+#[inline(always)]
 fn first_text<R: Reads>(reader: &mut R, line: &[u8]) -> Option<FoundText>
     ensures same { SameReads (R.reads reader.old) (R.reads reader.new) }
     ensures some { IfSome result (λ r. IsFirstText (R.reads reader.old) line.now r.at r.front) }
@@ -116,6 +122,7 @@ fn first_text<R: Reads>(reader: &mut R, line: &[u8]) -> Option<FoundText>
 
 /// Appends the line with what is shown of the moment of a text of it in place of the text. Says
 /// whether a text took its place.
+#[inline(always)]
 fn append_found<S: Shows>(
     shown: &mut S,
     output: &mut Vec<u8>,
