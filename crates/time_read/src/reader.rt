@@ -60,6 +60,7 @@ impl LenientReader {
     }
 
     // Whether a text begins with a date, which then is the one that is cached.
+    #[inline(always)]
     fn keeps(&mut self, text: &[u8]) -> bool
         requires { LENGTH ≤ length text.now }
         ensures { result ≡ true → self.new.bytes ≡ take 10 text.now }
@@ -81,6 +82,7 @@ impl LenientReader {
 }
 
 // Eight bytes as one number.
+#[inline(always)]
 fn word(bytes: &[u8]) -> u64
     requires { length bytes.now ≡ 8 }
     ensures value { result ≡ from_le_bytes w64 bytes.now }
@@ -93,6 +95,7 @@ fn word(bytes: &[u8]) -> u64
 
 // Whether a text begins with these bytes, by two words that overlap: a comparison of slices is a
 // call.
+#[inline(always)]
 fn begins_with(text: &[u8], bytes: &[u8; LENGTH]) -> bool
     requires text { LENGTH ≤ length text.now }
     requires bytes { length bytes.now ≡ LENGTH }
