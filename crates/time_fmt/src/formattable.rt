@@ -1,6 +1,6 @@
 //! Descriptions of a text.
 //!
-//! `cold` and `inline(never)` keep long or rare bodies out of their callers.
+//! `cold` keeps long or rare bodies out of their callers.
 ghost use Rattle.std.specs.Prelude.{◌≡◌, ◌≢◌, ℕ, List, ◌+◌, ◌<◌, ◌≤◌, None, IsOk, is_err, OnOk};
 ghost use Rattle.std.specs.Prelude.{IfOk, IfErr, IfSome, IsSome, IsSomeAnd, IsTrue, [], IsUtf8};
 ghost use Rattle.std.specs.Prelude.{string_bytes, vec_len, vec_capacity};
@@ -180,7 +180,6 @@ pub fn make_room(output: &mut Vec<u8>, width: usize) -> Result<(), AllocError>
 /// Reserves spare capacity for this many bytes, of which some are missing. A call of its own keeps
 /// the fast path free of what this one needs.
 #[cold]
-#[inline(never)]
 fn grow(output: &mut Vec<u8>, width: usize) -> Result<(), AllocError>
     requires missing { vec_capacity output.old < vec_len output.old + width }
     ensures items { output.new.items ≡ output.old.items }

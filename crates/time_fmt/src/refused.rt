@@ -1,6 +1,6 @@
 //! What components refuse.
 //!
-//! `cold` and `inline(never)` keep long or rare bodies out of their callers.
+//! `cold` keeps long or rare bodies out of their callers.
 ghost use Rattle.time_fmt.specs.Ends.{refusal_of};
 ghost use Rattle.time_fmt.specs.Outcome.{Names};
 
@@ -22,7 +22,6 @@ impl From<Refused> for Format {
 
     // A call, so that the paths of texts that are not refused stay small.
     #[cold]
-    #[inline(never)]
     fn from(refused: Refused) -> Format {
         match refused {
             Refused::Unsupplied => Format::InsufficientTypeInformation,

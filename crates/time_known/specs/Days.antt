@@ -2,7 +2,6 @@
 use Rattle.std.specs.Prelude.{ℕ, ◌+◌, ◌-◌, Bool, true, ◌||◌, List, [], codes, nat_lt, if◌then◌else◌}
 use Rattle.time_below.specs.Calendar.{days_of_months, last_begun}
 use Rattle.time_known.specs.declared.days.CalendarDay.{CalendarDay}
-use Rattle.time_known.specs.declared.days.CalendarDay.TheVariants as day
 
 -- a month, and a day of it
 pub record MonthAndDay : Type 0 where
@@ -18,8 +17,7 @@ month_and_day_in is_leap ordinal = record {
 
 -- those that are meant
 abbrev pub month_and_day : CalendarDay → MonthAndDay
-month_and_day (day.OfLeapYear ordinal) = month_and_day_in true ordinal
-month_and_day (day.OfMonth month number) = record { month = month; day = number }
+month_and_day d = month_and_day_in true d.0
 
 -- a dash, if it is wanted
 abbrev pub dash : Bool → List ℕ

@@ -9,9 +9,9 @@ ghost use Rattle.time_fmt.specs.DateText.{month_name, short_name};
 ghost use Rattle.time_known.specs.Days.{dash, day_of_leap_year, month_and_day, month_and_day_in};
 
 use time_below::is_leap_year;
+use time_digits::ru16;
 use time_digits::tables::piece_of;
-use time_digits::{ru8, ru16, two_digits_zero_padded};
-use time_provide::ranges::{Day, Ordinal, Year};
+use time_provide::ranges::{Ordinal, Year};
 
 // Two digits of the month and two of the day, a space and the month's name, of each day of a leap
 // year: eight bytes a day. A common year has all of these but 29 February.
@@ -87,29 +87,18 @@ const ORDINALS: &str = "\
 -341-342-343-344-345-346-347-348-349-350-351-352-353-354-355-356-357-358-359-360\
 -361-362-363-364-365-366";
 
-/// The month and the day of a date.
+/// The month and the day of a date, by the day of a leap year that has the same.
 #[derive(Clone, Copy)]
-pub enum CalendarDay {
-    /// Those of this day of a leap year.
-    OfLeapYear(Ordinal),
-    /// These, which nothing makes. With the other variant alone the compiler vectorizes the copies
-    /// of the table's text, and RFC 3339 and RFC 2822 cost more.
-    OfMonth {
-        /// The month, 1 to 12.
-        month: ru8<1, 12>,
-        /// The day of the month.
-        day: Day,
-    },
-}
+pub struct CalendarDay(Ordinal);
 
 impl CalendarDay {
     /// The month and the day of a day of this year. None of them is computed: the table has both.
     #[tactic(auto, using(crate::proofs::DayLemmas::same_month_and_day))]
-    pub fn in_year(year: Year, ordinal: Ordinal) -> CalendarDay
+    pub(crate) fn in_year(year: Year, ordinal: Ordinal) -> CalendarDay
         requires { IsInRange 1 (days_in_year year) ordinal }
         ensures { month_and_day result ≡ month_and_day_in (is_leap_year year) ordinal }
     {
-        CalendarDay::OfLeapYear(day_of_leap_year(is_leap_year(year.get()), ordinal))
+        CalendarDay(day_of_leap_year(is_leap_year(year.get()), ordinal))
     }
 
     // Two digits of the month, and two of the day.
@@ -119,16 +108,8 @@ impl CalendarDay {
         ensures month_length { length result.0.now ≡ 2 }
         ensures day_length { length result.1.now ≡ 2 }
     {
-        match self {
-            CalendarDay::OfLeapYear(day) => {
-                let row = 8 * (day.get() as usize - 1);
-                (piece_of(DAYS, row, 2), piece_of(DAYS, row + 2, 2))
-            }
-            CalendarDay::OfMonth { month, day } => (
-                two_digits_zero_padded(month.expand()),
-                two_digits_zero_padded(day.expand()),
-            ),
-        }
+        let row = 8 * (self.0.get() as usize - 1);
+        (piece_of(DAYS, row, 2), piece_of(DAYS, row + 2, 2))
     }
 
     // The first letter of the month's English name, and the next two.
@@ -138,13 +119,8 @@ impl CalendarDay {
         ensures first { length result.0.now ≡ 1 }
         ensures rest { length result.1.now ≡ 2 }
     {
-        match self {
-            CalendarDay::OfLeapYear(day) => {
-                let row = 8 * (day.get() as usize - 1);
-                (piece_of(DAYS, row + 5, 1), piece_of(DAYS, row + 6, 2))
-            }
-            CalendarDay::OfMonth { month, day: _ } => month_letters(month),
-        }
+        let row = 8 * (self.0.get() as usize - 1);
+        (piece_of(DAYS, row + 5, 1), piece_of(DAYS, row + 6, 2))
     }
 }
 
@@ -176,27 +152,5 @@ fn day_of_leap_year(is_leap: bool, ordinal: Ordinal) -> Ordinal
         ordinal
     } else {
         ru16::within(number + 1)
-    }
-}
-
-// The first letter of the month's English name, and the next two.
-fn month_letters(month: ru8<1, 12>) -> (&'static str, &'static str)
-    ensures text { result.0.now ++ result.1.now ≡ short_name (month_name month) }
-    ensures first { length result.0.now ≡ 1 }
-    ensures rest { length result.1.now ≡ 2 }
-{
-    match month.get() {
-        1 => ("J", "an"),
-        2 => ("F", "eb"),
-        3 => ("M", "ar"),
-        4 => ("A", "pr"),
-        5 => ("M", "ay"),
-        6 => ("J", "un"),
-        7 => ("J", "ul"),
-        8 => ("A", "ug"),
-        9 => ("S", "ep"),
-        10 => ("O", "ct"),
-        11 => ("N", "ov"),
-        _ => ("D", "ec"),
     }
 }

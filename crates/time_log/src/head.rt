@@ -1,6 +1,6 @@
 //! The text of a second at an offset, up to its decimals.
 //!
-//! `cold` and `inline(never)` keep long or rare bodies out of their callers.
+//! `cold` keeps long or rare bodies out of their callers.
 ghost use Rattle.std.specs.Prelude.{◌≡◌, IfNone, IfSome};
 ghost use Rattle.time_below.specs.Moment.{local_at};
 ghost use Rattle.time_log.specs.LogText.{IsFourDigits, IsLogOffset, text_to_point};
@@ -17,7 +17,6 @@ pub(crate) const LENGTH: usize = 20;
 
 /// The text of the second that a moment is in, if its year at the offset has four digits.
 #[cold]
-#[inline(never)]
 pub(crate) fn head_at(moment: Timestamp, offset: UtcOffset) -> Option<[u8; LENGTH]>
     requires accepted { IsLogOffset offset }
     ensures head { IfSome result (λ head. head ≡ text_to_point (local_at moment offset)) }

@@ -162,7 +162,6 @@ pub trait ComponentProvider {
     }
 
     /// The day of the week.
-    #[inline(always)]
     final fn weekday(&self, state: &mut Self::State) -> Weekday
         requires supplied { IsTrue SUPPLIES_DATE }
         requires agrees { agrees state.old self.now }
@@ -224,7 +223,6 @@ pub trait ComponentProvider {
     }
 
     /// The year of the week calendar, -999,999 to 999,999.
-    #[inline(always)]
     final fn iso_year(&self, state: &mut Self::State) -> Year
         requires supplied { IsTrue SUPPLIES_DATE }
         requires agrees { agrees state.old self.now }
@@ -264,7 +262,6 @@ pub trait ComponentProvider {
     }
 
     /// AM or PM: before noon, or from noon on.
-    #[inline(always)]
     final fn period(&self, state: &mut Self::State) -> Period
         requires supplied { IsTrue SUPPLIES_TIME }
         requires agrees { agrees state.old self.now }

@@ -1,6 +1,4 @@
 //! The current component in the place of each deprecated one.
-//!
-//! `inline(never)` keeps long or rare bodies out of their callers.
 ghost use Rattle.std.specs.Prelude.{◌≡◌, IsTrue};
 ghost use Rattle.time_below.specs.Conversion.{current_component, is_current};
 
@@ -17,7 +15,6 @@ macro_rules! current {
 }
 
 // The number or the name of the month, by the choice.
-#[inline(never)]
 pub(crate) fn current_month(modifier: modifier::Month) -> Component
     ensures converted { result ≡ current_component (Component.Month modifier) }
     ensures current { IsTrue (is_current result) }
@@ -30,7 +27,6 @@ pub(crate) fn current_month(modifier: modifier::Month) -> Component
 }
 
 // The name of the weekday or a digit, by the choice.
-#[inline(never)]
 pub(crate) fn current_weekday(modifier: modifier::Weekday) -> Component
     ensures converted { result ≡ current_component (Component.Weekday modifier) }
     ensures current { IsTrue (is_current result) }
@@ -44,7 +40,6 @@ pub(crate) fn current_weekday(modifier: modifier::Weekday) -> Component
 }
 
 // The week number of the chosen calendar.
-#[inline(never)]
 pub(crate) fn current_week_number(modifier: modifier::WeekNumber) -> Component
     ensures converted { result ≡ current_component (Component.WeekNumber modifier) }
     ensures current { IsTrue (is_current result) }
@@ -57,7 +52,6 @@ pub(crate) fn current_week_number(modifier: modifier::WeekNumber) -> Component
 }
 
 // The hour of the chosen clock.
-#[inline(never)]
 pub(crate) fn current_hour(modifier: modifier::Hour) -> Component
     ensures converted { result ≡ current_component (Component.Hour modifier) }
     ensures current { IsTrue (is_current result) }
@@ -69,7 +63,6 @@ pub(crate) fn current_hour(modifier: modifier::Hour) -> Component
 }
 
 // The timestamp in the chosen unit.
-#[inline(never)]
 pub(crate) fn current_unix_timestamp(modifier: modifier::UnixTimestamp) -> Component
     ensures converted { result ≡ current_component (Component.UnixTimestamp modifier) }
     ensures current { IsTrue (is_current result) }
@@ -83,7 +76,6 @@ pub(crate) fn current_unix_timestamp(modifier: modifier::UnixTimestamp) -> Compo
 }
 
 // The year by the chosen calendar, part and range.
-#[inline(never)]
 pub(crate) fn current_year(modifier: modifier::Year) -> Component
     ensures converted { result ≡ current_component (Component.Year modifier) }
     ensures current { IsTrue (is_current result) }

@@ -1,7 +1,7 @@
 //! The engine: one recursion for each kind of tree.
 //!
-//! Without `inline(always)` the compiler leaves calls of the functions that have it. `cold` and
-//! `inline(never)` keep long or rare bodies out of their callers.
+//! Without `inline(always)` the compiler leaves calls of the functions that have it.
+//! `inline(never)` keeps long or rare bodies out of their callers.
 ghost use Rattle.std.specs.Prelude.{map, true};
 ghost use Rattle.time_below.specs.Tree.{all_of, trees};
 ghost use Rattle.time_below.specs.Width.{tree_width, trees_width};

@@ -35,7 +35,6 @@ pub struct ShortMonthName(pub Month);
 impl TextKind for ShortMonthName {
     ghost kind = { λ text. kind.short (kind.month (month_number text.0)) };
 
-    #[inline(always)]
     fn put<S: Sink>(self, output: &mut S) -> usize {
         let (name, _) = padded_month_name(self.0);
         write_three(output, &name.as_bytes()[..3])
@@ -52,7 +51,10 @@ impl TextKind for WeekdayName {
     #[inline(always)]
     fn put<S: Sink>(self, output: &mut S) -> usize {
         let (name, len) = padded_weekday_name(self.0);
-        write_first(output, name, len)
+        let mut taken = output.take_out();
+        let count = write_first(&mut taken, name, len);
+        output.put_back(taken);
+        count
     }
 }
 
@@ -63,7 +65,6 @@ pub struct ShortWeekdayName(pub Weekday);
 impl TextKind for ShortWeekdayName {
     ghost kind = { λ text. kind.short (kind.weekday (days_from_monday text.0)) };
 
-    #[inline(always)]
     fn put<S: Sink>(self, output: &mut S) -> usize {
         let (name, _) = padded_weekday_name(self.0);
         write_three(output, &name.as_bytes()[..3])

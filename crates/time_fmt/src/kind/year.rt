@@ -1,7 +1,7 @@
 //! Whole years, of the calendar or of the week calendar.
 //!
 //! With `inline(always)` the text of a component that is met often is written without a call.
-//! `cold` and `inline(never)` keep long or rare bodies out of their callers.
+//! `cold` keeps long or rare bodies out of their callers.
 #![tactic(auto, using(crate::proofs::TextLemmas::signed_lengths))]
 
 ghost use Rattle.std.specs.Prelude.{◌≡◌, ◌<◌, ◌≤◌, IfErr, IfOk, length, unsigned_abs};
@@ -77,7 +77,6 @@ fn write_rare_year<S: Sink>(
 
 // Any year, of a sink that was taken out.
 #[cold]
-#[inline(never)]
 fn write_signed_year<S: Sink>(
     output: &mut S,
     year: Year,

@@ -1,7 +1,7 @@
 //! Numbers, and the signs before them.
 //!
-//! Without `inline(always)` the compiler leaves calls of the functions that have it. `cold` and
-//! `inline(never)` keep long or rare bodies out of their callers.
+//! Without `inline(always)` the compiler leaves calls of the functions that have it. `cold` keeps
+//! long or rare bodies out of their callers.
 ghost use Rattle.std.specs.Prelude.{◌≡◌, ◌<◌, ◌≤◌, length, decimal, replicate};
 ghost use Rattle.time_digits.specs.Digits.{fixed, zero_padded};
 ghost use Rattle.time_fmt.specs.Ends.{EndsWhole};
@@ -88,7 +88,6 @@ pub(crate) fn write_two_rarely<S: Sink>(
 
 // Appends two places to a sink that was taken out.
 #[cold]
-#[inline(never)]
 fn write_two_places<S: Sink>(output: &mut S, value: ru8<0, 99>, padding: Padding) -> usize
     requires room { Fits (S.buffer output.old) (length (padded_text padding 2 value)) }
     ensures writes { Puts (S.buffer output.old) (S.buffer output.new) result
@@ -146,7 +145,6 @@ fn write_four_rarely<S: Sink>(output: &mut S, value: ru16<0, 9_999>, padding: Pa
 
 // Appends four places to a sink that was taken out.
 #[cold]
-#[inline(never)]
 fn write_four_places<S: Sink>(output: &mut S, value: ru16<0, 9_999>, padding: Padding) -> usize
     requires room { Fits (S.buffer output.old) (length (padded_text padding 4 value)) }
     ensures writes { Puts (S.buffer output.old) (S.buffer output.new) result

@@ -169,7 +169,6 @@ pub(crate) fn write_pair<S: Sink>(output: &mut S, text: &str) -> usize
 }
 
 // Appends three bytes, as of a short name, without a loop over blocks.
-#[inline(always)]
 pub(crate) fn write_three<S: Sink>(output: &mut S, bytes: &[u8]) -> usize
     requires three { length bytes.now ≡ 3 }
     requires room { Fits (S.buffer output.old) 3 }

@@ -1,7 +1,7 @@
 //! The decimals of the second.
 //!
-//! Without `inline(always)` the compiler leaves calls of the functions that have it. `cold` and
-//! `inline(never)` keep long or rare bodies out of their callers.
+//! Without `inline(always)` the compiler leaves calls of the functions that have it. `cold` keeps
+//! long or rare bodies out of their callers.
 ghost use Rattle.std.specs.Prelude.{◌≡◌, ◌<◌, length, take};
 ghost use Rattle.time_below.specs.declared.format_description.modifier.SubsecondDigits.TheVariants as SubsecondDigits;
 ghost use Rattle.time_digits.specs.Digits.{fixed, zero_padded};
@@ -38,7 +38,6 @@ pub(crate) fn write_rare_decimals<S: Sink>(
 
 // Any number of decimals, of a sink that was taken out.
 #[cold]
-#[inline(never)]
 fn write_first_decimals<S: Sink>(
     output: &mut S,
     nanosecond: Nanoseconds,
@@ -87,7 +86,6 @@ pub fn write_three_decimals<S: Sink>(output: &mut S, nanosecond: Nanoseconds) ->
 }
 
 // Appends three digits.
-#[inline(always)]
 fn write_three_digits<S: Sink>(output: &mut S, number: ru16<0, 999>) -> usize
     requires room { Fits (S.buffer output.old) 3 }
     ensures writes { Puts (S.buffer output.old) (S.buffer output.new) 3 (zero_padded 3 number) }
@@ -171,7 +169,6 @@ pub fn write_nine_digits<S: Sink>(output: &mut S, nanosecond: Nanoseconds) -> us
 
 // Appends the nine digits without the zeros at their end, at least one digit.
 #[cold]
-#[inline(never)]
 fn write_trimmed_fraction<S: Sink>(output: &mut S, nanosecond: Nanoseconds) -> usize
     requires room { Fits (S.buffer output.old) (length (trimmed_fraction nanosecond)) }
     ensures writes { Puts (S.buffer output.old) (S.buffer output.new) result
