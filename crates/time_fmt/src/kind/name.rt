@@ -9,7 +9,7 @@ ghost use Rattle.time_fmt.specs.Kind as kind;
 
 use crate::kind::TextKind;
 use crate::sink::Sink;
-use crate::writers::{format_single_digit, write_first, write_three};
+use crate::writers::{format_single_digit, write_each, write_first, write_three};
 use time_below::names::{padded_month_name, padded_weekday_name};
 use time_below::{Month, Weekday};
 use time_digits::ru8;
@@ -48,11 +48,19 @@ pub struct WeekdayName(pub Weekday);
 impl TextKind for WeekdayName {
     ghost kind = { λ text. kind.weekday (days_from_monday text.0) };
 
+    // By constants: a copy of the padded name costs a fifth more.
     #[inline(always)]
     fn put<S: Sink>(self, output: &mut S) -> usize {
-        let (name, len) = padded_weekday_name(self.0);
         let mut taken = output.take_out();
-        let count = write_first(&mut taken, name, len);
+        let count = match self.0 {
+            Weekday::Monday => write_each(&mut taken, b"Monday"),
+            Weekday::Tuesday => write_each(&mut taken, b"Tuesday"),
+            Weekday::Wednesday => write_each(&mut taken, b"Wednesday"),
+            Weekday::Thursday => write_each(&mut taken, b"Thursday"),
+            Weekday::Friday => write_each(&mut taken, b"Friday"),
+            Weekday::Saturday => write_each(&mut taken, b"Saturday"),
+            Weekday::Sunday => write_each(&mut taken, b"Sunday"),
+        };
         output.put_back(taken);
         count
     }
