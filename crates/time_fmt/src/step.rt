@@ -53,7 +53,8 @@ pub trait WriteStep: Sized {
 
 /// Writes the steps in order, up to the first that has items of its own, and returns those that are
 /// left, or the first refusal. The sink is taken out of its borrow meanwhile, so that its address
-/// and its length stay in registers from one step to the next.
+/// and its length stay in registers from one step to the next. It goes by an index, since the
+/// compiler keeps two lengths for a slice that shrinks.
 #[inline(always)]
 pub fn write_all<'a, T: WriteStep, S: Sink, V: ComponentProvider>(
     steps: &'a [T],
@@ -75,8 +76,9 @@ pub fn write_all<'a, T: WriteStep, S: Sink, V: ComponentProvider>(
     ensures agrees { V.agrees state.new value.now }
 {
     let mut taken = output.take_out();
-    let mut left = steps;
-    while let [step, behind @ ..] = left {
+    let mut index = 0;
+    while index < steps.len() {
+        let step = &steps[index];
         match step.write_often(&mut taken, value, state) {
             Some(Ok(())) => {}
             Some(Err(refused)) => {
@@ -93,13 +95,13 @@ pub fn write_all<'a, T: WriteStep, S: Sink, V: ComponentProvider>(
                     }
                     None => {
                         output.put_back(apart);
-                        return Ok(left);
+                        return Ok(&steps[index..]);
                     }
                 }
             }
         }
-        left = behind;
+        index += 1;
     }
     output.put_back(taken);
-    Ok(left)
+    Ok(&steps[index..])
 }

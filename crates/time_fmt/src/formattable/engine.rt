@@ -34,10 +34,29 @@ pub(super) fn write_nodes<T: Node, S: Sink, V: ComponentProvider>(
 {
     let mut left = nodes;
     while let [node, behind @ ..] = write_all(left, output, value, state)? {
-        write_node(node, output, value, state)?;
+        write_inner(node, output, value, state)?;
         left = behind;
     }
     Ok(())
+}
+
+/// Writes a node with items of its own by a cold call, so that the loop asks for these last.
+#[cycle(engine)]
+#[cold]
+#[inline(never)]
+fn write_inner<T: Node, S: Sink, V: ComponentProvider>(
+    node: &T,
+    output: &mut S,
+    value: &V,
+    state: &mut V::State,
+) -> Result<(), Refused>
+    requires room { Fits (S.buffer output.old) (tree_width (T.tree node.now)) }
+    requires agrees { V.agrees state.old value.now }
+    ensures appends { AppendsTree (T.tree node.now) (V.facts value.now)
+        (S.buffer output.old) (S.buffer output.new) result }
+    ensures agrees { V.agrees state.new value.now }
+{
+    write_node(node, output, value, state)
 }
 
 /// Each node is a step.

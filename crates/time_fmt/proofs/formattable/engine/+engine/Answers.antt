@@ -7,8 +7,8 @@ use Rattle.time_fmt.proofs.Engine.{first_appends, no_first, appends_bytes, nothi
 use Rattle.time_fmt.proofs.formattable.engine.+engine.Goals as goal
 
 -- what the loop found is what is left of all nodes
-pub write_nodes-write_node-requires : goal.write_nodes-write_node-requires
-write_nodes-write_node-requires g t c κs within =
+pub write_nodes-write_inner-requires : goal.write_nodes-write_inner-requires
+write_nodes-write_inner-requires g t c κs within =
     let found = c.in_ok-write_all.field-0.now in
     let behind = take_rest found 1 in
     let up_to = written_on _ _ _ _ _ _ _ c.loop-node.invariant.2 c.in_ok-write_all.ensures.written in
@@ -20,15 +20,15 @@ write_nodes-write_node-requires g t c κs within =
     search rules
 
 -- a node that is refused ends the list
-pub write_nodes-returns-in_err-write_node-clause-appends :
-    goal.write_nodes-returns-in_err-write_node-clause-appends
-write_nodes-returns-in_err-write_node-clause-appends g t c =
+pub write_nodes-returns-in_err-write_inner-clause-appends :
+    goal.write_nodes-returns-in_err-write_inner-clause-appends
+write_nodes-returns-in_err-write_inner-clause-appends g t c =
     let found = c.in_ok-write_all.field-0.now in
     let behind = take_rest found 1 in
     let up_to = written_on _ _ _ _ _ _ _ c.loop-node.invariant.2 c.in_ok-write_all.ensures.written in
     let next = first_of_rest g.T.Node.tree found _ c.node-item.result c.in-len1-up.len_at_least c.node-item.is behind in
-    let same = err_from_is_err_and c.from_residual-in_err-write_node.result c.from_residual-in_err-write_node.ensures.1 in
-    rw (same.1, same.2) (list_refused _ _ _ _ _ _ _ _ up_to next c.in_err-write_node.ensures.appends)
+    let same = err_from_is_err_and c.from_residual-in_err-write_inner.result c.from_residual-in_err-write_inner.ensures.1 in
+    rw (same.1, same.2) (list_refused _ _ _ _ _ _ _ _ up_to next c.in_err-write_inner.ensures.appends)
 
 pub write_nodes-loop-node-preserved : goal.write_nodes-loop-node-preserved
 write_nodes-loop-node-preserved g t c =
@@ -37,9 +37,9 @@ write_nodes-loop-node-preserved g t c =
     let up_to = written_on _ _ _ _ _ _ _ c.loop-node.invariant.2 c.in_ok-write_all.ensures.written in
     let next = first_of_rest g.T.Node.tree found _ c.node-item.result c.in-len1-up.len_at_least c.node-item.is behind in
     let rest = rest_of_rest c.args.nodes.now c.loop-node.left.now found c.loop-node.invariant.1 c.in_ok-write_all.ensures.behind in (
-      c.in_ok-write_node.ensures.agrees,
+      c.in_ok-write_inner.ensures.agrees,
       less_rest _ _ _ c.in-len1-up.len_at_least behind rest,
-      written_more _ _ _ _ _ _ _ _ up_to next c.in_ok-write_node.ensures.appends,
+      written_more _ _ _ _ _ _ _ _ up_to next c.in_ok-write_inner.ensures.appends,
     )
 
 -- the end of the loop leaves nothing
