@@ -1,12 +1,14 @@
 //! Texts of a plan, read back.
-use crate::values::assert_text;
+use crate::values::{
+    assert_number, assert_refused, assert_text, assert_that, read, reader, reader_from,
+};
 use std::process::Abort;
 use std::test::Fail;
 use time::format_description::well_known::Rfc3339;
 use time::prelude::*;
 use time::{Date, OffsetDateTime, PlainDateTime, Time, Timestamp, UtcDateTime, UtcOffset};
 use time_plan::Plan;
-use time_plan_read::{NoReader, ReadPlan};
+use time_plan_read::{NoReader, ReadPlan, Readable};
 
 /// A description, a text, and the seconds from 1970 by GNU `date`.
 const MOMENTS: &[(&str, &str, i64)] = &[
@@ -44,13 +46,8 @@ fn moments_are_read(rt: HostRuntime) -> Result<(), Fail> {
     let alloc = rt.alloc();
     for (conversions, text, seconds) in MOMENTS {
         let plan = Plan::parse_strftime(alloc, conversions.as_bytes())?;
-        match plan.reader::<OffsetDateTime>() {
-            Ok(reader) => match reader.read(text.as_bytes()) {
-                Ok(moment) => assert_eq!(rt; moment.unix_timestamp(), *seconds),
-                Err(fault) => panic!(rt; "{text}: {fault}"),
-            },
-            Err(refused) => panic!(rt; "{conversions}: {refused}"),
-        }
+        let moment: OffsetDateTime = read(&rt, &reader(&rt, &plan), text);
+        assert_number(&rt, text, moment.unix_timestamp(), *seconds);
     }
     Ok(())
 }
@@ -73,13 +70,9 @@ fn dates_are_read(rt: HostRuntime) -> Result<(), Fail> {
     let alloc = rt.alloc();
     for (conversions, text, year, ordinal) in DATES {
         let plan = Plan::parse_strftime(alloc, conversions.as_bytes())?;
-        match plan.reader::<Date>() {
-            Ok(reader) => match reader.read(text.as_bytes()) {
-                Ok(date) => assert_eq!(rt; date.to_ordinal_date(), (*year, *ordinal)),
-                Err(fault) => panic!(rt; "{text}: {fault}"),
-            },
-            Err(refused) => panic!(rt; "{conversions}: {refused}"),
-        }
+        let date: Date = read(&rt, &reader(&rt, &plan), text);
+        assert_number(&rt, text, i64::from(date.year()), i64::from(*year));
+        assert_number(&rt, text, i64::from(date.ordinal()), i64::from(*ordinal));
     }
     Ok(())
 }
@@ -91,43 +84,24 @@ fn each_type_is_read(rt: HostRuntime) -> Result<(), Fail> {
     let shown = Plan::parse_strftime(alloc, b"%Y%m%d%H%M%S")?;
     let offset = Plan::parse_strftime(alloc, b"%z")?;
     let unix = Plan::parse_strftime(alloc, b"%s")?;
-    if let Ok(reader) = noon.reader::<Time>() {
-        assert!(rt; reader.read(b"12:30 AM").is_ok_and(|time| time.hour() == 0));
-        assert!(rt; reader.read(b"12:30 PM").is_ok_and(|time| time.hour() == 12));
-    }
-    if let Ok(reader) = shown.reader::<PlainDateTime>() {
-        assert!(rt;
-            reader
-                .read(b"20261128133000")
-                .is_ok_and(|shown| shown.date().day() == 28)
-        );
-        assert!(rt;
-            reader
-                .read(b"+1234560102030405")
-                .is_ok_and(|shown| shown.time().hour() == 3)
-        );
-    }
-    if let Ok(reader) = shown.reader::<UtcDateTime>() {
-        assert!(rt;
-            reader
-                .read(b"19700102000000")
-                .is_ok_and(|utc| utc.unix_timestamp() == 86_400)
-        );
-    }
-    if let Ok(reader) = offset.reader::<UtcOffset>() {
-        assert!(rt;
-            reader
-                .read(b"-0130")
-                .is_ok_and(|offset| offset.whole_seconds() == -5_400)
-        );
-    }
-    if let Ok(reader) = unix.reader::<Timestamp>() {
-        assert!(rt;
-            reader
-                .read(b"-1")
-                .is_ok_and(|moment| moment.as_seconds() == -1)
-        );
-    }
+    let noon = reader::<Time>(&rt, &noon);
+    assert_that(&rt, read(&rt, &noon, "12:30 AM").hour() == 0);
+    assert_that(&rt, read(&rt, &noon, "12:30 PM").hour() == 12);
+    let local = reader::<PlainDateTime>(&rt, &shown);
+    assert_that(&rt, read(&rt, &local, "20261128133000").date().day() == 28);
+    assert_that(
+        &rt,
+        read(&rt, &local, "+1234560102030405").time().hour() == 3,
+    );
+    let utc = reader::<UtcDateTime>(&rt, &shown);
+    assert_that(
+        &rt,
+        read(&rt, &utc, "19700102000000").unix_timestamp() == 86_400,
+    );
+    let offset = reader::<UtcOffset>(&rt, &offset);
+    assert_that(&rt, read(&rt, &offset, "-0130").whole_seconds() == -5_400);
+    let unix = reader::<Timestamp>(&rt, &unix);
+    assert_that(&rt, read(&rt, &unix, "-1").as_seconds() == -1);
     Ok(())
 }
 
@@ -163,16 +137,9 @@ const FAULTS: &[(&str, &str)] = &[
 fn faults_are_named(rt: HostRuntime) -> Result<(), Fail> {
     let alloc = rt.alloc();
     let plan = Plan::parse_strftime(alloc, b"%d/%b/%Y:%H:%M:%S %z")?;
-    match plan.reader::<OffsetDateTime>() {
-        Ok(reader) => {
-            for (text, wanted) in FAULTS {
-                match reader.read(text.as_bytes()) {
-                    Ok(_) => panic!(rt; "{text} is read"),
-                    Err(fault) => assert_text(&rt, format!(in alloc; "{fault}")?, wanted),
-                }
-            }
-        }
-        Err(refused) => panic!(rt; "{refused}"),
+    let reader = reader::<OffsetDateTime>(&rt, &plan);
+    for (text, wanted) in FAULTS {
+        assert_refused(&rt, alloc, reader.read(text.as_bytes()), wanted);
     }
     Ok(())
 }
@@ -184,24 +151,16 @@ fn plans_that_are_not_read_are_refused(rt: HostRuntime) -> Result<(), Fail> {
     let hour = Plan::parse_strftime(alloc, b"%Y-%m-%d %H")?;
     let tight = Plan::parse_strftime(alloc, b"%-d%-m%Y")?;
     let gap = Plan::parse_strftime(alloc, b"%H::%S")?;
-    assert!(rt;
-        half.reader::<Time>()
-            .is_err_and(|why| why == NoReader::Undetermined)
-    );
-    assert!(rt;
-        gap.reader::<Time>()
-            .is_err_and(|why| why == NoReader::Undetermined)
-    );
-    assert!(rt;
-        hour.reader::<Date>()
-            .is_err_and(|why| why == NoReader::Unsupplied(1))
-    );
-    assert!(rt;
-        tight
-            .reader::<Date>()
-            .is_err_and(|why| why == NoReader::Ambiguous(0))
-    );
+    assert_that(&rt, is_refused::<Time>(&half, NoReader::Undetermined));
+    assert_that(&rt, is_refused::<Time>(&gap, NoReader::Undetermined));
+    assert_that(&rt, is_refused::<Date>(&hour, NoReader::Unsupplied(1)));
+    assert_that(&rt, is_refused::<Date>(&tight, NoReader::Ambiguous(0)));
     Ok(())
+}
+
+/// Whether a plan has no reader, for this reason.
+fn is_refused<V: Readable>(plan: &Plan, wanted: NoReader) -> bool {
+    plan.reader::<V>().is_err_and(|why| why == wanted)
 }
 
 /// Noon of 28 November 2026 and 15 seconds, two hours and a half before UTC.
@@ -244,13 +203,8 @@ fn a_base_completes_what_no_text_shows(rt: HostRuntime) -> Result<(), Fail> {
     let alloc = rt.alloc();
     for (conversions, text, wanted) in COMPLETED {
         let plan = Plan::parse_strftime(alloc, conversions.as_bytes())?;
-        match plan.reader_from(&base(&rt)) {
-            Ok(reader) => match reader.read(text.as_bytes()) {
-                Ok(moment) => assert_text(&rt, moment.format(alloc, &Rfc3339)?, wanted),
-                Err(fault) => panic!(rt; "{text}: {fault}"),
-            },
-            Err(refused) => panic!(rt; "{conversions}: {refused}"),
-        }
+        let moment = read(&rt, &reader_from(&rt, &plan, &base(&rt)), text);
+        assert_text(&rt, moment.format(alloc, &Rfc3339)?, wanted);
     }
     Ok(())
 }
@@ -259,14 +213,8 @@ fn a_base_completes_what_no_text_shows(rt: HostRuntime) -> Result<(), Fail> {
 fn minutes_of_an_offset_are_zero_where_its_hour_is_shown(rt: HostRuntime) -> Result<(), Fail> {
     let alloc = rt.alloc();
     let plan = Plan::parse(alloc, b"[offset_hour]")?;
-    match plan.reader_from(&base(&rt)) {
-        Ok(reader) => assert!(rt;
-            reader
-                .read(b"05")
-                .is_ok_and(|moment| moment.offset().whole_seconds() == 18_000)
-        ),
-        Err(refused) => panic!(rt; "{refused}"),
-    }
+    let moment = read(&rt, &reader_from(&rt, &plan, &base(&rt)), "05");
+    assert_that(&rt, moment.offset().whole_seconds() == 18_000);
     Ok(())
 }
 
@@ -277,14 +225,8 @@ fn a_moment_keeps_the_nanosecond_of_its_base(rt: HostRuntime) -> Result<(), Fail
     let Ok(moment) = Timestamp::new(1_700_000_000, 7) else {
         panic!(rt; "no moment")
     };
-    match plan.reader_from(&moment) {
-        Ok(reader) => assert!(rt;
-            reader
-                .read(b"2023-11-14")
-                .is_ok_and(|read| read.as_parts() == (1_700_000_000, 7))
-        ),
-        Err(refused) => panic!(rt; "{refused}"),
-    }
+    let found = read(&rt, &reader_from(&rt, &plan, &moment), "2023-11-14");
+    assert_that(&rt, found.as_parts() == (1_700_000_000, 7));
     Ok(())
 }
 
@@ -308,22 +250,18 @@ fn each_name_of_a_month_is_read(rt: HostRuntime) -> Result<(), Fail> {
     let alloc = rt.alloc();
     let long = Plan::parse_strftime(alloc, b"%B %Y, %-d")?;
     let short = Plan::parse_strftime(alloc, b"%b %Y, %-d")?;
-    if let (Ok(long), Ok(short)) = (long.reader::<Date>(), short.reader::<Date>()) {
-        for (name, number) in MONTHS.iter().zip(1u8..13) {
-            let text = format!(in alloc; "{name} 2026, 1")?;
-            let cut = format!(in alloc; "{name:.3} 2026, 1")?;
-            assert!(rt;
-                long.read(text.as_bytes())
-                    .is_ok_and(|it| u8::from(it.month()) == number)
-            );
-            assert!(rt;
-                short
-                    .read(cut.as_bytes())
-                    .is_ok_and(|it| u8::from(it.month()) == number)
-            );
-        }
-    } else {
-        panic!(rt; "no reader")
+    let (long, short) = (reader::<Date>(&rt, &long), reader::<Date>(&rt, &short));
+    for (name, number) in MONTHS.iter().zip(1u8..13) {
+        let text = format!(in alloc; "{name} 2026, 1")?;
+        let cut = format!(in alloc; "{name:.3} 2026, 1")?;
+        assert_that(
+            &rt,
+            u8::from(read(&rt, &long, text.as_str()).month()) == number,
+        );
+        assert_that(
+            &rt,
+            u8::from(read(&rt, &short, cut.as_str()).month()) == number,
+        );
     }
     Ok(())
 }
@@ -366,16 +304,9 @@ fn a_fault_names_each_component_as_a_description_does(rt: HostRuntime) -> Result
     let alloc = rt.alloc();
     for name in COMPONENTS {
         let plan = Plan::parse(alloc, name.as_bytes())?;
-        match plan.reader_from(&base(&rt)) {
-            Ok(reader) => match reader.read(b"") {
-                Ok(_) => panic!(rt; "no text is read by {name}"),
-                Err(fault) => {
-                    let wanted = format!(in alloc; "byte 0: expected {name}")?;
-                    assert_text(&rt, format!(in alloc; "{fault}")?, wanted.as_str());
-                }
-            },
-            Err(refused) => panic!(rt; "{name}: {refused}"),
-        }
+        let reader = reader_from(&rt, &plan, &base(&rt));
+        let wanted = format!(in alloc; "byte 0: expected {name}")?;
+        assert_refused(&rt, alloc, reader.read(b""), wanted.as_str());
     }
     Ok(())
 }
@@ -384,15 +315,13 @@ fn a_fault_names_each_component_as_a_description_does(rt: HostRuntime) -> Result
 fn the_front_of_a_line_is_read(rt: HostRuntime) -> Result<(), Fail> {
     let alloc = rt.alloc();
     let plan = Plan::parse_strftime(alloc, b"%Y-%m-%d %H:%M:%S")?;
-    match plan.reader::<PlainDateTime>() {
-        Ok(reader) => match reader.read_front(b"2026-11-28 13:30:00 started") {
-            Ok((shown, rest)) => {
-                assert_eq!(rt; shown.time().minute(), 30);
-                assert!(rt; rest == b" started".as_slice());
-            }
-            Err(fault) => panic!(rt; "{fault}"),
-        },
-        Err(refused) => panic!(rt; "{refused}"),
+    let reader = reader::<PlainDateTime>(&rt, &plan);
+    match reader.read_front(b"2026-11-28 13:30:00 started") {
+        Ok((local, rest)) => {
+            assert_that(&rt, local.time().minute() == 30);
+            assert_that(&rt, rest == b" started".as_slice());
+        }
+        Err(fault) => panic!(rt; "{fault}"),
     }
     Ok(())
 }
@@ -407,21 +336,19 @@ fn a_plan_of_any_width_is_read(rt: HostRuntime) -> Result<(), Fail> {
         text.extend_from_slice(b"2026-11-28 at the hour of the second ")?;
     }
     let plan = Plan::parse_strftime(alloc, description.as_slice())?;
-    match plan.reader::<Date>() {
-        Ok(reader) => {
-            assert!(rt;
-                reader
-                    .read(text.as_slice())
-                    .is_ok_and(|date| date.day() == 28)
-            );
-            text.extend_from_slice(b" ")?;
-            assert!(rt;
-                reader
-                    .read(text.as_slice())
-                    .is_err_and(|fault| fault.at == 740)
-            );
-        }
-        Err(refused) => panic!(rt; "{refused}"),
-    }
+    let reader = reader::<Date>(&rt, &plan);
+    assert_that(
+        &rt,
+        reader
+            .read(text.as_slice())
+            .is_ok_and(|date| date.day() == 28),
+    );
+    text.extend_from_slice(b" ")?;
+    assert_that(
+        &rt,
+        reader
+            .read(text.as_slice())
+            .is_err_and(|fault| fault.at == 740),
+    );
     Ok(())
 }

@@ -1,12 +1,12 @@
 //! Texts that are like those of a plan, read leniently; and texts of steps that are in no plan.
-use crate::values::assert_text;
+use crate::values::{assert_number, assert_refused, assert_that, read_leniently, reader};
 use std::process::Abort;
 use std::test::Fail;
 use time::{Date, OffsetDateTime, Time, UtcDateTime};
 use time_below::format_description::modifier::Padding;
 use time_below::format_description::{Component, modifier};
 use time_plan::{Plan, Run, Shown};
-use time_plan_read::{LiteralRef, NoReader, ReadPlan, StepParts, reader_of_steps};
+use time_plan_read::{LiteralRef, NoReader, StepParts, reader_of_steps};
 
 /// A description of `strftime`, a text, and its seconds from 1970 by Python's `time.strptime`.
 const MOMENTS: &[(&str, &str, i64)] = &[
@@ -39,13 +39,8 @@ fn other_forms_of_moments_are_read(rt: HostRuntime) -> Result<(), Fail> {
     let alloc = rt.alloc();
     for (conversions, text, seconds) in MOMENTS {
         let plan = Plan::parse_strftime(alloc, conversions.as_bytes())?;
-        match plan.reader::<UtcDateTime>() {
-            Ok(reader) => match reader.lenient().read(text.as_bytes()) {
-                Ok(moment) => assert_eq!(rt; moment.unix_timestamp(), *seconds),
-                Err(fault) => panic!(rt; "{text}: {fault}"),
-            },
-            Err(refused) => panic!(rt; "{conversions}: {refused}"),
-        }
+        let moment: UtcDateTime = read_leniently(&rt, &reader(&rt, &plan), text);
+        assert_number(&rt, text, moment.unix_timestamp(), *seconds);
     }
     Ok(())
 }
@@ -84,16 +79,14 @@ fn other_forms_of_offsets_are_read(rt: HostRuntime) -> Result<(), Fail> {
     let alloc = rt.alloc();
     for (description, text, seconds, nanosecond) in AT_OFFSETS {
         let plan = Plan::parse(alloc, description.as_bytes())?;
-        match plan.reader::<OffsetDateTime>() {
-            Ok(reader) => match reader.lenient().read(text.as_bytes()) {
-                Ok(moment) => {
-                    assert_eq!(rt; moment.unix_timestamp(), *seconds);
-                    assert_eq!(rt; moment.nanosecond(), *nanosecond);
-                }
-                Err(fault) => panic!(rt; "{text}: {fault}"),
-            },
-            Err(refused) => panic!(rt; "{description}: {refused}"),
-        }
+        let moment: OffsetDateTime = read_leniently(&rt, &reader(&rt, &plan), text);
+        assert_number(&rt, text, moment.unix_timestamp(), *seconds);
+        assert_number(
+            &rt,
+            text,
+            i64::from(moment.nanosecond()),
+            i64::from(*nanosecond),
+        );
     }
     Ok(())
 }
@@ -102,20 +95,16 @@ fn other_forms_of_offsets_are_read(rt: HostRuntime) -> Result<(), Fail> {
 fn decimals_keep_their_places(rt: HostRuntime) -> Result<(), Fail> {
     let alloc = rt.alloc();
     let plan = Plan::parse(alloc, b"[hour]:[minute]:[second].[subsecond digits:2]")?;
-    if let Ok(reader) = plan.reader::<Time>() {
-        let reader = reader.lenient();
-        assert!(rt;
-            reader
-                .read(b"0:0:1.5")
-                .is_ok_and(|time| time.nanosecond() == 500_000_000)
-        );
-        assert!(rt;
-            reader
-                .read(b"0:0:1.05")
-                .is_ok_and(|time| time.nanosecond() == 50_000_000)
-        );
-        assert!(rt; reader.read(b"0:0:1.").is_err());
-    }
+    let reader = reader::<Time>(&rt, &plan);
+    assert_that(
+        &rt,
+        read_leniently(&rt, &reader, "0:0:1.5").nanosecond() == 500_000_000,
+    );
+    assert_that(
+        &rt,
+        read_leniently(&rt, &reader, "0:0:1.05").nanosecond() == 50_000_000,
+    );
+    assert_that(&rt, reader.lenient().read(b"0:0:1.").is_err());
     Ok(())
 }
 
@@ -145,13 +134,8 @@ fn texts_that_are_like_none_are_refused(rt: HostRuntime) -> Result<(), Fail> {
     let alloc = rt.alloc();
     for (conversions, text, wanted) in FAULTS {
         let plan = Plan::parse_strftime(alloc, conversions.as_bytes())?;
-        match plan.reader::<Date>() {
-            Ok(reader) => match reader.lenient().read(text.as_bytes()) {
-                Ok(_) => panic!(rt; "{text} is read"),
-                Err(fault) => assert_text(&rt, format!(in alloc; "{fault}")?, wanted),
-            },
-            Err(refused) => panic!(rt; "{conversions}: {refused}"),
-        }
+        let reader = reader::<Date>(&rt, &plan);
+        assert_refused(&rt, alloc, reader.lenient().read(text.as_bytes()), wanted);
     }
     Ok(())
 }
@@ -187,24 +171,14 @@ fn steps_in_an_array_are_read(rt: HostRuntime) -> Result<(), Fail> {
     ];
     match reader_of_steps::<StepParts<'_>, Date>(&steps, &[]) {
         Ok(reader) => {
-            assert!(rt;
-                reader
-                    .read(b"2026-033")
-                    .is_ok_and(|date| date.to_ordinal_date() == (2026, 33))
-            );
-            assert!(rt; reader.read(b"2026-33").is_err());
-            assert!(rt;
-                reader
-                    .lenient()
-                    .read(b"2026-33")
-                    .is_ok_and(|date| date.to_ordinal_date() == (2026, 33))
-            );
+            let is_33rd = |date: Date| date.to_ordinal_date() == (2026, 33);
+            assert_that(&rt, reader.read(b"2026-033").is_ok_and(is_33rd));
+            assert_that(&rt, reader.read(b"2026-33").is_err());
+            assert_that(&rt, reader.lenient().read(b"2026-33").is_ok_and(is_33rd));
         }
         Err(refused) => panic!(rt; "{refused}"),
     }
-    assert!(rt;
-        reader_of_steps::<StepParts<'_>, Time>(&steps, &[]).is_err_and(|why| why
-            == NoReader::Undetermined)
-    );
+    let refused = reader_of_steps::<StepParts<'_>, Time>(&steps, &[]);
+    assert_that(&rt, refused.is_err_and(|why| why == NoReader::Undetermined));
     Ok(())
 }

@@ -1,6 +1,9 @@
-//! The values of the page, and the comparison of texts.
+//! The values of the page, the comparison of texts, and texts that are read.
+use std::alloc::Global;
 use std::process::Abort;
 use time::{Date, Month, OffsetDateTime, Time, Timestamp, UtcOffset};
+use time_plan::Plan;
+use time_plan_read::{NotRead, ReadPlan, Readable, Reader};
 
 pub fn date(rt: &impl Abort) -> Date {
     let Ok(date) = Date::from_calendar_date(2026, Month::November, 22) else {
@@ -57,4 +60,60 @@ pub fn assert_that(rt: &impl Abort, holds: bool) {
 /// Takes the text, so that it does not outlive its comparison.
 pub fn assert_text(rt: &impl Abort, text: String, wanted: &str) {
     assert!(rt; text.as_str() == wanted, "another text than {wanted}");
+}
+
+/// Fails where a text has given another number than this.
+pub fn assert_number(rt: &impl Abort, text: &str, number: i64, wanted: i64) {
+    assert!(rt; number == wanted, "{text}: {number}, not {wanted}");
+}
+
+/// The reader of a plan. Fails where it has none.
+pub fn reader<'a, V: Readable>(rt: &impl Abort, plan: &'a Plan) -> Reader<'a, V> {
+    match plan.reader() {
+        Ok(reader) => reader,
+        Err(refused) => panic!(rt; "{refused}"),
+    }
+}
+
+/// The reader of a plan that takes the rest from a base value. Fails where it has none.
+pub fn reader_from<'a, V: Readable>(rt: &impl Abort, plan: &'a Plan, base: &V) -> Reader<'a, V> {
+    match plan.reader_from(base) {
+        Ok(reader) => reader,
+        Err(refused) => panic!(rt; "{refused}"),
+    }
+}
+
+/// The value of a text. Fails where it has none.
+pub fn read<V: Readable<State: Drop> + Drop>(
+    rt: &impl Abort,
+    reader: &Reader<'_, V>,
+    text: &str,
+) -> V {
+    match reader.read(text.as_bytes()) {
+        Ok(value) => value,
+        Err(fault) => panic!(rt; "{text}: {fault}"),
+    }
+}
+
+/// The value of a text that is read leniently. Fails where it has none.
+pub fn read_leniently<V: Readable<State: Drop> + Drop>(
+    rt: &impl Abort,
+    reader: &Reader<'_, V>,
+    text: &str,
+) -> V {
+    match reader.lenient().read(text.as_bytes()) {
+        Ok(value) => value,
+        Err(fault) => panic!(rt; "{text}: {fault}"),
+    }
+}
+
+/// Fails where a text is read, or is refused with other words than these.
+pub fn assert_refused<V>(rt: &impl Abort, alloc: Global, answer: Result<V, NotRead>, words: &str) {
+    match answer {
+        Ok(_) => panic!(rt; "a text is read, for which {words}"),
+        Err(fault) => match format!(in alloc; "{fault}") {
+            Ok(said) => assert_text(rt, said, words),
+            Err(_) => panic!(rt; "no memory"),
+        },
+    }
 }
