@@ -3,7 +3,7 @@
 
 Numbers of choices, and the usual ones; the greatest lengths of texts; fields of structs, in order, with their types; the words of
 a number that is no reason; what could have come in a text; and the version. Also whether the header declares each name that it, the C
-programs and the documents use, whether the rows and the test of memory call each function, and whether `bindings/counts` counts each
+programs and the documents use, whether the rows call each function, and whether `bindings/counts` counts each
 function from C and from Rust, under its name, and each method of the formats. Prints each difference, and ends with status 1 if there
 is one.
 
@@ -32,7 +32,6 @@ CARGO = HERE / "rust/Cargo.toml"
 COUNTED = HERE / "c/clock.cpp"
 SPEED = HERE / "rust-time/examples/speed"
 METHODS = [RUST / "format.rs", RUST / "batch.rs"]
-MEMORY = HERE / "c/memory.c"
 # The usual choices of each component, as constants.
 PARTS = TOP / "crates/time_fmt/src/parts.rt"
 ROWS = [HERE / "c/rows.c", HERE / "c/descriptions.c", HERE / "c/texts.c"]
@@ -141,7 +140,7 @@ class Interfaces:
         self.speed = code("\n".join(texts[path] for path in sorted(texts) if path.parent == SPEED), ".rs")
         self.parts = code(texts[PARTS], ".rt")
         self.methods = [texts[path] for path in METHODS]
-        self.memory, self.rows = texts[MEMORY], [texts[path] for path in ROWS]
+        self.rows = [texts[path] for path in ROWS]
         self.differences = []
 
     def same(self, what, *interfaces):
@@ -270,12 +269,11 @@ class Interfaces:
         self.same("a number of what could have come", [], [row for row in rattle if header.get(names.get(row[0], row[0])) != row[1]])
 
     def tests(self):
-        functions = sorted(functions_of(self.c))
-        self.same("what the test of memory calls", functions, sorted(set(findall(r"(movaliren_\w+)\(", self.memory))))
+        functions = set(functions_of(self.c))
         called = set(findall(r"\b(movaliren_\w+)\b(?=[(,)])", *self.rows))
         for name in findall(r"^ALONE_AND_AS_BATCH\((\w+),", *self.rows):
             called |= {f"movaliren_{name}", f"movaliren_{name}_batch"}
-        self.same("what has no row", set(), set(functions) - called)
+        self.same("what has no row", set(), functions - called)
 
     def counts(self):
         """A row begins with the name of the function that it calls. One of another library has a slash."""
