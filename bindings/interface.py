@@ -291,6 +291,8 @@ def names_of_kinds():
     named = {}
     for heads, name in re.findall(r'((?:Component::\w+\(_\)\s*\|?\s*)+)=>\s*\{?\s*"(\[[^"]*\])"', READ_FAULT.read_text()):
         named |= {component: name for component in re.findall(r"Component::(\w+)", heads)}
+    if missing := [name for _, name, _ in kinds() if name not in named]:
+        raise SystemExit(f"interface.py: {READ_FAULT.name} of time_plan_read has no name of {', '.join(missing)}")
     return [(number, short(name), named[name]) for number, name, _ in kinds()]
 
 

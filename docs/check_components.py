@@ -113,6 +113,8 @@ def named():
     values by name, the usual one first."""
     code, (values, keys) = (DESCRIBE / "names.rt").read_text(), tables()
     function = dict(DISPATCH.findall(code))
+    if missing := [component for _, component, _ in NAMED.findall(code) if component not in function]:
+        raise SystemExit(f"check_components.py: names.rt of time_describe reads no modifiers of {', '.join(missing)}")
     for name, component, fields in NAMED.findall(code):
         choices = dict(re.findall(r"(\w+): ([\w:]+)", fields))
         modifiers = []
