@@ -21,7 +21,6 @@ use Rattle.time_fmt.specs.Description.{trees_outcome}
 use Rattle.time_fmt.specs.Outcome.{done}
 use Rattle.time_plan_read.specs.Parts.{parts_tree}
 use Rattle.time_plan_read.specs.declared.any_step.StepParts.{StepParts}
-use Rattle.time_plan_read.proofs.StepLemmas.{component_alone, literal_alone, nothing_alone}
 
 read_list : (rs : List (Result Tree Reason)) (ts : List Tree) → list_of rs ≡ Ok ts → map tree_or_nothing rs ≡ ts
 read_list [] ts h = same_value [] ts h
@@ -106,9 +105,3 @@ pub timestamp_of_parts : (m : moments.Moment) (s : ℤ) (n : ℕ) → s ≡ m.se
     → timestamp_value s n ≡ Ok m
 unfolding timestamp_value
 timestamp_of_parts m s n p q real = grind (arith, common_steps, le-leb, lt-ltb, nat_tests)
-
--- one item as a step
-pub ruleset items_alone = (component_alone, literal_alone, nothing_alone)
-
--- what is read by items is read by their steps
-pub ruleset read_by_both = (read_by_items, read_by_steps, unread_by_valid)

@@ -37,7 +37,7 @@ pub enum Unread {
 impl ReadStep for Item {
     ghost tree_of = { read_tree };
 
-    #[tactic(auto, using(crate::proofs::ReadItemLemmas::items_alone))]
+    #[tactic(auto, using(time_plan_read::proofs::StepLemmas::component_alone, time_plan_read::proofs::StepLemmas::literal_alone, time_plan_read::proofs::StepLemmas::nothing_alone))]
     fn parts<'a>(&'a self, texts: &'a [u8]) -> StepParts<'a> {
         let empty = Shown::Run(Run::Empty);
         let none = LiteralRef::Bytes([].as_slice());
@@ -90,7 +90,7 @@ where
 }
 
 /// The value whose text by the description is this text, or why none is read.
-#[tactic(auto, using(crate::proofs::ReadItemLemmas::read_by_both))]
+#[tactic(auto, using(crate::proofs::ReadItemLemmas::read_by_items, crate::proofs::ReadItemLemmas::read_by_steps, crate::proofs::ReadItemLemmas::unread_by_valid))]
 fn value_of<V: Readable>(description: &Description<'_>, text: &[u8]) -> Result<V, Unread>
 where
     V::State: Drop,
