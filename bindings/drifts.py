@@ -23,7 +23,6 @@ PLACES = [
     ("movaliren.h", SHARED, r"(?<=_t )\w+(?=[;,)])|(?<=\*)\w+(?=[;,)])|\b\w+_t(?= \w+[;,)(])|\bconst "),
     ("clock.cpp", r"\} ways\[\].*", r'(?<=\{ ")(?!none|gmtime_r|building)\w+(?=[":])|movaliren_\w+(?=\()'),
     ("ways.rs", r".*", r'(?<=[(]")[a-z]\w*|(?<=^            ")[a-z]\w*'),
-    ("memory.c", r"^static ptrdiff_t call.*?^\}", r"movaliren_\w+(?=\()"),
     ("format.rs", r".*", r"(?<=^    fn )\w+"),
     ("batch.rs", r".*", r"(?<=^    fn )\w+"),
     ("Cargo.toml", r".*", r'(?<=^version = )"[^"]+"'),

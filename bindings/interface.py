@@ -1,12 +1,12 @@
 #!/usr/bin/env python3
 """Writes what the header and the Rust crate have from the code.
 
-The exports of movaliren_c give the prototypes of movaliren.h, each in its place, and the functions and structs of
-`library.rs`; `answers/reason.rt` the reasons, also of C++, and `answers/library.rt` their words; `described/item.rt` the kinds of items
+The exports of movaliren_c give the prototypes of movaliren.h, each in its place, the functions and structs of
+`library.rs`, and the calls of the formats in `raw.rs`; `answers/reason.rt` the reasons, also of C++, and `answers/library.rt` their words; `described/item.rt` the kinds of items
 and their choices, which `component.rt` of time_below documents and measures, and `fault.rt` of time_plan_read names; `described/syntax.rt` the faults of descriptions, which time_describe
 documents.
 
-    bindings/interface.py           writes the three headers, and `description.rs`, `component.rs`, `parse.rs`, `library.rs`
+    bindings/interface.py           writes the three headers, and `description.rs`, `component.rs`, `parse.rs`, `library.rs`, `raw.rs`
     bindings/interface.py --check   ends with status 1 where one is not what would be written
 """
 
@@ -43,6 +43,8 @@ KINDS = r"enum movaliren_kind \{.*?\n\};"
 KIND_NAMES = r"static const char \*const kinds\[\] = \{.*?\};"
 KINDS_OF_RUST = r"pub enum Kind \{.*?\n\}"
 WIDTHS_OF_RUST = r"(?<=const fn width\(self\) -> usize \{\n        match self \{\n).*?(?=\n        \}\n)"
+# The calls of the formats, by the macro that makes them.
+CALLS = r"(?<=^{}! \{{\n).*?(?=^\}})"
 FAULTS_OF_C = r"enum movaliren_parse_error_kind \{.*?\n\};"
 FAULTS_OF_RUST = r"pub enum FaultReason \{.*?\n\}"
 USES = "use crate::{Error, FaultReason, Kind, Moment, UtcMoment};"
@@ -149,6 +151,33 @@ def with_prototypes(header):
     if sorted(declared) != sorted(functions):
         raise SystemExit(f"interface.py: in the header or the code alone: {set(declared) ^ set(functions) or 'one twice'}")
     return re.sub(PROTOTYPE, lambda found: prototype(found[1], functions[found[1]]), header, flags=re.M), declared
+
+
+# ---- formats
+
+# What a call of a format takes before its buffer, and what stands behind the format's name in that of the call, by the
+# macro of `raw.rs` that makes such calls.
+TAKEN = {
+    "calls": ([("moment", "const Moment")], ""),
+    "utc_calls": ([("seconds", "i64"), ("nanosecond", "u32")], "_utc"),
+    "local_calls": ([("seconds", "i64"), ("nanosecond", "u32"), ("offset", "i64")], "_local"),
+    "calls_at_an_offset": ([("seconds", "i64"), ("nanosecond", "u32"), ("offset", "i64")], "_local"),
+}
+ROOM = [("buffer", "mut u8"), ("buffer_size", "usize")]
+
+
+def calls_of_formats(macro, declared):
+    """The rows of the macro, in the header's order. Those at an offset of the moment have no batch."""
+    functions, (taken, behind) = exports(), TAKEN[macro]
+    rows = []
+    for name in declared:
+        if functions[name][0] != taken + ROOM or not name.endswith(behind):
+            continue
+        called = [name, f"{name}_batch"][:1 if macro == "calls_at_an_offset" else 2]
+        if called[-1] in functions:
+            of = name.removeprefix("movaliren_").removesuffix(behind).title().replace("_", "")
+            rows.append(f"    {of}{'Local' * (macro == 'local_calls')}: {', '.join(called)};\n")
+    return "".join(rows)
 
 
 # ---- reasons
@@ -262,6 +291,8 @@ def names_of_kinds():
     named = {}
     for heads, name in re.findall(r'((?:Component::\w+\(_\)\s*\|?\s*)+)=>\s*\{?\s*"(\[[^"]*\])"', READ_FAULT.read_text()):
         named |= {component: name for component in re.findall(r"Component::(\w+)", heads)}
+    if missing := [name for _, name, _ in kinds() if name not in named]:
+        raise SystemExit(f"interface.py: {READ_FAULT.name} of time_plan_read has no name of {', '.join(missing)}")
     return [(number, short(name), named[name]) for number, name, _ in kinds()]
 
 
@@ -350,7 +381,7 @@ def library(declared):
 
 def replaced(text, form, written):
     """The text with what is written in the place of what has this form."""
-    changed, count = re.subn(form, lambda _: written, text, flags=re.S)
+    changed, count = re.subn(form, lambda _: written, text, flags=re.S | re.M)
     if count != 1:
         raise SystemExit(f"interface.py: nothing of the form {form}")
     return changed
@@ -368,9 +399,12 @@ def written():
     description = replaced((RUST / "description.rs").read_text(), KINDS_OF_RUST, kinds_of_rust())
     component = replaced((RUST / "component.rs").read_text(), WIDTHS_OF_RUST, widths_of_rust())
     parse = replaced((RUST / "parse.rs").read_text(), FAULTS_OF_RUST, faults_of_rust())
+    raw = (RUST / "raw.rs").read_text()
+    for macro in TAKEN:
+        raw = replaced(raw, CALLS.format(macro), calls_of_formats(macro, declared))
     return {
         HEADER: header, HEADER_OF_ITEMS: of_items, HEADER_OF_CPP: of_cpp, RUST / "description.rs": description, RUST / "parse.rs": parse,
-        RUST / "component.rs": component, RUST / "library.rs": library(declared),
+        RUST / "component.rs": component, RUST / "library.rs": library(declared), RUST / "raw.rs": raw,
     }
 
 

@@ -3,8 +3,9 @@
 
 Numbers of choices, and the usual ones; the greatest lengths of texts; fields of structs, in order, with their types; the words of
 a number that is no reason; what could have come in a text; and the version. Also whether the header declares each name that it, the C
-programs and the documents use, whether the rows and the test of memory call each function, and whether `bindings/counts` counts each
-function from C and from Rust, under its name, and each method of the formats. Prints each difference, and ends with status 1 if there
+programs and the documents use, whether the rows call each function, and whether `bindings/counts` counts each
+function from C and from Rust, under its name, and each method of the formats. From Rust one function counts for those that are called by
+the same lines. Prints each difference, and ends with status 1 if there
 is one.
 
     names.py --drifts      makes one change at a time in the names, numbers, texts and types, and ends with status 1 if
@@ -32,7 +33,6 @@ CARGO = HERE / "rust/Cargo.toml"
 COUNTED = HERE / "c/clock.cpp"
 SPEED = HERE / "rust-time/examples/speed"
 METHODS = [RUST / "format.rs", RUST / "batch.rs"]
-MEMORY = HERE / "c/memory.c"
 # The usual choices of each component, as constants.
 PARTS = TOP / "crates/time_fmt/src/parts.rt"
 ROWS = [HERE / "c/rows.c", HERE / "c/descriptions.c", HERE / "c/texts.c"]
@@ -141,7 +141,7 @@ class Interfaces:
         self.speed = code("\n".join(texts[path] for path in sorted(texts) if path.parent == SPEED), ".rs")
         self.parts = code(texts[PARTS], ".rt")
         self.methods = [texts[path] for path in METHODS]
-        self.memory, self.rows = texts[MEMORY], [texts[path] for path in ROWS]
+        self.rows = [texts[path] for path in ROWS]
         self.differences = []
 
     def same(self, what, *interfaces):
@@ -270,12 +270,11 @@ class Interfaces:
         self.same("a number of what could have come", [], [row for row in rattle if header.get(names.get(row[0], row[0])) != row[1]])
 
     def tests(self):
-        functions = sorted(functions_of(self.c))
-        self.same("what the test of memory calls", functions, sorted(set(findall(r"(movaliren_\w+)\(", self.memory))))
+        functions = set(functions_of(self.c))
         called = set(findall(r"\b(movaliren_\w+)\b(?=[(,)])", *self.rows))
         for name in findall(r"^ALONE_AND_AS_BATCH\((\w+),", *self.rows):
             called |= {f"movaliren_{name}", f"movaliren_{name}_batch"}
-        self.same("what has no row", set(), set(functions) - called)
+        self.same("what has no row", set(), functions - called)
 
     def counts(self):
         """A row begins with the name of the function that it calls. One of another library has a slash."""
@@ -297,8 +296,16 @@ class Interfaces:
         # `stamp` takes a moment in UTC alone, as its type says.
         calls = {f"{name}:{method}" for name in functions for method in [*methods, name, name.removesuffix("_utc")]}
         self.same("a row of Rust alone", set(), rust - names - calls)
-        self.same("what bindings/counts does not count from Rust", set(), functions - OF_C_ALONE - set(map(self.function, rust)))
+        from_rust = set(map(self.function, rust))
+        for alike in self.called_alike():
+            from_rust |= alike if alike & from_rust else set()
+        self.same("what bindings/counts does not count from Rust", set(), functions - OF_C_ALONE - from_rust)
         self.same("a method that is not counted", set(), set(methods) - set(findall(r"\.(\w+)\(", self.speed)))
+
+    def called_alike(self):
+        """The functions that the Rust crate calls by the same lines, those of a macro: one text, and many."""
+        for rows in findall(r"^\w*calls\w*! \{\n(.*?)^\}", *self.rust):
+            yield from map(set, zip(*(re.findall(r"movaliren_(\w+)", row) for row in rows.splitlines())))
 
     @staticmethod
     def function(row):

@@ -26,9 +26,10 @@ CHANGES = {
         ("crates/time_callers/src/journals.rt", r"A caller of `time_log`", "A caller of `time_lo`", "time_callers has 0 callers of time_log"),
     ],
     "docs/check_components.py": [
-        ("docs/COMPONENTS.md", r"^(\| `Day` \| `DAY` .*) 2 ", r"\1 3 ", "not in the code: ('Day', "),
-        ("docs/COMPONENTS.md", r"^(\| `Day` \| )`DAY`", r"\1`DAYS`", "not in the code: ('DAYS', 'Day', "),
-        ("docs/COMPONENTS.md", r"`\[day\]` \| `%d`", "`[day]` | `%e`", "not in the tests: ('[day]', '%e')"),
+        ("docs/COMPONENTS.md", r"^(\| `Day` \| `DAY` .*) 2 ", r"\1 3 ", "docs/COMPONENTS.md is not what the code gives"),
+        ("docs/COMPONENTS.md", r"^(\| `Hour` \| `padding`.*) 2 ", r"\1 3 ", "not in the tests: ('Hour', "),
+        ("docs/COMPONENTS.md", r"`\[day\]` \| `%d`", "`[day]` | `%e`", "docs/COMPONENTS.md is not what the code gives"),
+        ("crates/time/src/parts.rt", r"^    DAY, ", "    DAYS, ", "crates/time/src/parts.rt is not what the code gives"),
         ("crates/time_fmt_tests/src/fmt/components_table.rt", r"^        DAY Day ", "        DAYS Day ", "not in the code: ('DAYS', 'Day')"),
         ("crates/time_below/src/format_description/modifier.rt", r"^/// (.*)\n(?=#\[.*\]\npub struct Day )", r"/// Other. \1\n", "not in modifier.rt: ('Day', "),
     ],

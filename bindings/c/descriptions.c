@@ -489,6 +489,50 @@ static void try_many_items(void)
     }
 }
 
+enum { MOST = 1 << 20, MAY = 3 };
+
+static uint8_t letters[MOST], text_room[2 * MOST + 1];
+
+/* Whether a text of so many letters, and the name of May or its number after it, is written to a buffer of so many
+ * bytes, or refused. */
+static int is_written_to(size_t len, size_t room_len, int is_usual)
+{
+    static const char names[2][MAY + 1] = { "May", "05" };
+    const struct movaliren_item sized[]
+        = { TEXT(0, len), { .kind = is_usual ? MOVALIREN_KIND_MONTH : MOVALIREN_KIND_MONTH_LONG } };
+    const char *name = names[is_usual];
+    const size_t name_len = strlen(name);
+    const struct movaliren_moment may = { .year = 2026, .month = 5, .day = 1 };
+    memset(text_room, FILL, room_len + 1);
+    const ptrdiff_t count = movaliren_items_format(sized, 2, letters, len, &may, text_room, room_len);
+    if (len + name_len > room_len)
+        return count == MOVALIREN_ERROR_BUFFER_TOO_SMALL && text_room[0] == FILL && text_room[room_len] == FILL;
+    return count == (ptrdiff_t)(len + name_len) && !memcmp(text_room, letters, len)
+        && !memcmp(text_room + len, name, name_len) && text_room[len + name_len] == FILL;
+}
+
+static void expect_written_to(size_t len, size_t room_len, int is_usual)
+{
+    if (!is_written_to(len, room_len, is_usual)) {
+        failures++;
+        printf("%zu letters are not written to %zu bytes, or not refused\n", len, room_len);
+    }
+}
+
+/* Each length of a power of two, up to a megabyte, is written to a buffer of each, of the text and of one byte less. */
+static void try_sizes(void)
+{
+    memset(letters, 'x', MOST);
+    for (size_t len = 1; len <= MOST; len *= 2)
+        for (int is_usual = 0; is_usual < 2; is_usual++) {
+            const size_t text_len = len + (is_usual ? 2 : MAY);
+            for (size_t room_len = 1; room_len <= 2 * MOST; room_len *= 2)
+                expect_written_to(len, room_len, is_usual);
+            expect_written_to(len, text_len, is_usual);
+            expect_written_to(len, text_len - 1, is_usual);
+        }
+}
+
 /* Each choice of an item that is added is its own. */
 static void try_choices(void)
 {
@@ -535,8 +579,8 @@ int main(void)
     try_empty_texts();
     try_kinds();
     try_many_items();
+    try_sizes();
     try_choices();
     try_error_texts();
-    printf("descriptions: %d wrong\n", failures);
-    return failures != 0;
+    return status_of("descriptions");
 }

@@ -1,4 +1,5 @@
-/* Shared parts of the programs of rows: a call with buffers of several lengths, and its expected result. */
+/* Shared parts of the programs of rows: a call with buffers of several lengths, and its expected result. No call may
+ * allocate, neither one that writes a text nor one that returns an error. */
 #ifndef EXPECT_H
 #define EXPECT_H
 
@@ -12,6 +13,42 @@ enum { WIDE = 400, FILL = '#' };
 typedef ptrdiff_t writer(const void *format, const void *value, uint8_t *room, size_t room_len);
 
 static int failures;
+
+/* The allocations requested so far. The linker puts these functions in the place of the C library's. */
+static long asked;
+
+void *__real_malloc(size_t size);
+void *__real_realloc(void *pointer, size_t size);
+void *__real_calloc(size_t count, size_t size);
+
+void *__wrap_malloc(size_t size)
+{
+    asked++;
+    return __real_malloc(size);
+}
+
+void *__wrap_realloc(void *pointer, size_t size)
+{
+    asked++;
+    return __real_realloc(pointer, size);
+}
+
+void *__wrap_calloc(size_t count, size_t size)
+{
+    asked++;
+    return __real_calloc(count, size);
+}
+
+/* Prints how much is wrong in the program of this name, and returns its status. */
+static int status_of(const char *program)
+{
+    if (asked) {
+        failures++;
+        printf("%ld allocations\n", asked);
+    }
+    printf("%s: %d wrong\n", program, failures);
+    return failures != 0;
+}
 
 static int is_filled(const uint8_t *from, const uint8_t *to)
 {

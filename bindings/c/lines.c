@@ -160,6 +160,5 @@ int main(void)
     try_backwards();
     try_formats();
     try_sinks();
-    printf("lines: %d wrong\n", failures);
-    return failures != 0;
+    return status_of("lines");
 }

@@ -757,6 +757,5 @@ int main(void)
     try_version();
     try_batches();
     try_empty_slices();
-    printf("rows: %d wrong\n", failures);
-    return failures != 0;
+    return status_of("rows");
 }

@@ -66,7 +66,7 @@ pub use description::{Date, Description, Kind, Padding, SubsecondDigits};
 pub use error::{Error, RowError};
 pub use format::Format;
 pub use formatted::Formatted;
-pub use known::{stamp, Iso8601, Rfc2822, Rfc2822Local, Rfc3339, Rfc3339Local, Stamp};
+pub use known::*;
 pub use log::LogTime;
 pub use moment::{LocalMoment, Moment, UtcMoment};
 pub use parse::{FaultReason, InvalidDescription};

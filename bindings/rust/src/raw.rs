@@ -4,7 +4,7 @@
 //! The buffer is borrowed mutably, so it overlaps nothing else. Each struct that crosses is
 //! `#[repr(C)]`, with the fields of the header in its order. The library keeps no pointer. It writes
 //! bytes of a buffer or leaves them as they were, so none becomes uninitialized.
-use crate::known::{Iso8601, Rfc2822, Rfc2822Local, Rfc3339, Rfc3339Local, Stamp};
+use crate::known::*;
 use crate::library::{self, error_of, kind_of, LogCache, ParseError};
 pub(crate) use crate::library::{Iso8601Config, Item};
 use crate::read::{Expected, NotRead, Unread};
@@ -217,10 +217,10 @@ macro_rules! utc_calls {
 }
 
 utc_calls! {
+    Stamp: movaliren_stamp_utc, movaliren_stamp_utc_batch;
     Rfc3339: movaliren_rfc3339_utc, movaliren_rfc3339_utc_batch;
     Rfc2822: movaliren_rfc2822_utc, movaliren_rfc2822_utc_batch;
     Iso8601: movaliren_iso8601_utc, movaliren_iso8601_utc_batch;
-    Stamp: movaliren_stamp_utc, movaliren_stamp_utc_batch;
 }
 
 // SAFETY: the function returns how many bytes it has written to the start of the buffer, which are

@@ -30,3 +30,6 @@ decimals_last k n h e = grind (arith, common_steps, decimals_first)
 pub decimals_more : (k n : ℕ) → 0 < k → n % 10 ^ (k - 1) ≢ 0
     → decimals k n ≡ decimal (n / 10 ^ (k - 1)) ++ decimals (k - 1) (n % 10 ^ (k - 1))
 decimals_more k n h e = grind (arith, common_steps, decimals_first)
+
+-- no decimals, one, or more
+pub ruleset decimals_in_order = (decimals_none, decimals_last, decimals_more)

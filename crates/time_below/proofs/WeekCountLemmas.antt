@@ -59,3 +59,6 @@ sundays_counted d h =
     let day = weekday_in_year d h.0 h.1.0 in
     let same : from_sunday (weekday_of d) ≡ (place + 1 + d.ordinal + 6) % 7 = omega (arith, day, h.1.0) in
     ap (λ k. (d.ordinal + 6 - k) / 7) same ∙ sym count
+
+-- weeks from Monday and from Sunday on
+pub ruleset weeks_counted = (mondays_counted, sundays_counted)

@@ -92,3 +92,6 @@ same_week_day d e h k year week day =
     (thursday_counted d a m h p u)
     (thursday_counted e b n k q v) in
     same_day_number d e h k (one_count_is_one_day_number (day_number d) (day_number e) a b p q same)
+
+-- what a date has in the week calendar
+pub ruleset weeks_of_dates = (iso_year_of_date, iso_week_of_date)

@@ -5,7 +5,6 @@ pub mod Conversion
 pub mod DateText
 pub mod DateTimeText
 pub mod Facts
-pub mod Group
 pub mod InUtc
 pub mod Metadata
 pub mod Moment

@@ -1,7 +1,10 @@
--- The most bytes that a text may have, and whether it is sure to be UTF-8.
+-- What is the same for all values: the part that a component is taken from, the most bytes of a text, and whether it is
+-- sure to be UTF-8.
 use Rattle.std.specs.Prelude.{ℕ, ◌+◌, length, Bool, true, false, ◌&&◌}
 use Rattle.time_below.specs.declared.format_description.component.Component.{Component}
 use Rattle.time_below.specs.declared.format_description.component.Component.TheVariants as component
+use Rattle.time_below.specs.declared.format_description.component.Group.{Group}
+use Rattle.time_below.specs.declared.format_description.component.Group.TheVariants as group
 use Rattle.time_below.specs.declared.format_description.modifier.MonthRepr.{MonthRepr}
 use Rattle.time_below.specs.declared.format_description.modifier.MonthRepr.TheVariants as month
 use Rattle.time_below.specs.declared.format_description.modifier.WeekdayRepr.{WeekdayRepr}
@@ -14,6 +17,25 @@ use Rattle.time_below.specs.declared.format_description.modifier.SubsecondDigits
 use Rattle.time_below.specs.declared.format_description.modifier.SubsecondDigits.TheVariants as digits
 use Rattle.time_below.specs.Tree.{Tree, Trees, byte_literal, text_literal, of_component, all_of, first_of, nothing, end}
 use Rattle.time_below.specs.Tree.{more}
+
+-- all components that are not named are of the date
+abbrev pub group_of : Component → Group
+group_of (component.Hour12 m) = group.Time
+group_of (component.Hour24 m) = group.Time
+group_of (component.Minute m) = group.Time
+group_of (component.Period m) = group.Time
+group_of (component.Second m) = group.Time
+group_of (component.Subsecond m) = group.Time
+group_of (component.Hour m) = group.Time
+group_of (component.OffsetHour m) = group.Offset
+group_of (component.OffsetMinute m) = group.Offset
+group_of (component.OffsetSecond m) = group.Offset
+group_of (component.UnixTimestampSecond m) = group.Timestamp
+group_of (component.UnixTimestampMillisecond m) = group.Timestamp
+group_of (component.UnixTimestamp m) = group.Timestamp
+group_of (component.Ignore m) = group.None
+group_of (component.End m) = group.None
+group_of c = group.Date
 
 -- the decimals that are chosen, or all nine
 abbrev pub subsecond_width : SubsecondDigits → ℕ

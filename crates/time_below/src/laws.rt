@@ -114,7 +114,7 @@ pub fn one_date_for_each_day_of_month()
 
 /// The year of the week calendar is that of a date, its weeks are 1 to 53, and a year, a week and a
 /// weekday have one date at most.
-#[tactic(auto, using(crate::proofs::WeekLemmas::iso_year_of_date, crate::proofs::WeekLemmas::iso_week_of_date))]
+#[tactic(auto, using(crate::proofs::WeekLemmas::weeks_of_dates))]
 pub fn one_date_for_each_day_of_week()
     ensures year { (d : OrdinalDate) → IsDate d → IsYear (iso_year_of d) }
     ensures week { (d : OrdinalDate) → IsDate d → IsInRange 1 53 (iso_week_of d) }
@@ -124,7 +124,7 @@ pub fn one_date_for_each_day_of_week()
 
 /// The Monday-based and the Sunday-based week of a date are the numbers of Mondays, and of Sundays,
 /// that its year has had by then, that day counted.
-#[tactic(auto, using(crate::proofs::WeekCountLemmas::mondays_counted, crate::proofs::WeekCountLemmas::sundays_counted))]
+#[tactic(auto, using(crate::proofs::WeekCountLemmas::weeks_counted))]
 pub fn weeks_count_their_first_days()
     ensures mondays { (d : OrdinalDate) → IsDate d
         → monday_based_week_of d ≡ days_of_name 0 d.year d.ordinal }

@@ -66,7 +66,7 @@ fn power_of_ten(places: u32) -> u32
 }
 
 // Writes the decimals of so many parts of 10 to the power of `places`.
-#[tactic(auto, using(crate::proofs::TextLemmas::decimals_none, crate::proofs::TextLemmas::decimals_last, crate::proofs::TextLemmas::decimals_more))]
+#[tactic(auto, using(crate::proofs::TextLemmas::decimals_in_order))]
 fn write_decimals<W: fmt::Write>(f: &mut fmt::Formatter<W>, places: u32, parts: u32) -> fmt::Result
     requires { places < 10 }
     ensures { DisplaysOnOk W.write_str_gives f.old result (Some (decimals places parts)) f.new }

@@ -131,8 +131,7 @@ impl UtcOffset {
     }
 
     /// The offset of -93,599 to 93,599 seconds, which is 25:59:59 either way. Refuses any other
-    /// number as
-    /// `seconds`.
+    /// number as `seconds`.
     pub fn from_whole_seconds(seconds: i32) -> Result<UtcOffset, ComponentRange>
         ensures accepted { IsOk result ↔ unsigned_abs seconds < 93_600 }
         ensures value { IfOk result (λ o. o ≡ offset_of_seconds seconds) }

@@ -10,7 +10,8 @@ use time_known::Rfc3339;
 /// Appends a moment by RFC 3339: at most 35 bytes. A refused year or offset leaves the line as it
 /// was.
 pub fn append_moment(line: &mut Vec<u8>, moment: &OffsetDateTime) -> Result<usize, Format>
-    ensures text { IfOk result (λ _. line.new.items ≡ line.old.items ++ (rfc3339_of moment.now).bytes) }
+    ensures text { IfOk result (λ _. line.new.items
+        ≡ line.old.items ++ (rfc3339_of moment.now).bytes) }
     ensures within { vec_len line.new ≤ vec_len line.old + 35 }
     ensures refused { OnErr result (line.new.items ≡ line.old.items) }
 {

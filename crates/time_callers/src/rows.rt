@@ -11,8 +11,10 @@ use time_plan::Plan;
 /// length.
 pub fn append_row(plan: &Plan, table: &mut Vec<u8>, moment: &Timestamp) -> Result<usize, Format>
     ensures text { IfOk result (λ _. table.new.items
-        ≡ table.old.items ++ (⟦<Plan as Formattable>⟧.outcome_of plan.now (facts_of_timestamp moment.now)).bytes) }
-    ensures within { vec_len table.new ≤ vec_len table.old + ⟦<Plan as ComputeMetadata>⟧.width_of plan.now }
+        ≡ table.old.items
+        ++ (⟦<Plan as Formattable>⟧.outcome_of plan.now (facts_of_timestamp moment.now)).bytes) }
+    ensures within { vec_len table.new
+        ≤ vec_len table.old + ⟦<Plan as ComputeMetadata>⟧.width_of plan.now }
 {
     plan.format_into(table, moment, &mut TimestampState::default())
 }

@@ -14,7 +14,8 @@ pub fn append_or_nothing<F: Formattable, V: ComponentProvider>(
     requires agrees { V.agrees state.old value.now }
     ensures text { IfOk result (λ _. line.new.items
         ≡ line.old.items ++ (F.outcome_of description.now (V.facts value.now)).bytes) }
-    ensures complete { IfOk result (λ _. (F.outcome_of description.now (V.facts value.now)).refusal ≡ None) }
+    ensures complete { IfOk result
+        (λ _. (F.outcome_of description.now (V.facts value.now)).refusal ≡ None) }
     ensures refused { OnErr result (line.new.items ≡ line.old.items) }
 {
     let length = line.len();

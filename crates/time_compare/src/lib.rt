@@ -8,7 +8,7 @@ mod texts;
 mod values;
 
 pub use memory::all_that_is_left;
-pub use texts::{
-    Answers, append, append_by, append_with, has_text, is_refused, measured, refusal_name,
+pub use texts::{Answers, append_by, append_with, has_text, is_refused, measured, refusal_name};
+pub use values::{
+    Value, WEDNESDAY, append, date_at, moment, offset_at, time_at, timestamp_at, wednesday,
 };
-pub use values::{Value, WEDNESDAY, date_at, moment, offset_at, time_at, timestamp_at, wednesday};

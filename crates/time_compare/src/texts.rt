@@ -1,9 +1,9 @@
 //! The two calls of a description that format, and what came of them: texts, counts, maximum
 //! lengths and refusals.
-use crate::values::{Value, date_at, moment, offset_at, time_at, timestamp_at};
+use crate::values::{Value, append};
 use std::alloc::Global;
 use std::default::Default;
-use time_below::{ComponentRange, PlainDateTime, UtcDateTime};
+use time_below::ComponentRange;
 use time_fmt::{ComponentProvider, ComputeMetadata, Format, Formattable};
 
 /// What came of a text that was appended, and of the same as a text of its own.
@@ -46,57 +46,6 @@ pub fn append_by<D: Formattable, V: ComponentProvider>(
     let appended = append_with(output, item, value, &mut state);
     let made = make_with(alloc, item, value, &mut state);
     (appended, made, state)
-}
-
-/// Does the same where the state is not looked at.
-fn append_of<D: Formattable, V: ComponentProvider>(
-    alloc: Global,
-    output: &mut Vec<u8>,
-    item: &D,
-    value: &V,
-) -> Option<Answers>
-where
-    V::State: Drop,
-{
-    let (appended, made, _) = append_by(alloc, output, item, value);
-    Some((appended, made))
-}
-
-/// Appends the text of the value that has these numbers, if there is one, and makes it once more.
-/// Each type of value stands here alone, since a test proves again what it asks of a type that it
-/// names.
-pub fn append<D: Formattable>(
-    alloc: Global,
-    output: &mut Vec<u8>,
-    item: &D,
-    value: Value,
-) -> Option<Answers> {
-    match value {
-        Value::Date(year, month, day) => {
-            append_of(alloc, output, item, &date_at((year, month, day))?)
-        }
-        Value::Time(hour, minute, second, nanosecond) => {
-            let time = time_at((hour, minute, second, nanosecond))?;
-            append_of(alloc, output, item, &time)
-        }
-        Value::Local(date, time) => {
-            let local = PlainDateTime::new(date_at(date)?, time_at(time)?);
-            append_of(alloc, output, item, &local)
-        }
-        Value::Utc(date, time) => {
-            let utc = UtcDateTime::new(date_at(date)?, time_at(time)?);
-            append_of(alloc, output, item, &utc)
-        }
-        Value::Moment(date, time, offset) => {
-            append_of(alloc, output, item, &moment(date, time, offset)?)
-        }
-        Value::Offset(hours, minutes, seconds) => {
-            append_of(alloc, output, item, &offset_at((hours, minutes, seconds))?)
-        }
-        Value::Timestamp(seconds, nanosecond) => {
-            append_of(alloc, output, item, &timestamp_at((seconds, nanosecond))?)
-        }
-    }
 }
 
 /// The maximum length of a description.

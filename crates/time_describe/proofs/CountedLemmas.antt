@@ -28,3 +28,6 @@ pub closed : (f : Frame) (fs : List Frame) (is_in_list : Bool) (count depth : �
     → Counts (f ∷ fs) is_in_list count items → Counts fs (not (depth == 0)) count f.items
 closed f [] is_in_list count depth items deep h = record { nested = grind (arith, deep); counted = h.counted }
 closed f (g ∷ fs) is_in_list count depth items deep h = record { nested = grind (arith, deep); counted = h.counted }
+
+-- one item more, in a list or outside of all
+pub ruleset one_more = (in_list, outside)

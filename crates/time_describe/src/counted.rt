@@ -29,7 +29,7 @@ impl Counted {
     }
 
     // Counts an item, unless a list is open.
-    #[tactic(auto, using(crate::proofs::CountedLemmas::in_list, crate::proofs::CountedLemmas::outside))]
+    #[tactic(auto, using(crate::proofs::CountedLemmas::one_more))]
     fn add(&mut self)
         ensures { (fs : List Frame) (items : List Tree) (item : Tree)
             → Counts fs self.old.is_in_list self.old.count items

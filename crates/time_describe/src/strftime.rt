@@ -1,9 +1,8 @@
 //! Descriptions from a text in the syntax of strftime, as `%Y-%m-%d`, in the C locale.
 //!
 //! The conversions are those of POSIX.1-2017 but `%Z` and those with `E` or `O`, and of GNU `%k`,
-//! `%l`, `%N`,
-//! `%P`, `%s` and `%:z`. A number takes one flag: `-` for no padding, `_` for spaces, `0` for
-//! zeros. A year has at least four digits, unless a flag says otherwise.
+//! `%l`, `%N`, `%P`, `%s` and `%:z`. A number takes one flag: `-` for no padding, `_` for spaces,
+//! `0` for zeros. A year has at least four digits, unless a flag says otherwise.
 //!
 //! `inline(never)` keeps long or rare bodies out of their callers.
 ghost use Rattle.std.specs.Prelude.{◌≡◌, ◌+◌, ◌<◌, ◌≤◌, ℕ, List, [], length, drop, slice_range, Ok};

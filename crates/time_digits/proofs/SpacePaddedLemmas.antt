@@ -4,7 +4,9 @@ use Rattle.std.specs.List.{range_with_len}
 use Rattle.std.specs.Fmt.{digits}
 use Rattle.time_digits.specs.Digits.{padded, space_padded}
 use Rattle.time_digits.proofs.LengthLemmas.{length-decimal_two, length-padded}
+use Rattle.time_digits.proofs.SingleDigitLemmas.{single_digit_at}
 use Rattle.time_digits.proofs.TableLemmas.{same_below}
+use Rattle.time_digits.proofs.ZeroPaddedLemmas.{zero_padded_pair_at}
 use Rattle.time_digits.specs.declared.tables.TheConstants.{SPACE_PADDED_PAIRS}
 
 -- each pair with spaces is at twice its number
@@ -19,3 +21,6 @@ space_padded_pair_at n h =
 
 -- lemmas for the calls that borrow from the table
 pub ruleset space_facts = (space_padded_pair_at, length-decimal_two, length-padded)
+
+-- the entries of the three tables
+pub ruleset entries_of_tables = (single_digit_at, zero_padded_pair_at, space_padded_pair_at)

@@ -41,7 +41,7 @@ pub fn quotient_by_5243()
 /// Each text of a table is at its index: that of the digit `n` at the byte `n`, and those of the
 /// number `n` in two places at the byte `2 * n`. Nothing else is in a table: the first has 10
 /// bytes, the others 200.
-#[tactic(auto, using(crate::proofs::SingleDigitLemmas::single_digit_at, crate::proofs::ZeroPaddedLemmas::zero_padded_pair_at, crate::proofs::SpacePaddedLemmas::space_padded_pair_at))]
+#[tactic(auto, using(crate::proofs::SpacePaddedLemmas::entries_of_tables))]
 pub fn texts_of_tables()
     ensures digits { (n : ℕ) → n < 10 → take 1 (drop n SINGLE_DIGITS.now) ≡ decimal n }
     ensures zeros { (n : ℕ) → n < 100

@@ -92,8 +92,7 @@ pub fn two_digits_zero_padded(n: ru8<0, 99>) -> &'static str
 }
 
 /// The magnitude of `n` in two places, with a zero in front where it is below 10. It is read from a
-/// table by
-/// `n` itself, so that no sign is taken away first.
+/// table by `n` itself, so that no sign is taken away first.
 #[tactic(auto, using(crate::proofs::MagnitudeLemmas::magnitude_facts))]
 pub fn magnitude_zero_padded(n: ri8<59>) -> &'static str
     ensures text { result.now ≡ zero_padded 2 (unsigned_abs n) }

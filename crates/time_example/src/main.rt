@@ -1,4 +1,5 @@
-//! Answers each line of Unix seconds, and then prints a log with a line for each moment that has one.
+//! Answers each line of Unix seconds, and then prints a log with a line for each moment that has
+//! one.
 #![tactic(auto)]
 
 ghost use Rattle.std.specs.Prelude.{◌+◌, ◌≤◌, vec_len};

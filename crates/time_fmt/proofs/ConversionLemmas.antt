@@ -4,8 +4,7 @@ use Rattle.std.proofs.lemmas.Grind.{common_steps}
 use Rattle.time_below.specs.Conversion.{current_component, is_current}
 use Rattle.time_below.specs.declared.format_description.component.Component.{Component}
 use Rattle.time_below.specs.Facts.{Facts}
-use Rattle.time_below.specs.Group.{group_of}
-use Rattle.time_below.specs.Width.{component_width}
+use Rattle.time_below.specs.Width.{component_width, group_of}
 use Rattle.time_fmt.specs.Description.{has_group, supplied_outcome, current_outcome, component_outcome}
 
 -- a component that is not deprecated stays

@@ -165,3 +165,6 @@ pub ruleset signed_lengths = (
   signed_milliseconds,
   whole_text,
 )
+
+-- the length of a century, whose first digits may be of two or four
+pub ruleset century_lengths = (signed_lengths, small_century, great_century, whole_century)

@@ -7,7 +7,7 @@ use Rattle.time_below.specs.declared.format_description.component.Component.TheV
 use Rattle.time_below.specs.declared.format_description.component.Group.{Group}
 use Rattle.time_below.specs.declared.format_description.component.Group.TheVariants as group
 use Rattle.time_below.specs.Facts.{Facts, the_date, the_time, the_offset, the_moment}
-use Rattle.time_below.specs.Group.{group_of}
+use Rattle.time_below.specs.Width.{group_of}
 use Rattle.time_below.specs.Moment.{milliseconds}
 use Rattle.time_below.specs.Offset.{is_negative}
 use Rattle.time_below.specs.TimeOfDay.{period_of}

@@ -4,8 +4,7 @@
 ghost use Rattle.std.specs.Prelude.{◌≡◌, ◌≤◌, IsTrue, length};
 ghost use Rattle.time_below.specs.Conversion.{is_current};
 ghost use Rattle.time_below.specs.declared.format_description.component.Component.{Component};
-ghost use Rattle.time_below.specs.Group.{group_of};
-ghost use Rattle.time_below.specs.Width.{component_width};
+ghost use Rattle.time_below.specs.Width.{component_width, group_of};
 ghost use Rattle.time_fmt.specs.Description.{component_outcome, has_group, is_supplied, kind_of};
 ghost use Rattle.time_fmt.specs.Ends.{Ends};
 ghost use Rattle.time_fmt.specs.Kind.{kind_outcome};

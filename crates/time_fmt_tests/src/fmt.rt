@@ -30,7 +30,6 @@ macro_rules! signed {
     };
 }
 
-mod component_writers;
 mod components_table;
 mod date_rows;
 mod errors;

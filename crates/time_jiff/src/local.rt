@@ -34,8 +34,8 @@ impl NowLocal for OffsetDateTime {
     /// moment.
     ///
     /// A clock that cannot be read is an error of its kind. One that shows a moment outside the
-    /// range of
-    /// `jiff`, which ends at 9999-12-30T22:00:00.999999999Z, is refused by a range of `jiff`.
+    /// range of `jiff`, which ends at 9999-12-30T22:00:00.999999999Z, is refused by a range of
+    /// `jiff`.
     fn now_local<C: Clock>(clock: &C, zone: &TimeZone<'_>) -> Result<OffsetDateTime, Error>
         ensures since_1970 { IfOk result (λ t. pos 0 ≤ℤ local_nanoseconds t) }
         ensures offset { IfOk result (IsShownIn (plain_zone zone.now)) }

@@ -1,11 +1,14 @@
--- Texts of the well-known formats are ASCII, and so UTF-8, for any numbers.
+-- What is known of the texts of the well-known formats: they are ASCII, and so UTF-8, for any numbers. The longest ones
+-- of RFC 3339 and RFC 2822 are as long as the table widths.
 use Rattle.std.proofs.Common.{◌∷◌, ◌≡◌, refl, arith, ℕ, Bool, true, false, List, [], ◌++◌, IsAscii, IsUtf8, Option}
 use Rattle.std.proofs.Common.{Some, None, ℤ, if◌then◌else◌}
 use Rattle.time_digits.specs.Fraction.{trimmed_fraction}
-use Rattle.time_digits.specs.Digits.{fixed, zero_padded}
+use Rattle.time_digits.specs.Digits.{fixed, padded, zero_padded}
+use Rattle.std.specs.Fmt.{digits}
 use Rattle.std.specs.Prelude.{nat_lt}
 use Rattle.std.proofs.lemmas.Str.{IsAscii-append, IsAscii-take, IsUtf8-from_ascii}
 use Rattle.std.proofs.lemmas.Str.Ascii.{IsAscii-nil}
+use Rattle.time_below.specs.Calendar.{days_of_months, last_begun}
 use Rattle.time_below.specs.Offset.{is_negative}
 use Rattle.time_digits.proofs.DigitLemmas.{IsAscii-fixed}
 use Rattle.time_digits.proofs.FractionLemmas.{IsAscii-trimmed_fraction}
@@ -23,10 +26,12 @@ use Rattle.time_known.specs.declared.iso8601.config.OffsetPrecision.TheVariants 
 use Rattle.time_known.specs.declared.iso8601.config.TimePrecision.TheVariants as precision
 use Rattle.time_known.specs.Iso8601.{iso8601_outcome, iso_date, iso_time, iso_offset, iso_year}
 use Rattle.time_known.specs.Iso8601.{text_after_year, units_text, decimal_part, iso_minutes}
+use Rattle.time_known.specs.Longest.{FillsRfc3339Width, FillsRfc2822Width}
 use Rattle.time_known.specs.Rfc2822.{rfc2822_outcome}
 use Rattle.time_known.specs.Rfc3339.{rfc3339_outcome}
 use Rattle.time_known.specs.WellKnown.{refused_if}
 use Rattle.std.proofs.lemmas.Grind.{common_steps}
+use Rattle.time_known.proofs.WidthLemmas.{rfc3339_is_within, rfc2822_is_within}
 
 -- a text that is ASCII
 record Ascii (bytes : List ℕ) : Type 0 where
@@ -101,6 +106,19 @@ rfc3339_utf8 f = utf8_of_ascii (search (ascii_either_outcome, ascii_refused_if, 
 -- the bytes of each outcome of RFC 2822 are UTF-8
 pub rfc2822_utf8 : (f : Facts) → IsUtf8 (rfc2822_outcome f).bytes
 rfc2822_utf8 f = utf8_of_ascii (search (ascii_either_outcome, ascii_refused_if, ascii_text_lemmas) depth 25)
+
+-- the longest text by RFC 3339
+pub rfc3339_fills_its_width : FillsRfc3339Width
+unfolding digits padded fixed trimmed_fraction days_of_months last_begun
+rfc3339_fills_its_width = record { complete = refl; full = refl }
+
+-- the longest text by RFC 2822
+pub rfc2822_fills_its_width : FillsRfc2822Width
+unfolding digits padded fixed trimmed_fraction days_of_months last_begun
+rfc2822_fills_its_width = record { complete = refl; full = refl }
+
+-- no text by either is longer, and this one is as long
+pub ruleset rfc_widths = (rfc3339_is_within, rfc2822_is_within, rfc3339_fills_its_width, rfc2822_fills_its_width)
 
 -- ---- ISO 8601
 

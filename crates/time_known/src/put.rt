@@ -4,22 +4,27 @@
 #![tactic(auto, using(crate::proofs::LengthLemmas::joined_lengths))]
 
 ghost use Rattle.std.specs.Prelude.{◌≡◌, ◌+◌, ◌*◌, ◌++◌, length, unsigned_abs};
+ghost use Rattle.time_below.specs.Weekday.{days_from_monday};
 ghost use Rattle.time_digits.specs.Digits.{zero_padded};
 ghost use Rattle.time_fmt.specs.DateText.{month_name, short_name};
 ghost use Rattle.time_fmt.specs.Sink.{Fits, Puts};
 ghost use Rattle.time_known.specs.Days.{month_and_day};
-ghost use Rattle.time_known.specs.Fields.{shown};
+ghost use Rattle.time_known.specs.Fields.{on_weekday, shown};
+ghost use Rattle.time_known.specs.Rfc2822.{named_date_text, named_date_width};
 ghost use Rattle.time_known.specs.Sink.{PutsUpTo};
 ghost use Rattle.time_known.specs.WellKnown.{clock_text, offset_hours_text, offset_text};
 ghost use Rattle.time_known.specs.WellKnown.{signed_offset_text, date_text, month_and_day_text};
 
 use crate::days::CalendarDay;
 use crate::fields::Fields;
-use time_below::{Time, UtcOffset};
+use time_below::{Time, UtcOffset, Weekday};
 use time_digits::num_fmt::magnitude_zero_padded;
 use time_digits::{ri8, ru8};
 use time_fmt::Sink;
-use time_fmt::writers::{format_four_digits_pad_zero, format_two_digits_pad_zero, write};
+use time_fmt::parts::WEEKDAY_SHORT;
+use time_fmt::writers::{
+    fmt_weekday_short, format_four_digits_pad_zero, format_two_digits_pad_zero, write,
+};
 
 // Puts a piece, and then another.
 #[inline(always)]
@@ -142,4 +147,21 @@ pub fn put_offset<S: Sink>(output: &mut S, offset: UtcOffset, separator: &str)
     } else {
         put_signed_offset(output, offset, separator);
     }
+}
+
+/// Puts the weekday, the day, the month and the year, as mail has them.
+#[inline(always)]
+pub(crate) fn put_named_date<S: Sink>(output: &mut S, weekday: Weekday, fields: &Fields)
+    requires room { Fits (S.buffer output.old) named_date_width }
+    ensures puts { PutsUpTo named_date_width (S.buffer output.old) (S.buffer output.new)
+        (named_date_text (on_weekday (days_from_monday weekday) fields.now)) }
+{
+    fmt_weekday_short(output, weekday, WEEKDAY_SHORT);
+    write(output, ", ");
+    let (_, day) = fields.date.digits();
+    write(output, day);
+    write(output, " ");
+    put_month_name(output, fields.date);
+    write(output, " ");
+    format_four_digits_pad_zero(output, fields.year);
 }

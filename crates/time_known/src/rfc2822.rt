@@ -3,22 +3,18 @@
 //! Without `inline(always)` the compiler leaves calls of the functions that have it.
 ghost use Rattle.std.specs.Prelude.{true};
 ghost use Rattle.time_below.specs.Weekday.{days_from_monday};
-ghost use Rattle.time_fmt.specs.Sink.{Fits};
 ghost use Rattle.time_known.specs.Fields.{on_weekday};
 ghost use Rattle.time_known.specs.Longest.{FillsRfc2822Width};
 ghost use Rattle.time_known.specs.ReadBack.{ReadsAs};
-ghost use Rattle.time_known.specs.Rfc2822.{rfc2822_text, rfc2822_outcome, named_date_text};
-ghost use Rattle.time_known.specs.Rfc2822.{rfc2822_width, named_date_width};
+ghost use Rattle.time_known.specs.Rfc2822.{rfc2822_text, rfc2822_outcome, rfc2822_width};
 ghost use Rattle.time_known.specs.Rfc2822Grammar.{Rfc2822Spells, to_whole_second};
-ghost use Rattle.time_known.specs.Sink.{PutsUpTo};
 
 use crate::fields::{Fields, accepted_fields};
 use crate::groups::Groups;
-use crate::put::{put_clock, put_month_name, put_signed_offset};
+use crate::put::{put_clock, put_named_date, put_signed_offset};
 use crate::sink::{Text, append};
 use time_below::Weekday;
-use time_fmt::parts::WEEKDAY_SHORT;
-use time_fmt::writers::{fmt_weekday_short, format_four_digits_pad_zero, write};
+use time_fmt::writers::write;
 use time_fmt::{ComputeMetadata, Format, Formattable, Metadata, Sink};
 use time_provide::ComponentProvider;
 
@@ -39,7 +35,7 @@ impl ComputeMetadata for Rfc2822 {
 
     ghost reaches_width = { λ _. FillsRfc2822Width };
 
-    #[tactic(auto, using(crate::proofs::LongestLemmas::rfc2822_fills_its_width))]
+    #[tactic(auto, using(crate::proofs::GuaranteeLemmas::rfc2822_fills_its_width))]
     fn compute_metadata(&self) -> Metadata {
         Metadata {
             max_bytes_needed: WIDTH,
@@ -94,22 +90,4 @@ impl Text for Rfc2822Text {
         write(output, " ");
         put_signed_offset(output, self.fields.offset, "");
     }
-}
-
-// Puts `day-of-week "," date`.
-#[inline(always)]
-#[tactic(auto, using(crate::proofs::LengthLemmas::joined_lengths))]
-fn put_named_date<S: Sink>(output: &mut S, weekday: Weekday, fields: &Fields)
-    requires room { Fits (S.buffer output.old) named_date_width }
-    ensures puts { PutsUpTo named_date_width (S.buffer output.old) (S.buffer output.new)
-        (named_date_text (on_weekday (days_from_monday weekday) fields.now)) }
-{
-    fmt_weekday_short(output, weekday, WEEKDAY_SHORT);
-    write(output, ", ");
-    let (_, day) = fields.date.digits();
-    write(output, day);
-    write(output, " ");
-    put_month_name(output, fields.date);
-    write(output, " ");
-    format_four_digits_pad_zero(output, fields.year);
 }

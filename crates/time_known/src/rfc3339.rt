@@ -41,7 +41,7 @@ impl ComputeMetadata for Rfc3339 {
 
     ghost reaches_width = { λ _. FillsRfc3339Width };
 
-    #[tactic(auto, using(crate::proofs::LongestLemmas::rfc3339_fills_its_width))]
+    #[tactic(auto, using(crate::proofs::GuaranteeLemmas::rfc3339_fills_its_width))]
     fn compute_metadata(&self) -> Metadata {
         Metadata {
             max_bytes_needed: WIDTH,

@@ -372,7 +372,8 @@ fn named_formats_have_their_configurations(rt: HostRuntime) {
 const LONGEST: Value = Value::Moment((1997, 11, 12), (9, 55, 6, 123_456_789), (-6, 0, 0));
 
 const WHOLE_TEXTS: Rows = rows! { DateTimeOffset:
-    WEDNESDAY => { kind: Week, six_digits: true, separators: false } "+001997W463T095506.000000000-0600",
+    WEDNESDAY => { kind: Week, six_digits: true, separators: false }
+        "+001997W463T095506.000000000-0600",
     LONGEST => {} "1997-11-12T09:55:06.123456789-06:00",
     LONGEST => { separators: false } "19971112T095506.123456789-0600",
     LONGEST => { six_digits: true } "+001997-11-12T09:55:06.123456789-06:00",

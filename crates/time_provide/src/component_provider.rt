@@ -52,8 +52,7 @@ pub trait ComponentProvider {
     ghost SUPPLIES_TIME: { Bool };
 
     /// Whether the value has a time of day, which `supplied_time`, `nanosecond` and the methods
-    /// from
-    /// `hour` to `second` return.
+    /// from `hour` to `second` return.
     const SUPPLIES_TIME: bool;
 
     ghost SUPPLIES_OFFSET: { Bool };

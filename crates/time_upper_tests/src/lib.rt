@@ -1,7 +1,7 @@
 //! Tests of the crates above the formatter by public calls: of `time_describe`, `time_plan`,
-//! `time_plan_read`, `time`, `time_jiff` and `time_serde`, of
-//! the lines of `docs/RATTLE.md` in Rattle, and of the recipes. One library reads all crates below
-//! once, and `time_describe` stands on `time_below` alone.
+//! `time_plan_read`, `time`, `time_jiff` and `time_serde`, of the lines of `docs/RATTLE.md` in
+//! Rattle, and of the recipes. One library reads all crates below once, and `time_describe` stands
+//! on `time_below` alone.
 #![tactic(auto)]
 
 #[cfg(test)]

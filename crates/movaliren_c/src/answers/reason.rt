@@ -115,7 +115,8 @@ pub fn reason_of(error: Format) -> Reason
 
 /// The reason of a component that a format refuses.
 impl From<OutOfRange> for Reason {
-    ghost from_gives = { λ component reason. Refuses reason (invalid_component (component_name component)) };
+    ghost from_gives = { λ component reason. Refuses reason
+        (invalid_component (component_name component)) };
 
     fn from(component: OutOfRange) -> Reason {
         match component {

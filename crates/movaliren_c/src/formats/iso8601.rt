@@ -178,7 +178,8 @@ pub extern "C" fn movaliren_iso8601_with(
     moment: &Moment,
     buffer: &mut [u8],
 ) -> isize
-    ensures { IsAnswer (iso8601_by config.now (moment_value moment.now)) result buffer.old buffer.new }
+    ensures { IsAnswer (iso8601_by config.now (moment_value moment.now))
+        result buffer.old buffer.new }
 {
     answer_number(iso8601_by(config, ByParts).write(moment, buffer))
 }
@@ -300,7 +301,8 @@ fn put_at_once<B: Before>(
     requires before { room.old ≡ B.before }
     requires some { config.now.formatted_components ≢ FormattedComponents.None }
     requires room { iso8601_width config.now ≤ length room.old }
-    ensures text { IfOk result (λ n. IsWritten (Ok n) (iso8601_of config.now value.now) room.old room.new) }
+    ensures text { IfOk result (λ n. IsWritten (Ok n) (iso8601_of config.now value.now)
+        room.old room.new) }
     ensures fits { IfOk result (λ n. n ≤ length room.old) }
     ensures refused { IfErr result (λ r. IsRefusedFor r (iso8601_of config.now value.now)) }
     ensures len { length room.new ≡ length room.old }

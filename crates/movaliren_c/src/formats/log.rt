@@ -79,7 +79,8 @@ fn log_anew(
     offset: i64,
     room: &mut [u8],
 ) -> isize
-    ensures text { IsAnswer (iso8601_by (log_config decimals) (local_value seconds nanosecond offset))
+    ensures text { IsAnswer (iso8601_by (log_config decimals)
+        (local_value seconds nanosecond offset))
         result room.old room.new }
     ensures kept { IsKept kept.old → IsKept kept.new }
 {
@@ -131,7 +132,8 @@ fn write_kept(
 ) -> Result<usize, Reason>
     requires inside { kept.now.zone_len ≤ 6 }
     requires few { decimals ≡ 3 ⊎ decimals ≡ 6 ⊎ decimals ≡ 9 }
-    ensures written { IsWritten result (done (kept.now.head ++ decimals_of nanosecond 1_000_000_000 decimals
+    ensures written { IsWritten result (done (kept.now.head
+        ++ decimals_of nanosecond 1_000_000_000 decimals
         ++ take kept.now.zone_len kept.now.zone)) room.old room.new }
     ensures fits { IfOk result (λ count. count ≤ length room.old) }
 {
@@ -152,7 +154,8 @@ fn write_kept(
 fn write_decimals(room: &mut [u8], at: usize, nanosecond: Nanoseconds, decimals: u8)
     requires few { decimals ≡ 3 ⊎ decimals ≡ 6 ⊎ decimals ≡ 9 }
     requires room { at + decimals ≤ length room.old }
-    ensures before { take (at + decimals) room.new ≡ take at room.old ++ decimals_of nanosecond 1_000_000_000 decimals }
+    ensures before { take (at + decimals) room.new
+        ≡ take at room.old ++ decimals_of nanosecond 1_000_000_000 decimals }
     ensures behind { drop (at + decimals) room.new ≡ drop (at + decimals) room.old }
     ensures len { length room.new ≡ length room.old }
 {
@@ -165,7 +168,8 @@ fn put_decimals<B: Before>(room: &mut [u8], nanosecond: Nanoseconds, decimals: u
     requires before { room.old ≡ B.before }
     requires few { decimals ≡ 3 ⊎ decimals ≡ 6 ⊎ decimals ≡ 9 }
     requires room { decimals ≤ length room.old }
-    ensures text { room.new ≡ decimals_of nanosecond 1_000_000_000 decimals ++ drop decimals room.old }
+    ensures text { room.new
+        ≡ decimals_of nanosecond 1_000_000_000 decimals ++ drop decimals room.old }
     ensures len { length room.new ≡ length room.old }
 {
     let mut sink = RoomSink::<B>::new(room);
@@ -206,7 +210,9 @@ fn keep_second(kept: &mut LogCache, seconds: i64, offset: i64)
 
 /// Keeps what the texts of these fields have in common.
 fn keep(kept: &mut LogCache, second: i64, offset: i64, fields: &Fields)
-    requires { Remembers second offset (second_text (shown fields.now).date fields.now.time) (offset_text (codes ":") fields.now.offset) }
+    requires { Remembers second offset
+        (second_text (shown fields.now).date fields.now.time)
+        (offset_text (codes ":") fields.now.offset) }
     ensures { IsKept kept.new }
 {
     kept.zone_len = 0;

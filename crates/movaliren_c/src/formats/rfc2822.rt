@@ -53,7 +53,8 @@ pub extern "C" fn movaliren_rfc2822(moment: &Moment, buffer: &mut [u8]) -> isize
 /// The text of RFC 2822 of a moment in UTC.
 #[unsafe(no_mangle)]
 pub extern "C" fn movaliren_rfc2822_utc(seconds: i64, nanosecond: u32, buffer: &mut [u8]) -> isize
-    ensures { IsAnswer (gives (utc_value seconds nanosecond) rfc2822_of) result buffer.old buffer.new }
+    ensures { IsAnswer (gives (utc_value seconds nanosecond) rfc2822_of)
+        result buffer.old buffer.new }
 {
     answer_at(&texts_of(Rfc2822, InUtc), seconds, nanosecond, buffer)
 }

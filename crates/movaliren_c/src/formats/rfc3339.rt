@@ -47,7 +47,8 @@ pub extern "C" fn movaliren_rfc3339(moment: &Moment, buffer: &mut [u8]) -> isize
 /// The text of RFC 3339 of a moment in UTC.
 #[unsafe(no_mangle)]
 pub extern "C" fn movaliren_rfc3339_utc(seconds: i64, nanosecond: u32, buffer: &mut [u8]) -> isize
-    ensures { IsAnswer (gives (utc_value seconds nanosecond) rfc3339_of) result buffer.old buffer.new }
+    ensures { IsAnswer (gives (utc_value seconds nanosecond) rfc3339_of)
+        result buffer.old buffer.new }
 {
     answer_at(&texts_of(Rfc3339, InUtc), seconds, nanosecond, buffer)
 }

@@ -50,7 +50,8 @@ impl Writer for Stamp {
 /// The stamp of a moment.
 #[unsafe(no_mangle)]
 pub extern "C" fn movaliren_stamp_utc(seconds: i64, nanosecond: u32, buffer: &mut [u8]) -> isize
-    ensures { IsAnswer (gives (utc_value seconds nanosecond) utc_stamp_of) result buffer.old buffer.new }
+    ensures { IsAnswer (gives (utc_value seconds nanosecond) utc_stamp_of)
+        result buffer.old buffer.new }
 {
     answer_at(&Stamp, seconds, nanosecond, buffer)
 }

@@ -1,5 +1,5 @@
-//! The items of a description as the steps of a reader: each component, or date or time of day, with
-//! the literal behind it.
+//! The items of a description as the steps of a reader: each component, or date or time of day,
+//! with the literal behind it.
 ghost use Rattle.std.specs.Prelude.{◌≡◌, ◌≤◌, ◌<◌, Err, IfErr, IfOk, IfSome, IsOk, List};
 ghost use Rattle.std.specs.Prelude.{IsSomeAnd, MatchResult, None, Result, drop, length, take};
 ghost use Rattle.movaliren_c.specs.Items.{trees_of};

@@ -115,7 +115,8 @@ fn offset_value(moment: &Moment) -> Result<UtcOffset, Reason>
 /// Whether three parts are in their ranges and have one sign at most. Two tests for all three cost
 /// less than one for each two, and one where all are zero, as in UTC.
 fn are_offset_parts(hours: i8, minutes: i8, seconds: i8) -> bool
-    ensures { IsTrue result → IsOffset (record { hours = hours; minutes = minutes; seconds = seconds }) }
+    ensures { IsTrue result
+        → IsOffset (record { hours = hours; minutes = minutes; seconds = seconds }) }
 {
     let is_zero = (hours == 0) & (minutes == 0) & (seconds == 0);
     if is_zero {

@@ -3,8 +3,7 @@
 //! Without `inline(always)` the compiler leaves calls of the functions that have it.
 ghost use Rattle.std.specs.Prelude.{◌≡◌, ◌≤◌, IsTrue};
 ghost use Rattle.time_below.specs.Conversion.{current_component, is_current};
-ghost use Rattle.time_below.specs.Group.{group_of};
-ghost use Rattle.time_below.specs.Width.{component_width, subsecond_width, month_width};
+ghost use Rattle.time_below.specs.Width.{group_of, component_width, subsecond_width, month_width};
 ghost use Rattle.time_below.specs.Width.{weekday_width, unix_timestamp_width, year_width};
 
 use crate::format_description::conversion::{

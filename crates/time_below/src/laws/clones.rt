@@ -16,7 +16,7 @@ use crate::utc_date_time::UtcDateTime;
 use crate::utc_offset::UtcOffset;
 use crate::weekday::Weekday;
 
-/// A clone of a value of the seven types is that value.
+/// A clone of a value is that value, of each type.
 pub fn clones_of_values()
     ensures date { AreSame ⟦<Date as Clone>⟧.is_clone }
     ensures time { AreSame ⟦<Time as Clone>⟧.is_clone }

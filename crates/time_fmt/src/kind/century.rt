@@ -29,7 +29,7 @@ impl TextKind for Century {
         text.century };
 
     #[inline(always)]
-    #[tactic(auto, using(crate::proofs::TextLemmas::signed_lengths, crate::proofs::TextLemmas::small_century, crate::proofs::TextLemmas::great_century, crate::proofs::TextLemmas::whole_century))]
+    #[tactic(auto, using(crate::proofs::TextLemmas::century_lengths))]
     fn put<S: Sink>(self, output: &mut S) -> usize {
         let number = self.century.get();
         if number >= 100 {

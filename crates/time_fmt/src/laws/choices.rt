@@ -30,24 +30,24 @@ pub fn choices_of_dates()
 
 /// The choices of the year, its century and its last two digits.
 pub fn choices_of_years()
-    ensures calendar_year_full_extended_range { ⟦<modifier::CalendarYearFullExtendedRange as Modifier>⟧.component_of
-        ≡ Component.CalendarYearFullExtendedRange }
-    ensures calendar_year_full_standard_range { ⟦<modifier::CalendarYearFullStandardRange as Modifier>⟧.component_of
-        ≡ Component.CalendarYearFullStandardRange }
-    ensures calendar_year_century_extended_range { ⟦<modifier::CalendarYearCenturyExtendedRange as Modifier>⟧.component_of
-        ≡ Component.CalendarYearCenturyExtendedRange }
-    ensures calendar_year_century_standard_range { ⟦<modifier::CalendarYearCenturyStandardRange as Modifier>⟧.component_of
-        ≡ Component.CalendarYearCenturyStandardRange }
+    ensures calendar_year_full_extended_range { Component.CalendarYearFullExtendedRange
+        ≡ ⟦<modifier::CalendarYearFullExtendedRange as Modifier>⟧.component_of }
+    ensures calendar_year_full_standard_range { Component.CalendarYearFullStandardRange
+        ≡ ⟦<modifier::CalendarYearFullStandardRange as Modifier>⟧.component_of }
+    ensures calendar_year_century_extended_range { Component.CalendarYearCenturyExtendedRange
+        ≡ ⟦<modifier::CalendarYearCenturyExtendedRange as Modifier>⟧.component_of }
+    ensures calendar_year_century_standard_range { Component.CalendarYearCenturyStandardRange
+        ≡ ⟦<modifier::CalendarYearCenturyStandardRange as Modifier>⟧.component_of }
     ensures calendar_year_last_two { ⟦<modifier::CalendarYearLastTwo as Modifier>⟧.component_of
         ≡ Component.CalendarYearLastTwo }
-    ensures iso_year_full_extended_range { ⟦<modifier::IsoYearFullExtendedRange as Modifier>⟧.component_of
-        ≡ Component.IsoYearFullExtendedRange }
-    ensures iso_year_full_standard_range { ⟦<modifier::IsoYearFullStandardRange as Modifier>⟧.component_of
-        ≡ Component.IsoYearFullStandardRange }
-    ensures iso_year_century_extended_range { ⟦<modifier::IsoYearCenturyExtendedRange as Modifier>⟧.component_of
-        ≡ Component.IsoYearCenturyExtendedRange }
-    ensures iso_year_century_standard_range { ⟦<modifier::IsoYearCenturyStandardRange as Modifier>⟧.component_of
-        ≡ Component.IsoYearCenturyStandardRange }
+    ensures iso_year_full_extended_range { Component.IsoYearFullExtendedRange
+        ≡ ⟦<modifier::IsoYearFullExtendedRange as Modifier>⟧.component_of }
+    ensures iso_year_full_standard_range { Component.IsoYearFullStandardRange
+        ≡ ⟦<modifier::IsoYearFullStandardRange as Modifier>⟧.component_of }
+    ensures iso_year_century_extended_range { Component.IsoYearCenturyExtendedRange
+        ≡ ⟦<modifier::IsoYearCenturyExtendedRange as Modifier>⟧.component_of }
+    ensures iso_year_century_standard_range { Component.IsoYearCenturyStandardRange
+        ≡ ⟦<modifier::IsoYearCenturyStandardRange as Modifier>⟧.component_of }
     ensures iso_year_last_two { ⟦<modifier::IsoYearLastTwo as Modifier>⟧.component_of
         ≡ Component.IsoYearLastTwo }
 {}
@@ -67,6 +67,6 @@ pub fn choices_of_times()
         ≡ Component.OffsetSecond }
     ensures unix_timestamp_second { ⟦<modifier::UnixTimestampSecond as Modifier>⟧.component_of
         ≡ Component.UnixTimestampSecond }
-    ensures unix_timestamp_millisecond { ⟦<modifier::UnixTimestampMillisecond as Modifier>⟧.component_of
-        ≡ Component.UnixTimestampMillisecond }
+    ensures unix_timestamp_millisecond { Component.UnixTimestampMillisecond
+        ≡ ⟦<modifier::UnixTimestampMillisecond as Modifier>⟧.component_of }
 {}

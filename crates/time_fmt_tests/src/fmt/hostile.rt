@@ -38,7 +38,8 @@ const REFUSED: &[((i32, u8, u8), Item<'static>, Texts)] = refused! {
     (10_000, 1, 1) => [YEAR] "x" "year" "x01",
     (10_000, 1, 1) => [CENTURY] "x" "year" "x01",
     (10_000, 1, 1) => [Item::Component(DAY), SLASH, YEAR, SLASH] "x01/" "year" "x01/01",
-    (1997, 11, 12) => [Item::StringLiteral("a"), Item::Compound(INNER), Item::StringLiteral("d")] "xab" "insufficient" "xab12",
+    (1997, 11, 12) => [Item::StringLiteral("a"), Item::Compound(INNER), Item::StringLiteral("d")]
+        "xab" "insufficient" "xab12",
 };
 
 #[test]
@@ -57,7 +58,8 @@ macro_rules! literals {
 
 const LITERALS: &[(Item<'static>, &str)] = literals! {
     [C3, Item::Literal(b"\xa9")] "\u{e9}",
-    [Item::Literal(b"\xe2"), Item::Compound(&[Item::Literal(b"\x82"), Item::Literal(b"\xac")])] "\u{20ac}",
+    [Item::Literal(b"\xe2"), Item::Compound(&[Item::Literal(b"\x82"), Item::Literal(b"\xac")])]
+        "\u{20ac}",
     [C3] "\u{fffd}",
     [C3, Item::StringLiteral("x"), Item::Literal(b"\xa9")] "\u{fffd}x\u{fffd}",
     [Item::Literal(b"\xe2\x82")] "\u{fffd}",

@@ -7,8 +7,10 @@ use time_compare::Value::{Offset, Timestamp};
 
 /// Seconds since 1970 and a nanosecond, of the ends, around zero and of either sign.
 const TIMESTAMPS: Rows = rows! {
-    Timestamp(-31_619_087_596_800, 0) => UnixTimestampSecond { sign_is_mandatory: false } "-31619087596800",
-    Timestamp(31_494_784_780_799, 999_999_999) => UnixTimestampSecond { sign_is_mandatory: true } "+31494784780799",
+    Timestamp(-31_619_087_596_800, 0) => UnixTimestampSecond { sign_is_mandatory: false }
+        "-31619087596800",
+    Timestamp(31_494_784_780_799, 999_999_999) => UnixTimestampSecond { sign_is_mandatory: true }
+        "+31494784780799",
     Timestamp(-1, 999_500_000) => UnixTimestampSecond { sign_is_mandatory: false } "-1",
     Timestamp(-1, 999_500_000) => UnixTimestampSecond { sign_is_mandatory: true } "-1",
     Timestamp(0, 0) => UnixTimestampSecond { sign_is_mandatory: true } "+0",
@@ -16,8 +18,10 @@ const TIMESTAMPS: Rows = rows! {
     Timestamp(90, 0) => UnixTimestampSecond { sign_is_mandatory: true } "+90",
     Timestamp(-90, 0) => UnixTimestampSecond { sign_is_mandatory: false } "-90",
     Timestamp(-90, 0) => UnixTimestampSecond { sign_is_mandatory: true } "-90",
-    Timestamp(-31_619_087_596_800, 0) => UnixTimestampMillisecond { sign_is_mandatory: false } "-31619087596800000",
-    Timestamp(31_494_784_780_799, 999_999_999) => UnixTimestampMillisecond { sign_is_mandatory: true } "+31494784780799999",
+    Timestamp(-31_619_087_596_800, 0) => UnixTimestampMillisecond { sign_is_mandatory: false }
+        "-31619087596800000",
+    Timestamp(31_494_784_780_799, 999_999_999)
+        => UnixTimestampMillisecond { sign_is_mandatory: true } "+31494784780799999",
     Timestamp(-1, 999_500_000) => UnixTimestampMillisecond { sign_is_mandatory: false } "0",
     Timestamp(-1, 999_500_000) => UnixTimestampMillisecond { sign_is_mandatory: true } "+0",
     Timestamp(0, 0) => UnixTimestampMillisecond { sign_is_mandatory: true } "+0",

@@ -1,4 +1,5 @@
-//! The recipes of `docs/RATTLE.md` on descriptions from a text, which shows each of them word for word.
+//! The recipes of `docs/RATTLE.md` on descriptions from a text, which shows each of them word for
+//! word.
 
 mod tests;
 
@@ -9,7 +10,8 @@ use time::prelude::*;
 use time::{Date, OffsetDateTime};
 
 /// The description of a configuration, such as `[day padding:none] [month repr:long]`, or a message
-/// such as ``unknown component `dai` at byte 1``. The message is empty if memory ran out for it too.
+/// such as ``unknown component `dai` at byte 1``. The message is empty if memory ran out for it
+/// too.
 pub fn description_of(alloc: Global, text: &str) -> Result<OwnedFormatItem, String> {
     let text = text.as_bytes();
     match parse_owned(alloc, text) {

@@ -91,8 +91,8 @@ pub fn append_unix_time(line: &mut Vec<u8>, seconds: i64) -> Option<Result<usize
     Some(timestamp.format_into(line, &Rfc3339))
 }
 
-/// Appends the moment by the clocks of a place, such as `1969-12-31T17:59:59.5-06:00`, if their year is
-/// within -999,999 to 999,999.
+/// Appends the moment by the clocks of a place, such as `1969-12-31T17:59:59.5-06:00`, if their
+/// year is within -999,999 to 999,999.
 pub fn append_local_time(
     line: &mut Vec<u8>,
     moment: Timestamp,

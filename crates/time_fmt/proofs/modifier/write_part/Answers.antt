@@ -1,5 +1,5 @@
 use Rattle.std.proofs.Common.{◌∙◌, ap, sym}
-use Rattle.time_below.specs.Group.{group_of}
+use Rattle.time_below.specs.Width.{group_of}
 use Rattle.time_fmt.proofs.ConversionLemmas.{outcome_with_group}
 use Rattle.time_fmt.proofs.EndLemmas.{ends_within}
 use Rattle.time_fmt.proofs.modifier.write_part.Goals as goal

@@ -4,7 +4,8 @@ use jiff::Timestamp;
 use jiff::tz::TimeZone;
 use std::process::Abort;
 
-/// The seconds since 1970 on both sides of each change of clocks in 2026, and what Berlin shows then.
+/// The seconds since 1970 on both sides of each change of clocks in 2026, and what Berlin shows
+/// then.
 const CHANGES: &[(i64, &str)] = &[
     (1_774_745_999, "2026-03-29T01:59:59+01:00"),
     (1_774_746_000, "2026-03-29T03:00:00+02:00"),

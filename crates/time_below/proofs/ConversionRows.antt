@@ -1,8 +1,6 @@
--- The tables of components row by row, by computing the definitions: widths, and conversions of the
--- deprecated ones.
+-- The table of deprecated components row by row, by computing the definition of their conversion.
 use Rattle.std.proofs.Common.{◌≡◌, refl, Bool, true, false, [], ◌∷◌, map}
 use Rattle.time_below.specs.Conversion.{current_component}
-use Rattle.time_below.specs.Width.{component_width}
 use Rattle.time_below.specs.declared.format_description.component.Component.{Component}
 use Rattle.time_below.specs.declared.format_description.component.Component.TheVariants as component
 use Rattle.time_below.specs.declared.format_description.modifier.Padding.{Padding}
@@ -10,75 +8,10 @@ use Rattle.time_below.specs.declared.format_description.modifier.MonthRepr.TheVa
 use Rattle.time_below.specs.declared.format_description.modifier.WeekdayRepr.TheVariants as weekday
 use Rattle.time_below.specs.declared.format_description.modifier.WeekNumberRepr.TheVariants as week
 use Rattle.time_below.specs.declared.format_description.modifier.UnixTimestampPrecision.TheVariants as precision
-use Rattle.time_below.specs.declared.format_description.modifier.SubsecondDigits.TheVariants as digits
-use Rattle.time_below.specs.declared.format_description.modifier.TrailingInput.TheVariants as trailing
 use Rattle.time_below.specs.declared.format_description.modifier.YearRepr.{YearRepr}
 use Rattle.time_below.specs.declared.format_description.modifier.YearRepr.TheVariants as year
 use Rattle.time_below.specs.declared.format_description.modifier.YearRange.{YearRange}
 use Rattle.time_below.specs.declared.format_description.modifier.YearRange.TheVariants as range
-
--- the width of each component is that of the table, for any padding, sign and case
-
--- components of the date
-date_widths : (p : Padding) (b : Bool)
-    → map component_width
-    (component.Day (record { padding = p }) ∷
-    component.MonthShort (record { case_sensitive = b }) ∷
-    component.MonthLong (record { case_sensitive = b }) ∷
-    component.MonthNumerical (record { padding = p }) ∷
-    component.Ordinal (record { padding = p }) ∷
-    component.WeekdayShort (record { case_sensitive = b }) ∷
-    component.WeekdayLong (record { case_sensitive = b }) ∷
-    component.WeekdaySunday (record { one_indexed = b }) ∷
-    component.WeekdayMonday (record { one_indexed = b }) ∷
-    component.WeekNumberIso (record { padding = p }) ∷
-    component.WeekNumberSunday (record { padding = p }) ∷
-    component.WeekNumberMonday (record { padding = p }) ∷ [])
-    ≡ 2 ∷ 3 ∷ 9 ∷ 2 ∷ 3 ∷ 3 ∷ 9 ∷ 1 ∷ 1 ∷ 2 ∷ 2 ∷ 2 ∷ []
-date_widths p b = refl
-
--- components of the year
-year_widths : (p : Padding) (b : Bool)
-    → map component_width
-    (component.CalendarYearFullExtendedRange (record { padding = p; sign_is_mandatory = b }) ∷
-    component.CalendarYearFullStandardRange (record { padding = p; sign_is_mandatory = b }) ∷
-    component.CalendarYearCenturyExtendedRange (record { padding = p; sign_is_mandatory = b }) ∷
-    component.CalendarYearCenturyStandardRange (record { padding = p; sign_is_mandatory = b }) ∷
-    component.CalendarYearLastTwo (record { padding = p }) ∷
-    component.IsoYearFullExtendedRange (record { padding = p; sign_is_mandatory = b }) ∷
-    component.IsoYearFullStandardRange (record { padding = p; sign_is_mandatory = b }) ∷
-    component.IsoYearCenturyExtendedRange (record { padding = p; sign_is_mandatory = b }) ∷
-    component.IsoYearCenturyStandardRange (record { padding = p; sign_is_mandatory = b }) ∷
-    component.IsoYearLastTwo (record { padding = p }) ∷ [])
-    ≡ 7 ∷ 5 ∷ 5 ∷ 3 ∷ 2 ∷ 7 ∷ 5 ∷ 5 ∷ 3 ∷ 2 ∷ []
-year_widths p b = refl
-
--- components of the time
-time_widths : (p : Padding) (b : Bool)
-    → map component_width
-    (component.Hour12 (record { padding = p }) ∷
-    component.Hour24 (record { padding = p }) ∷
-    component.Minute (record { padding = p }) ∷
-    component.Period (record { is_uppercase = b; case_sensitive = b }) ∷
-    component.Second (record { padding = p }) ∷
-    component.Subsecond (record { digits = digits.One }) ∷
-    component.Subsecond (record { digits = digits.Four }) ∷
-    component.Subsecond (record { digits = digits.OneOrMore }) ∷ [])
-    ≡ 2 ∷ 2 ∷ 2 ∷ 2 ∷ 2 ∷ 1 ∷ 4 ∷ 9 ∷ []
-time_widths p b = refl
-
--- components of the offset and the moment, and those without a text
-other_widths : (p : Padding) (b : Bool)
-    → map component_width
-    (component.OffsetHour (record { padding = p; sign_is_mandatory = b }) ∷
-    component.OffsetMinute (record { padding = p }) ∷
-    component.OffsetSecond (record { padding = p }) ∷
-    component.UnixTimestampSecond (record { sign_is_mandatory = b }) ∷
-    component.UnixTimestampMillisecond (record { sign_is_mandatory = b }) ∷
-    component.Ignore (record { count = 3 }) ∷
-    component.End (record { trailing_input = trailing.Discard }) ∷ [])
-    ≡ 3 ∷ 2 ∷ 2 ∷ 15 ∷ 18 ∷ 0 ∷ 0 ∷ []
-other_widths p b = refl
 
 -- the current components in the place of the deprecated ones, choice by choice
 

@@ -1,6 +1,6 @@
 use Rattle.std.proofs.Common.{arith}
 use Rattle.time_known.proofs.LengthLemmas.{at_most, counted, piece, puts_then}
-use Rattle.time_known.proofs.rfc2822.put_named_date.Goals as goal
+use Rattle.time_known.proofs.put.put_named_date.Goals as goal
 
 pub returns : goal.returns
 returns g c =
