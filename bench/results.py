@@ -4,9 +4,11 @@
     bench/again
 
 A table that no measure printed now stays as it is in the page. Where all tables are of one run, the head of the page names
-its commit and the load; else each table has a line with these below it. A column without a figure is left out. Prints
-what it reads, and ends with status 1 where a table is of no section."""
+its commit and the load; else each table has a line with these below it. A column without a figure is left out. A table whose
+line says `counts alone` keeps the times that the page has, and their commit. Prints what it reads, and ends with status 1
+where a table is of no section."""
 
+import itertools
 import pathlib
 import re
 import sys
@@ -14,6 +16,8 @@ from typing import NamedTuple
 
 PAGE = pathlib.Path(__file__).resolve().parent / "RESULTS.md"
 TABLE = re.compile(r"^(\|.*\|\n)\|[-|]*\|\n((?:\|.*\|\n)*)(?:\n(Commit .*)\n)?", re.M)
+ALONE = ", counts alone."
+TIME = re.compile(r"ns\b|s for|Times")
 COMMIT = re.compile(r"Commit ([\w ]+?)(?:, load ([\d.]+)(?: to ([\d.]+))?)?\.")
 HEAD = """# Results
 
@@ -180,6 +184,18 @@ def tables_of(text):
     return found, unknown
 
 
+def with_times(new, old):
+    """The table by its rows and its line, with the times of an older one where it has none of its own."""
+    (rows, line), (old_rows, old_line) = new, old
+    if not (line and old_line and line.endswith(ALONE)):
+        return new
+    times = {row[0]: dict(zip(old_rows[0], row)) for row in old_rows[1:]}
+    filled = [[cell or (times.get(row[0], {}).get(head, "") if TIME.match(head) else "")
+               for head, cell in itertools.zip_longest(rows[0], row, fillvalue="")] for row in rows[1:]]
+    source = old_line.removeprefix("Commit ").split("times of commit ")[-1]
+    return [rows[0], *filled], f"{line.removesuffix(ALONE)}; times of commit {source}"
+
+
 def lines_of(rows):
     """The rows as a table, without the columns that have no figure."""
     rows = [row + [""] * (len(rows[0]) - len(row)) for row in rows]
@@ -219,7 +235,8 @@ def main():
     line = head and f"Commit {head[1]}, load {head[2]} to {head[3]}."
     kept = {section: (rows, said or line) for section, (rows, said) in tables_of(old)[0].items()}
     found, unknown = tables_of(told)
-    PAGE.write_text(page_of({**kept, **found}))
+    made = {section: with_times(table, kept.get(section, (None, None))) for section, table in found.items()}
+    PAGE.write_text(page_of({**kept, **made}))
     for it in unknown:
         print(f"bench/results.py: no section begins with {it}", file=sys.stderr)
     return 1 if unknown else 0

@@ -1,7 +1,7 @@
 #!/usr/bin/env python3
 """Counts and times what texts and lines cost, and prints tables; each names the commit and the load.
 
-    bench/run.py [FOLDER]
+    bench/run.py [--counts] [FOLDER]
 
 Works on a copy of the repository, in FOLDER or a temporary one, to which the files `*.rt.in` beside this one are
 added as a program, and once more with `LENT`, and `kit/main.rt.in` as a third. All are proved before they are built, over libraries that earlier
@@ -9,7 +9,8 @@ checks left in `crates/*/out`, and over new ones where there are none. Beside th
 `beside.cpp`, where g++ and Debian's libfmt-dev are installed, whose texts are compared with ours, and the counts of
 the Rust crate in `time-0.3.55.tsv`. Instructions are counted by callgrind, where it is installed, as the difference
 of two runs. FOLDER keeps them, so that a second run counts only what a changed program costs. Times are the least of
-some rounds, in each of which every way has a turn, and are always taken again.
+some rounds, in each of which every way has a turn, and are always taken again. With --counts nothing is timed, and the
+columns of times are empty: a busy machine makes times longer, and leaves counts as they are.
 """
 
 import concurrent.futures
@@ -271,8 +272,8 @@ def counts_of(ways):
 
 
 class Bench:
-    def __init__(self, folder):
-        self.folder = folder
+    def __init__(self, folder, is_timed):
+        self.folder, self.is_timed = folder, is_timed
         KEPT.open(folder)
         copied(folder)
         added(folder)
@@ -310,7 +311,8 @@ class Bench:
         print(f"|{'|'.join(head)}|\n|{'---|' * len(head)}")
         for row in rows:
             print(f"|{'|'.join(row)}|", flush=True)
-        print(f"\n{self.commit()}, load {before:.1f} to {os.getloadavg()[0]:.1f}.\n", flush=True)
+        how = f"load {before:.1f} to {os.getloadavg()[0]:.1f}" if self.is_timed else "counts alone"
+        print(f"\n{self.commit()}, {how}.\n", flush=True)
 
     @staticmethod
     def commit():
@@ -319,10 +321,14 @@ class Bench:
         is_changed = subprocess.run([*git, "status", "--porcelain", "crates"], capture_output=True, text=True).stdout
         return f"Commit {head or 'unknown'}" + (" with changes" if is_changed else "")
 
+    def timed(self, ways):
+        """The nanoseconds of a turn by each way, or none of them."""
+        return timed(ways) if self.is_timed else [None] * len(ways)
+
     def row(self, text, programs):
         """What the text costs by each of our programs, in the Rust crate and by the other ways."""
         ways = [*(ours(program, text) for program in programs), *self.others(text.name, text)]
-        counts, times = counts_of(ways), timed(ways)
+        counts, times = counts_of(ways), self.timed(ways)
         own = len(programs)
         return [text.name, *map(shown, [*counts[:own], self.crate.get(text.name), *counts[own:], *times])]
 
@@ -343,7 +349,7 @@ class Bench:
 
         def row(name, *letters):
             ways = [lettered(kit, letter) for letter in letters]
-            return [name, *map(shown, [*counts_of(ways), *timed(ways)])]
+            return [name, *map(shown, [*counts_of(ways), *self.timed(ways)])]
 
         self.table(["Text of a moment", "Here", "The kit's crate", "ns", "ns of the kit's"], (row(*peer) for peer in PEERS))
 
@@ -352,7 +358,7 @@ class Bench:
         borrowed, third = Text(name, "b", row), Text(name, "v", row)
         others = self.others(name, borrowed)
         ways = [ours(self.lent, borrowed), ours(self.lent, third), *others]
-        counts, times = counts_of(ways), timed(ways)
+        counts, times = counts_of(ways), self.timed(ways)
         over = [None if one is None else one - two for one, two in zip([*counts, *times], alone)]
         return [*over[:2], self.crate.get(name), *over[2:]]
 
@@ -385,12 +391,18 @@ class Bench:
         def row(name, command):
             way = Way(lambda turns: [show], lambda turns: lines(command, turns))
             count = counted(way, (1_000, 3_000))
-            (self.folder / "lines").write_bytes(lines(command, 1_000_000))
-            shown_in, cat_in = self.least_seconds([[show], ["cat"]])
-            return [name, shown(count), shown(self.crate.get(name)), f"{shown_in:.3f}", f"{shown_in / cat_in:.1f}"]
+            return [name, shown(count), shown(self.crate.get(name)), *self.times_of_lines(show, command)]
 
         self.table(["Line", "Instructions", "`time` 0.3.55", "s for 1,000,000", "Times `cat`"],
                    (row(name, command) for name, command in LINES.items()))
+
+    def times_of_lines(self, show, command):
+        """The seconds of a million lines, and how many times longer that is than a copy of them."""
+        if not self.is_timed:
+            return ["", ""]
+        (self.folder / "lines").write_bytes(lines(command, 1_000_000))
+        shown_in, cat_in = self.least_seconds([[show], ["cat"]])
+        return [f"{shown_in:.3f}", f"{shown_in / cat_in:.1f}"]
 
     def least_seconds(self, commands):
         best = [float("inf")] * len(commands)
@@ -417,8 +429,9 @@ class Bench:
 
 
 def main():
+    folders = [it for it in sys.argv[1:] if it != "--counts"]
     with tempfile.TemporaryDirectory() as temporary:
-        Bench(pathlib.Path(sys.argv[1] if len(sys.argv) > 1 else temporary)).all()
+        Bench(pathlib.Path(folders[0] if folders else temporary), "--counts" not in sys.argv).all()
 
 
 if __name__ == "__main__":
