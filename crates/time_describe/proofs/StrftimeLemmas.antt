@@ -1,8 +1,9 @@
 -- Reading the syntax of strftime, a part at a time.
-use Rattle.std.proofs.Common.{◌≡◌, ℕ, zero, suc, ◌+◌, ◌≤◌, ◌<◌, Bool, true, false, List, [], ◌∷◌, ◌++◌, length, drop, Some, None, Ok, Err, refl, sym, ap, ◌∙◌, append_assoc, arith}
+use Rattle.std.proofs.Common.{◌≡◌, ℕ, zero, suc, ◌+◌, ◌≤◌, ◌<◌, Bool, true, false, List, [], ◌∷◌, ◌++◌, length, drop, drop-cons, get_or, IsTrue, Some, None, Ok, Err, refl, sym, ap, ◌∙◌, append_assoc, arith}
 use Rattle.std.specs.Prelude.{◌-◌, nat_le, slice_range, take, ◌==◌}
 use Rattle.std.proofs.lemmas.Bool.{le-leb, leb-true}
-use Rattle.std.proofs.lemmas.List.{append-nil, length-drop, take_all}
+use Rattle.std.specs.List.{before_first}
+use Rattle.std.proofs.lemmas.List.{append-nil, at_drop_all, length-drop, take_all}
 use Rattle.time_below.specs.declared.format_description.component.Component.{Component}
 use Rattle.time_below.specs.Tree.{Tree, of_component}
 use Rattle.time_describe.specs.Conversions.{component_of, composed}
@@ -11,7 +12,7 @@ use Rattle.time_describe.specs.Literal.{literal_of}
 use Rattle.time_describe.specs.declared.strftime.reason.StrftimeReason.{StrftimeReason}
 use Rattle.time_describe.specs.declared.fault.Fault.{Fault}
 use Rattle.time_describe.specs.declared.strftime.reason.StrftimeReason.TheVariants.{TooManyItems}
-use Rattle.time_describe.specs.Strftime.{Front, read, bounded, first_part, fails}
+use Rattle.time_describe.specs.Strftime.{Front, read, bounded, first_part, fails, is_percent}
 
 pub read_end : (before : List Tree) (n : ℕ) → read before n [] ≡ Ok before
 unfolding read
@@ -68,6 +69,36 @@ part_exceeds before now (b ∷ bs) f some is now-is lt =
 pub part_refused : (before : List Tree) (text : List ℕ) (fault : Fault StrftimeReason) → 0 < length text → first_part text ≡ Err fault → read before 0 text ≡ Err fault
 part_refused before [] fault some is = absurd (omega arith)
 part_refused before (b ∷ bs) fault some is = refuse before b bs fault is
+
+-- ---- a literal of one byte
+
+literal_alone : (b : ℕ) (bs : List ℕ) → (b == 37) ≡ false → before_first is_percent bs ≡ []
+    → first_part (b ∷ bs) ≡ Ok (record { items = literal_of (b ∷ []) ∷ []; behind = 0 })
+unfolding first_part
+literal_alone b bs other alone = rw (other, alone) refl
+
+pub byte_first : (text : List ℕ) (at : ℕ) → at < length text → (get_or text at 0 == 37) ≡ false
+    → before_first is_percent (drop (at + 1) text) ≡ []
+    → first_part (drop at text) ≡ Ok (record { items = literal_of (get_or text at 0 ∷ []) ∷ []; behind = 0 })
+byte_first text at within other alone =
+    let one : suc at ≡ at + 1 = omega arith in
+    ap first_part (drop-cons text at 0 within)
+    ∙ literal_alone (get_or text at 0) (drop (suc at) text) other
+    (ap (λ (k : ℕ). before_first is_percent (drop k text)) one ∙ alone)
+
+pub one_byte : (text : List ℕ) (at : ℕ) → at < length text → slice_range text at (at + 1) ≡ get_or text at 0 ∷ []
+one_byte text at within =
+    let count : at + 1 - at ≡ 1 = omega arith in
+    ap (λ (k : ℕ). take k (drop at text)) count ∙ ap (take 1) (drop-cons text at 0 within)
+
+pub literal_ended : (text : List ℕ) (at : ℕ) → length text ≤ at → before_first is_percent (drop at text) ≡ []
+literal_ended text at past = at_drop_all (before_first is_percent) text at past
+
+pub percent_there : (text : List ℕ) (at : ℕ) → at < length text → IsTrue (get_or text at 0 == 37)
+    → before_first is_percent (drop at text) ≡ []
+percent_there text at within there =
+    let is : is_percent (get_or text at 0) ≡ true = there in
+    ap (before_first is_percent) (drop-cons text at 0 within) ∙ rw is refl
 
 -- ---- a text from a place on
 

@@ -7,11 +7,12 @@
 //! `inline(never)` keeps long or rare bodies out of their callers.
 ghost use Rattle.std.specs.Prelude.{◌≡◌, ◌+◌, ◌<◌, ◌≤◌, ℕ, List, [], length, drop, slice_range, Ok};
 ghost use Rattle.std.specs.Prelude.{IfOk, IfErr, OnOk, IsTrue, IsFalse};
+ghost use Rattle.std.specs.List.{before_first};
 ghost use Rattle.time_below.specs.Tree.{Tree, owned_tree};
 ghost use Rattle.time_describe.specs.Conversions.{composed, offset};
 ghost use Rattle.time_describe.specs.Items.{Adds, are_leaves};
 ghost use Rattle.time_describe.specs.Description.{tree_of, Fails, IsWithin, Says, SaysFault};
-ghost use Rattle.time_describe.specs.Strftime.{described, first_part, read};
+ghost use Rattle.time_describe.specs.Strftime.{described, first_part, is_percent, read};
 ghost use Rattle.time_describe.specs.StrftimeOutcome.{AddsFront, AddsLetter, GoesOn, items_of_part};
 
 use crate::fault::{Failure, Fault, InvalidStrftime};
@@ -168,6 +169,37 @@ fn put_usual_at<I: Items>(items: &mut I, text: &[u8], at: usize) -> Result<bool,
     put_usual(items, text[at + 1])
 }
 
+/// Whether no byte of a literal stands at a position: a `%` does, or the text ends there.
+#[tactic(auto, using(crate::proofs::StrftimeLemmas::literal_ended, crate::proofs::StrftimeLemmas::percent_there))]
+fn ends_literal(text: &[u8], at: usize) -> bool
+    requires { at ≤ length text.now }
+    ensures { IsTrue result → before_first is_percent (drop at text.now) ≡ [] }
+{
+    if at == text.len() {
+        return true;
+    }
+    text[at] == b'%'
+}
+
+/// Adds the literal at a position of the text, if it has one byte. Returns whether it has.
+fn put_byte_at<I: Items>(items: &mut I, text: &[u8], at: usize) -> Result<bool, AllocError>
+    requires { at < length text.now }
+    ensures put { IfOk result (λ is_put. IsTrue is_put
+        → AddsFront (I.Holds text.now []) items.old items.new (first_part (drop at text.now)) 1) }
+    ensures nothing { IfOk result (λ is_put. IsFalse is_put → items.new ≡ items.old) }
+    ensures refusal { IfErr result (λ _. IsTrue I.can_refuse) }
+    ensures lender { I.lender items.new ≡ I.lender items.old }
+{
+    if text[at] == b'%' {
+        return Ok(false);
+    }
+    if ends_literal(text, at + 1) {
+        items.put_literal(text, at, 1)?;
+        return Ok(true);
+    }
+    Ok(false)
+}
+
 /// Adds the items of the part at a position of the text. Returns how many bytes belong to it.
 fn put_front<I: Items>(
     items: &mut I,
@@ -183,6 +215,9 @@ fn put_front<I: Items>(
 {
     if put_usual_at(items, text, at)? {
         return Ok(2);
+    }
+    if put_byte_at(items, text, at)? {
+        return Ok(1);
     }
     let (part, behind) = first_part(&text[at..])?;
     put_part(items, text, at, behind + 1, part)?;
