@@ -38,7 +38,7 @@ PLACES = [
     ("config.rt", r".*", r"\d+(?= => Ok)|(?<=Ok\()(?:\w+::\w+|true|false)"),
     ("*.rt", STRUCT, rf"\w+(?=: )|{TYPE}"),
     ("place.rt", r"let \(expected,.*?\};", r"(?<=Expected::)\w+|(?<=MailPart::)\w+|(?<==> \()\d+"),
-    ("items.rt", r"let \(expected,.*?\};", r"(?<=Fault::)\w+|(?<==> \()\d+"),
+    ("items.rt", r"let \(expected,.*?\};", r"(?<=Mismatch::)\w+|(?<==> \()\d+"),
     ("raw.rs", r"^fn expected.*?^\}", r"\d+(?= => )|(?<=Expected::)(?!End, )\w+"),
 ]
 

@@ -262,7 +262,7 @@ class Interfaces:
         rust = {words(name): int(number) for number, name in findall(r"(\d+) => (?:kind_of\(.*?, )?Expected::(\w+)", *self.rust)}
         rust[words(only(r"_ => Expected::(\w+)", *self.rust))] = header["end"]
         self.same("what could have come", header, rust)
-        told = findall(r"(?:Expected|MailPart|Fault)::(\w+)(?:\((?:Names::(\w+))?[^=\n]*\))? => \((\d+)", *self.rattle)
+        told = findall(r"(?:Expected|MailPart|Mismatch)::(\w+)(?:\((?:Names::(\w+))?[^=\n]*\))? => \((\d+)", *self.rattle)
         names = {"nameweekday": "weekdayname", "namemonthwith": "monthname", "comma": "byte", "colon": "byte", "literal": "byte"}
         rattle = [(words(name + kind), int(number)) for name, kind, number in told]
         found = {names.get(name, name): number for name, number in rattle}

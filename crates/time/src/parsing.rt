@@ -8,6 +8,6 @@ pub use time_read::{
 /// Texts of plans.
 pub mod plan {
     pub use time_plan_read::{
-        LenientReader, NoReader, NotRead, ReadPlan, Readable, Reader, Reason,
+        LenientReader, Mismatch, NoReader, NotRead, ReadPlan, Readable, Reader,
     };
 }

@@ -146,6 +146,9 @@ impl Begins {
     }
 
     /// Whether a text may begin so.
+    ///
+    /// It needs no contract. A text that begins so is read, and its reader decides. Any other is
+    /// left as it is, which a reader may do with each text.
     pub(crate) fn may_begin(&self, text: &[u8]) -> bool {
         let Some(first) = text.first() else {
             return false;

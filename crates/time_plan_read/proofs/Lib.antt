@@ -1,5 +1,6 @@
 mod Bytes
 mod ClassLemmas
+mod FaultLemmas
 mod Fronts
 mod KindLemmas
 mod LenientLemmas

@@ -30,7 +30,7 @@ use Rattle.time_plan_read.specs.DatesAndTimes.{AreDatesAndTimes, HasFourDigits, 
 use Rattle.time_plan_read.specs.Numbers.{AreKinds, AreNumbersOf, AreSet, HasUnset, HaveOneSecond, HaveTheGroups, Sets}
 use Rattle.time_plan_read.specs.Parts.{AreSame, parts_tree, ref_bytes}
 use Rattle.time_plan_read.specs.declared.any_step.StepParts.{StepParts}
-use Rattle.time_plan_read.specs.declared.fields.Fields.{Fields}
+use Rattle.time_plan_read.specs.declared.text_fields.TextFields.{TextFields}
 
 -- ---- outcomes
 
@@ -114,13 +114,13 @@ is_read_step t s p f front rest text same one is text_is =
     (record { shown_is = step.shown_is; text_is = parts; long = begins.0; behind = begins.2 })
 
 -- what is shown of a value is read
-abbrev pub ReadsShown : Shown → List ℕ → Fields → Fields → Option ℕ → Type 0
+abbrev pub ReadsShown : Shown → List ℕ → TextFields → TextFields → Option ℕ → Type 0
 ReadsShown s text old new read =
     (f : Facts) (front rest : List ℕ) → AreReal f → HasFourDigits f → is_run s ≡ true
     → tree_outcome (shown_tree s) f ≡ done front → text ≡ front ++ rest
     → (read ≡ Some (length front)) × Sets s f old new
 
-pub shown_is_read : (t : Tree) (s : Shown) (p : StepParts) (f : Facts) (front rest text : List ℕ) (old new : Fields)
+pub shown_is_read : (t : Tree) (s : Shown) (p : StepParts) (f : Facts) (front rest text : List ℕ) (old new : TextFields)
     (read : Option ℕ) → AreSame t (parts_tree p) → p.shown ≡ s → is_run s ≡ true → AreReal f → HasFourDigits f
     → tree_outcome t f ≡ done front → text ≡ front ++ rest → ReadsShown p.shown text old new read
     → (read ≡ Some (length (shown_bytes s f))) × Sets s f old new
@@ -178,7 +178,7 @@ two_digits_of_date f real = two_digits_of (the_date f) real.date
 
 -- ---- what is read of a date and a time of day
 
-pub time_is_read : (s : Shown) (b : Separators) (f : Facts) (front rest text : List ℕ) (old new : Fields) (read : Option ℕ)
+pub time_is_read : (s : Shown) (b : Separators) (f : Facts) (front rest text : List ℕ) (old new : TextFields) (read : Option ℕ)
     → s ≡ shown.Run (run.Time b) → AreReal f → tree_outcome (shown_tree s) f ≡ done front → text ≡ front ++ rest
     → ((x y : ℕ) (t : TimeOfDay) (rest : List ℕ) → IsTimeOfDay t → text ≡ time_run x y t ++ rest
     → (read ≡ Some 8) × (new ≡ record old { hour_24 = t.hour; minute = t.minute; second = t.second }))
@@ -191,7 +191,7 @@ time_is_read s b f front rest text old new read s_is real is text_is reads =
       subst (λ (s : Shown). Sets s f old new) (sym s_is) set.1,
     )
 
-pub date_is_read : (s : Shown) (b : Separators) (f : Facts) (front rest text : List ℕ) (old new : Fields) (read : Option ℕ)
+pub date_is_read : (s : Shown) (b : Separators) (f : Facts) (front rest text : List ℕ) (old new : TextFields) (read : Option ℕ)
     → s ≡ shown.Run (run.Date b) → AreReal f → HasFourDigits f → tree_outcome (shown_tree s) f ≡ done front
     → text ≡ front ++ rest
     → ((x y year : ℕ) (d : DateFacts) (rest : List ℕ) → d.year ≡ pos year → year ≤ 9_999 → d.month < 100 → d.day < 100
@@ -212,14 +212,14 @@ date_is_read s b f front rest text old new read s_is real four is text_is reads 
 -- ---- what is left of the steps
 
 -- the text that is left is that of the steps that are left, and the rest
-pub record IsLeft (all left : List Shown) (ts : Trees) (f : Facts) (text rest : List ℕ) (x : Fields) : Type 0 where
+pub record IsLeft (all left : List Shown) (ts : Trees) (f : Facts) (text rest : List ℕ) (x : TextFields) : Type 0 where
   pub each : are_runs left ≡ true
   pub complete_is : trees_outcome ts f ≡ done (trees_outcome ts f).bytes
   pub text_is : text ≡ (trees_outcome ts f).bytes ++ rest
   pub set : AreSet all left f x
 
 -- before the first step
-pub all_left : (all : List Shown) (ts : Trees) (f : Facts) (front rest text : List ℕ) (x : Fields) → are_runs all ≡ true
+pub all_left : (all : List Shown) (ts : Trees) (f : Facts) (front rest text : List ℕ) (x : TextFields) → are_runs all ≡ true
     → trees_outcome ts f ≡ done front → text ≡ front ++ rest → HasUnset x → IsLeft all all ts f text rest x
 all_left all ts f front rest text x runs is text_is unset =
     let bytes = ap (λ (o : Outcome). o.bytes) is in
@@ -244,7 +244,7 @@ record IsNext (s : Shown) (t : Tree) (ts : Trees) (f : Facts) (text rest : List 
   pub step_is : tree_outcome t f ≡ done (tree_outcome t f).bytes
   pub text_is : text ≡ (tree_outcome t f).bytes ++ ((trees_outcome ts f).bytes ++ rest)
 
-next_text : (all left : List Shown) (s : Shown) (t : Tree) (ts : Trees) (f : Facts) (text rest : List ℕ) (x : Fields)
+next_text : (all left : List Shown) (s : Shown) (t : Tree) (ts : Trees) (f : Facts) (text rest : List ℕ) (x : TextFields)
     → IsLeft all (s ∷ left) (more t ts) f text rest x → IsNext s t ts f text rest
 next_text all left s t ts f text rest x is =
     let both = are_both (tree_outcome t f) (trees_outcome ts f) (trees_outcome (more t ts) f).bytes is.complete_is in
@@ -256,7 +256,7 @@ next_text all left s t ts f text rest x is =
     }
 
 -- what is set by one more step
-set_by : (all left : List Shown) (s : Shown) (f : Facts) (x y : Fields) → AreSet all (s ∷ left) f x → Sets s f x y
+set_by : (all left : List Shown) (s : Shown) (f : Facts) (x y : TextFields) → AreSet all (s ∷ left) f x → Sets s f x y
     → AreSet all left f y
 set_by all left (shown.Run run.Empty) f x y set sets =
     subst (AreSet all left f) (sym sets) (record {
@@ -302,7 +302,7 @@ set_by all left (shown.Component k) f x y set sets = absurd sets
 
 -- one step less is left
 left_behind : (all left : List Shown) (s : Shown) (t : Tree) (ts : Trees) (f : Facts) (text rest behind : List ℕ)
-    (x y : Fields) → IsLeft all (s ∷ left) (more t ts) f text rest x → behind ≡ (trees_outcome ts f).bytes ++ rest
+    (x y : TextFields) → IsLeft all (s ∷ left) (more t ts) f text rest x → behind ≡ (trees_outcome ts f).bytes ++ rest
     → Sets s f x y → IsLeft all left ts f behind rest y
 left_behind all left s t ts f text rest behind x y is behind_is sets =
     let both = are_both (tree_outcome t f) (trees_outcome ts f) (trees_outcome (more t ts) f).bytes is.complete_is in
@@ -314,13 +314,13 @@ left_behind all left s t ts f text rest behind x y is behind_is sets =
     }
 
 -- the next step is read, and what it leaves is left of the others
-pub record IsStepRead (all left : List Shown) (ts : Trees) (f : Facts) (rest : List ℕ) (y : Fields)
+pub record IsStepRead (all left : List Shown) (ts : Trees) (f : Facts) (rest : List ℕ) (y : TextFields)
     (Leaves : List ℕ → Type 0) : Type 0 where
   pub leaves : Leaves ((trees_outcome ts f).bytes ++ rest)
   pub others : (behind : List ℕ) → behind ≡ (trees_outcome ts f).bytes ++ rest → IsLeft all left ts f behind rest y
 
 pub step_is_read : {T : Type 0} (shown_of : T → Shown) (tree_of : T → Tree) (all : List Shown) (steps others : List T) (s : T)
-    (f : Facts) (text rest : List ℕ) (x y : Fields) (Leaves : List ℕ → Type 0) → steps ≡ s ∷ others
+    (f : Facts) (text rest : List ℕ) (x y : TextFields) (Leaves : List ℕ → Type 0) → steps ≡ s ∷ others
     → IsLeft all (map shown_of steps) (trees (map tree_of steps)) f text rest x
     → ((front rest : List ℕ) → is_run (shown_of s) ≡ true → tree_outcome (tree_of s) f ≡ done front → text ≡ front ++ rest
     → Leaves rest × Sets (shown_of s) f x y)
@@ -392,7 +392,7 @@ are_next {T} shown_of tree_of steps others s f text next runs is =
 -- ---- the numbers of a value
 
 -- what is set of a value, of kinds that are its date and its time of day, are its numbers
-pub numbers_of : (date time : Bool) (all : List Shown) (kinds : ℕ) (x : Fields) (f : Facts) → AreReal f
+pub numbers_of : (date time : Bool) (all : List Shown) (kinds : ℕ) (x : TextFields) (f : Facts) → AreReal f
     → AreDatesAndTimes date time all → AreKinds all [] kinds → AreSet all [] f x → AreNumbersOf date time kinds x f
 numbers_of date time all kinds x f real those are set = record {
   real = real;

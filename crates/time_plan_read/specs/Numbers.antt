@@ -6,11 +6,11 @@ use Rattle.time_plan.specs.declared.shown.Shown.{Shown}
 use Rattle.time_plan.specs.declared.shown.Shown.TheVariants as shown
 use Rattle.time_plan_read.specs.DatesAndTimes.{are_runs, show_date, show_time}
 use Rattle.time_plan_read.specs.Kinds.{Have, of_date, of_time, of_moment}
-use Rattle.time_plan_read.specs.declared.fields.Fields.{Fields}
+use Rattle.time_plan_read.specs.declared.text_fields.TextFields.{TextFields}
 use Rattle.time_provide.specs.Real.{AreReal}
 
 -- what a step shows of a value is set, and nothing else
-abbrev pub Sets : Shown → Facts → Fields → Fields → Type 0
+abbrev pub Sets : Shown → Facts → TextFields → TextFields → Type 0
 Sets (shown.Run run.Empty) f old new = new ≡ old
 Sets (shown.Run (run.Date between)) f old new =
     new ≡ record old { year = (the_date f).year; month = (the_date f).month; day = (the_date f).day }
@@ -19,14 +19,14 @@ Sets (shown.Run (run.Time between)) f old new =
 Sets (shown.Component c) f old new = ⊥
 
 -- what no date and no time of day sets is in its range
-pub record HasUnset (x : Fields) : Type 0 where
+pub record HasUnset (x : TextFields) : Type 0 where
   pub nanosecond : x.nanosecond < 1_000_000_000
   pub offset_hour : x.offset_hour ≤ 25
   pub offset_minute : x.offset_minute ≤ 59
   pub offset_second : x.offset_second ≤ 59
 
 -- what the steps show of a value is set, but for what steps show that are left
-pub record AreSet (all left : List Shown) (f : Facts) (x : Fields) : Type 0 where
+pub record AreSet (all left : List Shown) (f : Facts) (x : TextFields) : Type 0 where
   pub year : show_date all ≡ true → show_date left ≡ false → x.year ≡ (the_date f).year
   pub month : show_date all ≡ true → show_date left ≡ false → x.month ≡ (the_date f).month
   pub day : show_date all ≡ true → show_date left ≡ false → x.day ≡ (the_date f).day
@@ -50,7 +50,7 @@ pub record Completes (shown kinds : ℕ) : Type 0 where
 
 -- The numbers, of which a text shows these kinds, are those of a value: of its date, if it has one, and of its time of
 -- day, if it has one.
-pub record AreNumbersOf (date time : Bool) (kinds : ℕ) (x : Fields) (f : Facts) : Type 0 where
+pub record AreNumbersOf (date time : Bool) (kinds : ℕ) (x : TextFields) (f : Facts) : Type 0 where
   pub real : AreReal f
   pub date_shown : date ≡ true → Have kinds of_date
   pub time_shown : time ≡ true → Have kinds of_time

@@ -2,75 +2,11 @@
 ghost use Rattle.std.specs.Prelude.{◌≡◌, ⊤};
 
 use crate::any_step::{LiteralRef, ReadStep};
-use crate::digits::{digits, sign};
+use crate::shapes::{Shape, fixed_decimals, shape_of};
 use std::alloc::AllocError;
 use std::clone::Clone;
-use time_below::format_description::Component;
-use time_below::format_description::modifier::{Padding, SubsecondDigits};
+use time_below::format_description::modifier::Padding;
 use time_plan::{Run, Shown};
-
-/// How the texts of a component look.
-#[derive(Clone, Copy)]
-enum Shape {
-    /// A number in so many places.
-    Number(Padding, usize),
-    /// A number that may have a sign, and whether it has one in any case.
-    Signed(Padding, bool),
-    /// The same of as many digits as the value needs.
-    Open(bool),
-    /// Decimals of the second.
-    Decimals(SubsecondDigits),
-    /// Letters.
-    Letters,
-    /// There is no text.
-    Nothing,
-}
-
-/// How the texts of a component that is not deprecated look.
-fn shape_of(component: Component) -> Shape {
-    match component {
-        Component::Day(m) => Shape::Number(m.padding, 2),
-        Component::MonthNumerical(m) => Shape::Number(m.padding, 2),
-        Component::Ordinal(m) => Shape::Number(m.padding, 3),
-        Component::WeekNumberIso(m) => Shape::Number(m.padding, 2),
-        Component::WeekNumberSunday(m) => Shape::Number(m.padding, 2),
-        Component::WeekNumberMonday(m) => Shape::Number(m.padding, 2),
-        Component::CalendarYearLastTwo(m) => Shape::Number(m.padding, 2),
-        Component::IsoYearLastTwo(m) => Shape::Number(m.padding, 2),
-        Component::Hour12(m) => Shape::Number(m.padding, 2),
-        Component::Hour24(m) => Shape::Number(m.padding, 2),
-        Component::Minute(m) => Shape::Number(m.padding, 2),
-        Component::Second(m) => Shape::Number(m.padding, 2),
-        Component::OffsetMinute(m) => Shape::Number(m.padding, 2),
-        Component::OffsetSecond(m) => Shape::Number(m.padding, 2),
-        Component::WeekdaySunday(_) | Component::WeekdayMonday(_) => {
-            Shape::Number(Padding::Zero, 1)
-        }
-        Component::CalendarYearFullExtendedRange(m) => Shape::Open(m.sign_is_mandatory),
-        Component::CalendarYearFullStandardRange(m) => Shape::Signed(
-            m.padding,
-            m.sign_is_mandatory,
-        ),
-        Component::CalendarYearCenturyExtendedRange(m) => Shape::Open(m.sign_is_mandatory),
-        Component::CalendarYearCenturyStandardRange(m) => {
-            Shape::Signed(m.padding, m.sign_is_mandatory)
-        }
-        Component::IsoYearFullExtendedRange(m) => Shape::Open(m.sign_is_mandatory),
-        Component::IsoYearFullStandardRange(m) => Shape::Signed(m.padding, m.sign_is_mandatory),
-        Component::IsoYearCenturyExtendedRange(m) => Shape::Open(m.sign_is_mandatory),
-        Component::IsoYearCenturyStandardRange(m) => Shape::Signed(m.padding, m.sign_is_mandatory),
-        Component::OffsetHour(m) => Shape::Signed(m.padding, m.sign_is_mandatory),
-        Component::UnixTimestampSecond(m) => Shape::Open(m.sign_is_mandatory),
-        Component::UnixTimestampMillisecond(m) => Shape::Open(m.sign_is_mandatory),
-        Component::Subsecond(m) => Shape::Decimals(m.digits),
-        Component::MonthShort(_)
-        | Component::MonthLong(_)
-        | Component::WeekdayShort(_)
-        | Component::WeekdayLong(_)
-        | Component::Period(_) => Shape::Letters,
-        _ => Shape::Nothing,
-    }
-}
 
 /// How the texts of a component begin.
 #[derive(Clone, Copy)]
@@ -85,69 +21,45 @@ enum Front {
     Nothing,
 }
 
-/// How the texts of a component that is not deprecated begin.
-fn front_of(component: Component) -> Front {
-    match shape_of(component) {
+/// How the texts of a component begin.
+fn front_of(shape: Shape) -> Front {
+    match shape {
         Shape::Number(Padding::Zero, places) => Front::Digits(places),
-        Shape::Number(_, _) | Shape::Signed(_, false) | Shape::Open(false) => Front::Open,
-        Shape::Signed(_, true) | Shape::Open(true) | Shape::Letters => Front::NoDigit,
+        Shape::LastTwo(Padding::Zero) => Front::Digits(2),
+        Shape::Weekday(_, _) => Front::Digits(1),
+        Shape::Number(_, _) | Shape::LastTwo(_) => Front::Open,
+        Shape::Year(year) => signed_front(year.has_sign),
+        Shape::OffsetHour(_, has_sign) | Shape::Count(has_sign) => signed_front(has_sign),
         Shape::Decimals(digits) => match fixed_decimals(digits) {
             Some(count) => Front::Digits(count),
             None => Front::Open,
         },
+        Shape::Letters => Front::NoDigit,
         Shape::Nothing => Front::Nothing,
     }
 }
 
-/// Whether a component that is not deprecated ends by digits whose number depends on the value.
-fn is_open(component: Component) -> bool {
-    match shape_of(component) {
-        Shape::Number(padding, _) | Shape::Signed(padding, _) => match padding {
-            Padding::None => true,
-            _ => false,
-        },
-        Shape::Open(_) => true,
-        Shape::Decimals(digits) => fixed_decimals(digits).is_none(),
-        Shape::Letters | Shape::Nothing => false,
+/// How a number begins that may have a sign, or has one in any case.
+fn signed_front(has_sign: bool) -> Front {
+    if has_sign {
+        Front::NoDigit
+    } else {
+        Front::Open
     }
 }
 
-/// Whether the digits of a component that is not deprecated are there, where it takes as many bytes
-/// in any case.
-pub(crate) fn has_digits(component: Component, text: &[u8]) -> bool {
-    let (_, width) = sign(text);
-    match component {
-        Component::OffsetHour(m) => match m.padding {
-            Padding::Zero => text
-                .get(width..)
-                .is_some_and(|rest| digits(rest, 2).is_some()),
-            _ => true,
-        },
-        Component::CalendarYearFullExtendedRange(m) => match m.padding {
-            Padding::Zero => 0 < width || digits(text, 4).is_some(),
-            _ => true,
-        },
-        _ => match front_of(component) {
-            Front::Digits(count) => digits(text, count).is_some(),
-            _ => true,
-        },
-    }
-}
-
-/// How many decimals there are, where that does not depend on the value.
-pub(crate) fn fixed_decimals(digits: SubsecondDigits) -> Option<usize> {
-    match digits {
-        SubsecondDigits::One => Some(1),
-        SubsecondDigits::Two => Some(2),
-        SubsecondDigits::Three => Some(3),
-        SubsecondDigits::Four => Some(4),
-        SubsecondDigits::Five => Some(5),
-        SubsecondDigits::Six => Some(6),
-        SubsecondDigits::Seven => Some(7),
-        SubsecondDigits::Eight => Some(8),
-        SubsecondDigits::Nine => Some(9),
-        SubsecondDigits::OneOrMore => None,
-    }
+/// Whether a component ends by digits whose number depends on the value.
+fn is_open(shape: Shape) -> bool {
+    let padding = match shape {
+        Shape::Number(padding, _) | Shape::LastTwo(padding) | Shape::OffsetHour(padding, _) => {
+            padding
+        }
+        Shape::Year(year) if year.places == year.most => year.padding,
+        Shape::Year(_) | Shape::Count(_) => return true,
+        Shape::Decimals(digits) => return fixed_decimals(digits).is_none(),
+        Shape::Weekday(_, _) | Shape::Letters | Shape::Nothing => return false,
+    };
+    matches!(padding, Padding::None)
 }
 
 /// The first byte of a literal.
@@ -196,7 +108,7 @@ impl<T: ReadStep> StepsFrom<'_, T> {
     pub(crate) fn are_ambiguous(self) -> bool {
         match self.step.parts(self.texts).shown {
             Shown::Component(component) => {
-                is_open(component.current()) && self.digits_behind().is_none()
+                is_open(shape_of(component.current())) && self.digits_behind().is_none()
             }
             Shown::Run(Run::Date(between)) => between.first.is_ascii_digit(),
             Shown::Run(_) => false,
@@ -210,7 +122,7 @@ fn digits_of<T: ReadStep>(steps: &[T], texts: &[u8]) -> Option<usize> {
     for step in steps {
         let parts = step.parts(texts);
         let front = match parts.shown {
-            Shown::Component(component) => front_of(component.current()),
+            Shown::Component(component) => front_of(shape_of(component.current())),
             Shown::Run(Run::Empty) => Front::Nothing,
             Shown::Run(Run::Date(_)) => Front::Open,
             Shown::Run(Run::Time(between)) => {

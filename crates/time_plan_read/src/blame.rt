@@ -1,68 +1,34 @@
 //! Which number of a text is that of no value.
-ghost use Rattle.std.specs.Prelude.{◌≤◌, length};
-
 use crate::any_step::ReadStep;
-use crate::behind::StepsFrom;
-use crate::fault::{NotRead, Reason, Stop, not_read};
-use crate::fields::Fields;
-use crate::kinds::{Kinds, kind_of, shown_by};
-use crate::runs::place_in_run;
-use crate::steps::checked_step;
+use crate::fault::{Mismatch, Stop};
+use crate::kinds::{Kinds, shown_by};
+use crate::left::Left;
+use crate::pieces::{Way, read_pieces};
+use crate::text_fields::TextFields;
 use std::default::Default;
-use time_plan::Shown;
 
-/// The fault of a text whose numbers no value has: the first number that is out of its own range,
-/// or the one that picks no date of its year.
-pub(crate) fn no_value<T: ReadStep>(
+/// Where the first number begins that is that of no value, in a text whose numbers no value has: one
+/// that is out of its own range, or the one that picks no date of its year.
+pub(crate) fn stop_of_numbers<T: ReadStep>(
     steps: &[T],
     texts: &[u8],
-    text: &[u8],
-    fields: &Fields,
-) -> NotRead
-    ensures { result.at ≤ length text.now }
-{
-    let kind = blamed(fields, shown_by(steps, texts));
-    let mut unused = Fields::default();
-    let mut left = text;
-    let mut steps_left = steps;
-    'steps: while let [step, others @ ..] = steps_left {
-        if let Some(stop) = place_in(&step.parts(texts).shown, left, kind) {
-            return not_read(text, stop);
-        }
-        let here = StepsFrom {
-            step,
-            others,
-            texts,
-        };
-        match checked_step(here, left, &mut unused) {
-            Ok(rest) => left = rest,
-            Err(_) => break 'steps,
-        }
-        steps_left = others;
-    }
-    not_read(
-        text,
-        Stop {
-            left: left.len(),
-            reason: Reason::Otherwise,
+    text: Left<'_>,
+    fields: &TextFields,
+    way: Way,
+) -> Stop {
+    let blamed = Some(blamed(fields, shown_by(steps, texts)));
+    let mut unused = TextFields::default();
+    match read_pieces(steps, texts, text, &mut unused, Way { blamed, ..way }) {
+        Err(stop) => stop,
+        Ok(left) => Stop {
+            left,
+            reason: Mismatch::Otherwise,
         },
-    )
-}
-
-/// Where the component of a kind begins, if a step shows it.
-fn place_in(shown: &Shown, text: &[u8], kind: Kinds) -> Option<Stop> {
-    match shown {
-        Shown::Component(component) if kind_of(component.current()) == kind => Some(Stop {
-            left: text.len(),
-            reason: Reason::NoValue(*component),
-        }),
-        Shown::Component(_) => None,
-        Shown::Run(run) => place_in_run(*run, text, kind),
     }
 }
 
 /// The kind of the number that is that of no value.
-pub(crate) fn blamed(fields: &Fields, shown: Kinds) -> Kinds {
+fn blamed(fields: &TextFields, shown: Kinds) -> Kinds {
     if shown.have(Kinds::HOUR24) && 23 < fields.hour_24 {
         Kinds::HOUR24
     } else if shown.have(Kinds::MINUTE) && 59 < fields.minute {

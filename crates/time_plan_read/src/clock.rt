@@ -4,13 +4,13 @@ ghost use Rattle.time_below.specs.TimeOfDay.{TimeOfDay, IsTimeOfDay};
 ghost use Rattle.time_plan_read.specs.Kinds.{Have, of_time};
 ghost use Rattle.time_plan_read.specs.Numbers.{HasUnset};
 
-use crate::fields::Fields;
 use crate::kinds::Kinds;
+use crate::text_fields::TextFields;
 use time_below::Time;
 
 /// The hour of numbers.
 #[tactic(auto, using(crate::proofs::KindLemmas::have_hour))]
-fn hour_of(fields: &Fields, kinds: Kinds) -> u8
+fn hour_of(fields: &TextFields, kinds: Kinds) -> u8
     ensures { Have kinds.0 of_time → result ≡ fields.now.hour_24 }
 {
     if kinds.have(Kinds::HOUR24) {
@@ -21,7 +21,7 @@ fn hour_of(fields: &Fields, kinds: Kinds) -> u8
 }
 
 /// The time of day of numbers.
-pub(crate) fn time_of(fields: &Fields, kinds: Kinds) -> Option<Time>
+pub(crate) fn time_of(fields: &TextFields, kinds: Kinds) -> Option<Time>
     ensures { (t : TimeOfDay) → IsTimeOfDay t → Have kinds.0 of_time → fields.now.hour_24 ≡ t.hour
         → fields.now.minute ≡ t.minute → fields.now.second ≡ t.second
         → fields.now.nanosecond < 1_000_000_000
@@ -35,7 +35,7 @@ pub(crate) fn time_of(fields: &Fields, kinds: Kinds) -> Option<Time>
 }
 
 /// Sets the numbers of a time of day.
-pub(crate) fn set_time(fields: &mut Fields, time: Time)
+pub(crate) fn set_time(fields: &mut TextFields, time: Time)
     ensures { HasUnset fields.old → HasUnset fields.new }
 {
     let (hour, minute, second, nanosecond) = time.as_hms_nano();
@@ -48,7 +48,7 @@ pub(crate) fn set_time(fields: &mut Fields, time: Time)
 }
 
 /// Sets to zero what is finer than the last part of the time of day that is shown, if one is.
-pub(crate) fn clear_finer_time(fields: &mut Fields, shown: Kinds)
+pub(crate) fn clear_finer_time(fields: &mut TextFields, shown: Kinds)
     ensures { HasUnset fields.old → HasUnset fields.new }
 {
     if !shown.have_part_of_time() || shown.have(Kinds::DECIMALS) {

@@ -177,13 +177,10 @@ pub(crate) fn shown_in_room<B: Before, V: ComponentProvider>(
 }
 
 /// How many bytes two texts have in common at the front.
-fn same_bytes(own: &[u8], text: &[u8]) -> usize {
+pub(crate) fn same_bytes(own: &[u8], text: &[u8]) -> usize {
     let mut count = 0usize;
-    for (a, b) in own.iter().zip(text) {
-        if *a != *b {
-            return count;
-        }
-        count = count.saturating_add(1);
+    while count < own.len() && count < text.len() && own[count] == text[count] {
+        count += 1;
     }
     count
 }

@@ -6,12 +6,12 @@ ghost use Rattle.time_below.specs.Calendar.{OrdinalDate, IsDate, day_of as day_i
 ghost use Rattle.time_plan_read.specs.Kinds.{Have, of_date};
 ghost use Rattle.time_plan_read.specs.Numbers.{HasUnset};
 
-use crate::fields::Fields;
 use crate::kinds::Kinds;
+use crate::text_fields::TextFields;
 use time_below::{Date, Month, is_leap_year};
 
 /// The year of numbers.
-fn year_of(fields: &Fields, kinds: Kinds) -> i32 {
+fn year_of(fields: &TextFields, kinds: Kinds) -> i32 {
     if kinds.have(Kinds::YEAR) {
         return fields.year;
     }
@@ -19,7 +19,7 @@ fn year_of(fields: &Fields, kinds: Kinds) -> i32 {
 }
 
 /// The year of the week calendar.
-fn iso_year_of(fields: &Fields, kinds: Kinds) -> i32 {
+fn iso_year_of(fields: &TextFields, kinds: Kinds) -> i32 {
     if kinds.have(Kinds::ISO_YEAR) {
         return fields.iso_year;
     }
@@ -115,7 +115,7 @@ fn calendar_date(year: i32, number: u8, day: u8) -> Option<Date>
 
 /// The date of numbers.
 #[inline(always)]
-pub(crate) fn date_of(fields: &Fields, kinds: Kinds) -> Option<Date>
+pub(crate) fn date_of(fields: &TextFields, kinds: Kinds) -> Option<Date>
     ensures { (d : OrdinalDate) → IsDate d → Have kinds.0 of_date → fields.now.year ≡ d.year
         → fields.now.month ≡ month_of d → fields.now.day ≡ day_in_month d → result ≡ Some d }
 {
@@ -127,7 +127,7 @@ pub(crate) fn date_of(fields: &Fields, kinds: Kinds) -> Option<Date>
 
 /// The date of numbers that have no whole year, no month or no day of the month.
 #[inline(never)]
-fn seldom_date(fields: &Fields, kinds: Kinds) -> Option<Date> {
+fn seldom_date(fields: &TextFields, kinds: Kinds) -> Option<Date> {
     let weekday = fields.weekday;
     if kinds.have_year() && kinds.have(Kinds::MONTH.and(Kinds::DAY)) {
         return calendar_date(year_of(fields, kinds), fields.month, fields.day);
@@ -146,7 +146,7 @@ fn seldom_date(fields: &Fields, kinds: Kinds) -> Option<Date> {
 }
 
 /// Sets the numbers of a date.
-pub(crate) fn set_date(fields: &mut Fields, date: Date)
+pub(crate) fn set_date(fields: &mut TextFields, date: Date)
     ensures { HasUnset fields.old → HasUnset fields.new }
 {
     let (year, month, day) = date.to_calendar_date();

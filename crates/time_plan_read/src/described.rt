@@ -15,9 +15,9 @@ ghost use Rattle.time_provide.specs.Real.{AreReal};
 
 use crate::any_step::ReadStep;
 use crate::compare::{difference, stepwise_difference};
-use crate::fields::Fields;
 use crate::reader::StepsReader;
 use crate::steps::read_steps;
+use crate::text_fields::TextFields;
 use time_fmt::{ComponentProvider, Formattable};
 use time_plan::{Plan, Step};
 
@@ -39,7 +39,7 @@ pub(crate) trait Described {
     fn texts(&self) -> &[u8];
 
     /// Reads the steps in order into the fields, and returns what follows them.
-    fn read_steps<'a>(&self, text: &'a [u8], fields: &mut Fields) -> Option<&'a [u8]>
+    fn read_steps<'a>(&self, text: &'a [u8], fields: &mut TextFields) -> Option<&'a [u8]>
         ensures reads { (f : Facts) (front rest : List ℕ) → AreReal f → HasFourDigits f
             → are_runs (shown self.now) ≡ true → outcome_of self.now f ≡ done front
             → text.now ≡ front ++ rest → HasUnset fields.old
@@ -72,7 +72,7 @@ impl Described for Plan {
     }
 
     #[inline(always)]
-    fn read_steps<'a>(&self, text: &'a [u8], fields: &mut Fields) -> Option<&'a [u8]> {
+    fn read_steps<'a>(&self, text: &'a [u8], fields: &mut TextFields) -> Option<&'a [u8]> {
         read_steps(self.steps(), &[], text, fields)
     }
 
@@ -100,7 +100,7 @@ impl<T: ReadStep, R> Described for StepsReader<'_, T, R> {
         self.texts
     }
 
-    fn read_steps<'a>(&self, text: &'a [u8], fields: &mut Fields) -> Option<&'a [u8]> {
+    fn read_steps<'a>(&self, text: &'a [u8], fields: &mut TextFields) -> Option<&'a [u8]> {
         read_steps(self.steps, self.texts, text, fields)
     }
 

@@ -22,7 +22,7 @@ pub enum NoReader {
 
 /// What is wrong at a place of a text.
 #[derive(Clone, Copy, Debug, PartialEq, Eq)]
-pub enum Reason {
+pub enum Mismatch {
     /// The text of this component should begin here.
     Component(Component),
     /// This byte of a literal should stand here.
@@ -44,14 +44,14 @@ pub struct NotRead {
     /// The index of a byte of the text, or its length.
     pub at: usize,
     /// What is wrong there.
-    pub reason: Reason,
+    pub reason: Mismatch,
 }
 
 /// What is wrong where so many bytes of a text are left.
 #[derive(Clone, Copy)]
 pub(crate) struct Stop {
     pub(crate) left: usize,
-    pub(crate) reason: Reason,
+    pub(crate) reason: Mismatch,
 }
 
 /// The fault of a text by the bytes that are left.
@@ -90,13 +90,6 @@ fn name_of(component: Component) -> &'static str {
         Component::OffsetSecond(_) => "[offset_second]",
         Component::UnixTimestampSecond(_) => "[unix_timestamp]",
         Component::UnixTimestampMillisecond(_) => "[unix_timestamp precision:millisecond]",
-        _ => name_of_year(component),
-    }
-}
-
-/// A year or a part of it by its name in a description.
-fn name_of_year(component: Component) -> &'static str {
-    match component.current() {
         Component::CalendarYearFullExtendedRange(_) | Component::CalendarYearFullStandardRange(_) =>
             "[year]",
         Component::CalendarYearCenturyExtendedRange(_)
@@ -113,14 +106,16 @@ fn name_of_year(component: Component) -> &'static str {
     }
 }
 
-impl fmt::Display for Reason {
+impl fmt::Display for Mismatch {
     fn fmt<W: fmt::Write>(&self, f: &mut fmt::Formatter<W>) -> fmt::Result {
-        match *self {
-            Reason::Component(component) => write!(f, "expected {}", name_of(component)),
-            Reason::Literal(byte) => write!(f, "expected `{}`", char::from(byte)),
-            Reason::End => f.write_str("expected the end"),
-            Reason::NoValue(component) => write!(f, "no value has this {}", name_of(component)),
-            Reason::Otherwise => f.write_str("the value is written otherwise from here on"),
-        }
+        let (words, name) = match *self {
+            Mismatch::Component(component) => ("expected ", name_of(component)),
+            Mismatch::Literal(byte) => return write!(f, "expected `{}`", char::from(byte)),
+            Mismatch::End => ("expected the end", ""),
+            Mismatch::NoValue(component) => ("no value has this ", name_of(component)),
+            Mismatch::Otherwise => ("the value is written otherwise from here on", ""),
+        };
+        f.write_str(words)?;
+        f.write_str(name)
     }
 }

@@ -3,16 +3,16 @@
 ghost use Rattle.std.specs.Prelude.{◌≡◌, ◌↔◌, IsTrue};
 ghost use Rattle.time_below.specs.Clones.{AreSame};
 
-use crate::fault::{NoReader, NotRead, Reason};
-use crate::fields::Fields;
+use crate::fault::{Mismatch, NoReader, NotRead};
 use crate::kinds::Kinds;
+use crate::text_fields::TextFields;
 
 /// A clone of an error, of numbers or of kinds of components is the same.
 pub fn clones_of_errors()
     ensures no_reader { AreSame ⟦<NoReader as Clone>⟧.is_clone }
-    ensures reason { AreSame ⟦<Reason as Clone>⟧.is_clone }
+    ensures reason { AreSame ⟦<Mismatch as Clone>⟧.is_clone }
     ensures not_read { AreSame ⟦<NotRead as Clone>⟧.is_clone }
-    ensures fields { AreSame ⟦<Fields as Clone>⟧.is_clone }
+    ensures fields { AreSame ⟦<TextFields as Clone>⟧.is_clone }
     ensures kinds { AreSame ⟦<Kinds as Clone>⟧.is_clone }
 {}
 
@@ -25,5 +25,5 @@ pub fn error_equality(a: NoReader, b: NoReader, kinds: Kinds, others: Kinds)
 /// Two faults of a text are equal exactly if they have the same position and equal reasons.
 pub fn fault_equality(a: NotRead, b: NotRead)
     ensures { IsTrue (⟦<NotRead as PartialEq>⟧.eq a b)
-        ↔ ((a.at ≡ b.at) × IsTrue (⟦<Reason as PartialEq>⟧.eq a.reason b.reason)) }
+        ↔ ((a.at ≡ b.at) × IsTrue (⟦<Mismatch as PartialEq>⟧.eq a.reason b.reason)) }
 {}

@@ -5,17 +5,13 @@ ghost use Rattle.time_plan_read.specs.Left.{left_bytes};
 ghost use Rattle.time_plan_read.specs.Lenient.{BeginsByZ, HasZero, IsRead, SpellsAll};
 
 use crate::any_step::ReadStep;
-use crate::behind::StepsFrom;
-use crate::blame::blamed;
-use crate::fault::{NotRead, Reason, Stop, not_read};
-use crate::fields::Fields;
-use crate::kinds::{Kinds, shown_by};
+use crate::blame::stop_of_numbers;
+use crate::fault::{Mismatch, NotRead, Stop, not_read};
 use crate::left::Left;
 use crate::names::after;
-use crate::pieces::{behind_first, read_step_loosely, unlike};
+use crate::pieces::{Way, read_pieces, unlike};
 use crate::reading::Reading;
 use crate::values::Readable;
-use std::default::Default;
 use time_fmt::ComponentProvider;
 
 /// Reads the texts of a description, and those that are like them, as values of a type.
@@ -33,31 +29,12 @@ pub struct LenientReader<'a, T, V> {
     pub(crate) reading: Reading<V>,
 }
 
-/// Reads the steps leniently into the fields, and returns what is left, or where the text is none
-/// of them. Where a kind is blamed, its component is none of them.
-fn read_loose_steps<'a, T: ReadStep>(
-    steps: &[T],
-    texts: &[u8],
-    text: Left<'a>,
-    fields: &mut Fields,
-    blamed: Option<Kinds>,
-) -> Result<Left<'a>, Stop> {
-    let mut left = text;
-    let mut others = steps;
-    for step in steps {
-        others = behind_first(others);
-        let here = StepsFrom {
-            step,
-            others,
-            texts,
-        };
-        match read_step_loosely(here, left, fields, blamed) {
-            Ok(rest) => left = rest,
-            Err(stop) => return Err(stop),
-        }
-    }
-    Ok(left)
-}
+/// How pieces are read leniently.
+const LENIENTLY: Way = Way {
+    is_lenient: true,
+    is_whole: true,
+    blamed: None,
+};
 
 /// What follows a `Z` of either case.
 #[tactic(auto, using(crate::proofs::LenientLemmas::capital_z, crate::proofs::LenientLemmas::small_z))]
@@ -149,38 +126,18 @@ impl<T: ReadStep, V: Readable> LenientReader<'_, T, V> {
             (left_bytes text.entry)) }
     {
         let mut fields = self.reading.base;
-        let rest = match read_loose_steps(self.steps, self.texts, text, &mut fields, None) {
-            Ok(rest) => rest,
-            Err(stop) => return Err(stop),
-        };
-        if !rest.is_empty() {
-            return Err(Stop {
-                left: rest.len(),
-                reason: Reason::End,
-            });
+        if let Err(stop) = read_pieces(self.steps, self.texts, text, &mut fields, LENIENTLY) {
+            return Err(stop);
         }
         let Some(value) = V::of_fields(&fields, self.reading.kinds) else {
-            return Err(self.stop_of_fields(text, &fields));
+            return Err(stop_of_numbers(self.steps, self.texts, text, &fields, LENIENTLY));
         };
         match unlike(self.steps, self.texts, text, &value) {
             None => Ok(value),
             Some(left) => Err(Stop {
                 left,
-                reason: Reason::Otherwise,
+                reason: Mismatch::Otherwise,
             }),
-        }
-    }
-
-    /// Where the number begins that is that of no value.
-    fn stop_of_fields(&self, text: Left<'_>, fields: &Fields) -> Stop {
-        let kind = blamed(fields, shown_by(self.steps, self.texts));
-        let mut unused = Fields::default();
-        match read_loose_steps(self.steps, self.texts, text, &mut unused, Some(kind)) {
-            Err(stop) => stop,
-            Ok(_) => Stop {
-                left: text.len(),
-                reason: Reason::Otherwise,
-            },
         }
     }
 }

@@ -2,12 +2,12 @@
 //!
 //! What is read here is compared later: whatever a function of this file answers, a text is read
 //! only where its pieces are like those of the value.
-use crate::behind::has_digits;
-use crate::components::read_component;
-use crate::fields::Fields;
-use crate::names::{half_day, month_long, month_short, weekday_long, weekday_short};
+use crate::components::{read_component, read_name, read_number};
+use crate::names::half_day;
+use crate::shapes::{Shape, shape_of};
+use crate::text_fields::TextFields;
+use time_below::format_description::Component;
 use time_below::format_description::modifier::{Padding, SubsecondDigits};
-use time_below::format_description::{Component, modifier};
 
 /// The most letters that a name has.
 const NAME: usize = 9;
@@ -15,34 +15,13 @@ const NAME: usize = 9;
 /// The most spaces that stand in the place of zeros.
 const SPACES: usize = 2;
 
-/// A component whose number has no padding.
-macro_rules! bare {
-    ($name:ident) => { Some(Component::$name(modifier::$name { padding: Padding::None })) };
-}
-
-/// The component that shows the same number with no zeros and no spaces, if it is a number whose
-/// places may be read so.
-fn unpadded(component: Component) -> Option<Component> {
-    match component {
-        Component::Day(_) => bare!(Day),
-        Component::MonthNumerical(_) => bare!(MonthNumerical),
-        Component::Ordinal(_) => bare!(Ordinal),
-        Component::WeekNumberIso(_) => bare!(WeekNumberIso),
-        Component::WeekNumberSunday(_) => bare!(WeekNumberSunday),
-        Component::WeekNumberMonday(_) => bare!(WeekNumberMonday),
-        Component::Hour12(_) => bare!(Hour12),
-        Component::Hour24(_) => bare!(Hour24),
-        Component::Minute(_) => bare!(Minute),
-        Component::Second(_) => bare!(Second),
-        Component::OffsetMinute(_) => bare!(OffsetMinute),
-        Component::OffsetSecond(_) => bare!(OffsetSecond),
-        Component::OffsetHour(m) => Some(Component::OffsetHour(modifier::OffsetHour {
-            padding: Padding::None,
-            sign_is_mandatory: m.sign_is_mandatory,
-        })),
-        Component::Subsecond(_) => Some(Component::Subsecond(modifier::Subsecond {
-            digits: SubsecondDigits::OneOrMore,
-        })),
+/// The shape of the same number with no zeros and no spaces, if it is a number whose places may be
+/// read so.
+fn unpadded(shape: Shape) -> Option<Shape> {
+    match shape {
+        Shape::Number(_, places) => Some(Shape::Number(Padding::None, places)),
+        Shape::OffsetHour(_, has_sign) => Some(Shape::OffsetHour(Padding::None, has_sign)),
+        Shape::Decimals(_) => Some(Shape::Decimals(SubsecondDigits::OneOrMore)),
         _ => None,
     }
 }
@@ -50,26 +29,26 @@ fn unpadded(component: Component) -> Option<Component> {
 /// The first letters of a text, as a name is written: a capital letter, and small ones.
 fn as_name(text: &[u8]) -> [u8; NAME] {
     let mut name = [0u8; NAME];
-    let mut is_first = true;
-    for (place, byte) in name.iter_mut().zip(text) {
-        *place = if is_first {
-            byte.to_ascii_uppercase()
+    let mut count = 0usize;
+    while count < NAME && count < text.len() {
+        name[count] = if count == 0 {
+            text[count].to_ascii_uppercase()
         } else {
-            byte.to_ascii_lowercase()
+            text[count].to_ascii_lowercase()
         };
-        is_first = false;
+        count += 1;
     }
     name
 }
 
 /// Reads a name in letters of either case, and returns how many it has, or nothing of a component
 /// that is no name.
-fn read_name(component: Component, text: &[u8], fields: &mut Fields) -> Option<usize> {
+fn read_name_loosely(component: Component, text: &[u8], fields: &mut TextFields) -> Option<usize> {
     match component {
-        Component::MonthShort(_) => month_short(&as_name(text), &mut fields.month),
-        Component::MonthLong(_) => month_long(&as_name(text), &mut fields.month),
-        Component::WeekdayShort(_) => weekday_short(&as_name(text), &mut fields.weekday),
-        Component::WeekdayLong(_) => weekday_long(&as_name(text), &mut fields.weekday),
+        Component::MonthShort(_)
+        | Component::MonthLong(_)
+        | Component::WeekdayShort(_)
+        | Component::WeekdayLong(_) => read_name(component, &as_name(text), fields),
         Component::Period(_) => {
             let [first, second, ..] = text else {
                 return None;
@@ -100,10 +79,10 @@ pub(crate) fn read_loosely(
     component: Component,
     behind: Option<usize>,
     text: &[u8],
-    fields: &mut Fields,
+    fields: &mut TextFields,
 ) -> Option<usize> {
     let component = component.current();
-    if let Some(count) = read_name(component, text, fields) {
+    if let Some(count) = read_name_loosely(component, text, fields) {
         return Some(count);
     }
     if behind == Some(0) {
@@ -111,17 +90,14 @@ pub(crate) fn read_loosely(
             return Some(count);
         }
     }
-    if !has_digits(component, text) {
-        return None;
-    }
     read_component(component, behind.unwrap_or(0), text, fields)
 }
 
 /// Reads a number with no zeros or with spaces in their place, and returns how many bytes its piece
 /// has.
-fn read_bare(component: Component, text: &[u8], fields: &mut Fields) -> Option<usize> {
-    let bare = unpadded(component)?;
+fn read_bare(component: Component, text: &[u8], fields: &mut TextFields) -> Option<usize> {
+    let shape = unpadded(shape_of(component))?;
     let count = spaces(text);
-    let digits = read_component(bare, 0, text.get(count..)?, fields)?;
+    let digits = read_number(component, shape, 0, text.get(count..)?, fields)?;
     Some(digits.saturating_add(count))
 }

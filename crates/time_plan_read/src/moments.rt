@@ -3,13 +3,13 @@ ghost use Rattle.std.specs.Prelude.{◌≡◌, ◌≤◌, IsSome};
 ghost use Rattle.time_below.specs.Moment.{IsMoment};
 ghost use Rattle.time_plan_read.specs.Numbers.{HasUnset};
 
-use crate::fields::Fields;
 use crate::kinds::Kinds;
+use crate::text_fields::TextFields;
 use std::convert::TryFrom;
 use time_below::{Timestamp, UtcOffset};
 
 /// The offset of numbers.
-pub(crate) fn offset_of(fields: &Fields) -> Option<UtcOffset>
+pub(crate) fn offset_of(fields: &TextFields) -> Option<UtcOffset>
     ensures { fields.now.offset_hour ≤ 25 → fields.now.offset_minute ≤ 59
         → fields.now.offset_second ≤ 59 → IsSome result }
 {
@@ -33,7 +33,7 @@ pub(crate) fn offset_of(fields: &Fields) -> Option<UtcOffset>
 }
 
 /// The moment of numbers.
-pub(crate) fn moment_of(fields: &Fields, kinds: Kinds) -> Option<Timestamp> {
+pub(crate) fn moment_of(fields: &TextFields, kinds: Kinds) -> Option<Timestamp> {
     if kinds.have(Kinds::UNIX_SECOND) {
         let nanosecond = if kinds.have(Kinds::DECIMALS) {
             fields.nanosecond
@@ -74,7 +74,7 @@ fn nanoseconds_of(milliseconds: i64) -> u32 {
 }
 
 /// Sets the numbers of an offset.
-pub(crate) fn set_offset(fields: &mut Fields, offset: UtcOffset)
+pub(crate) fn set_offset(fields: &mut TextFields, offset: UtcOffset)
     ensures { HasUnset fields.old → HasUnset fields.new }
 {
     let (hours, minutes, seconds) = offset.as_hms();
@@ -85,7 +85,7 @@ pub(crate) fn set_offset(fields: &mut Fields, offset: UtcOffset)
 }
 
 /// Sets to zero what is finer than the last part of the offset that is shown, if one is.
-pub(crate) fn clear_finer_offset(fields: &mut Fields, shown: Kinds)
+pub(crate) fn clear_finer_offset(fields: &mut TextFields, shown: Kinds)
     ensures { HasUnset fields.old → HasUnset fields.new }
 {
     if shown.have(Kinds::OFFSET_SECOND) {

@@ -16,11 +16,11 @@ use crate::behind::StepsFrom;
 use crate::clock::clear_finer_time;
 use crate::complete::are_dates_and_times;
 use crate::fault::{NoReader, NotRead};
-use crate::fields::Fields;
 use crate::kinds::{Kinds, shown_by};
 use crate::lenient::LenientReader;
 use crate::moments::clear_finer_offset;
 use crate::reading::Reading;
+use crate::text_fields::TextFields;
 use crate::values::Readable;
 use std::default::Default;
 use std::marker::PhantomData;
@@ -75,7 +75,7 @@ impl ReadPlan for Plan {
         if !V::is_determined(kinds) {
             return Err(NoReader::Undetermined);
         }
-        reader_of(self, kinds, Fields::default())
+        reader_of(self, kinds, TextFields::default())
     }
 
     fn reader_from<V: Readable>(&self, base: &V) -> Result<Reader<'_, V>, NoReader>
@@ -93,7 +93,7 @@ impl ReadPlan for Plan {
 fn reader_of<V: Readable>(
     plan: &Plan,
     kinds: Kinds,
-    base: Fields,
+    base: TextFields,
 ) -> Result<Reader<'_, V>, NoReader>
     requires kinds { AreKinds (shown_of plan.now) [] kinds.0 }
     requires base { HasUnset base }
@@ -128,7 +128,7 @@ pub fn reader_of_steps<'a, T: ReadStep, V: Readable>(
         None => Ok(StepsReader {
             steps,
             texts,
-            reading: Reading::new(kinds, Fields::default()),
+            reading: Reading::new(kinds, TextFields::default()),
         }),
     }
 }

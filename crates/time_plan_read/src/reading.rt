@@ -9,12 +9,13 @@ ghost use Rattle.time_plan_read.specs.Front.{BeginsWith};
 ghost use Rattle.time_plan_read.specs.Numbers.{AreKinds, AreNumbersOf, HasUnset};
 ghost use Rattle.time_provide.specs.Real.{AreReal};
 
-use crate::blame::no_value;
+use crate::blame::stop_of_numbers;
 use crate::described::Described;
-use crate::fault::{NotRead, Reason, Stop, not_read};
-use crate::fields::Fields;
+use crate::fault::{Mismatch, NotRead, Stop, not_read};
 use crate::kinds::Kinds;
-use crate::steps::checked_steps;
+use crate::left::Left;
+use crate::pieces::{Way, read_pieces};
+use crate::text_fields::TextFields;
 use crate::values::Readable;
 use std::marker::PhantomData;
 use time_fmt::ComponentProvider;
@@ -23,7 +24,7 @@ use time_fmt::ComponentProvider;
 #[derive(Drop)]
 pub(crate) struct Reading<V> {
     pub(crate) kinds: Kinds,
-    pub(crate) base: Fields,
+    pub(crate) base: TextFields,
     value: PhantomData<V>,
     ghost in_range: { HasUnset base },
 }
@@ -40,7 +41,7 @@ fn is_end(left: Option<&[u8]>) -> bool
 
 impl<V: Readable> Reading<V> {
     /// The reading of these components, which are completed by these numbers.
-    pub(crate) fn new(kinds: Kinds, base: Fields) -> Reading<V>
+    pub(crate) fn new(kinds: Kinds, base: TextFields) -> Reading<V>
         requires { HasUnset base }
         ensures { result.kinds ≡ kinds }
     {
@@ -109,7 +110,7 @@ impl<V: Readable> Reading<V> {
 
     /// The value of the numbers that were read of a text, if the plan writes it so.
     #[inline(always)]
-    fn value_of<D: Described>(&self, described: &D, text: &[u8], fields: &Fields) -> Option<V>
+    fn value_of<D: Described>(&self, described: &D, text: &[u8], fields: &TextFields) -> Option<V>
     where
         V::State: Drop,
         V: Drop,
@@ -137,25 +138,29 @@ impl<V: Readable> Reading<V> {
         ensures inside { result.at ≤ length text.now }
     {
         let mut fields = self.base;
-        let left = match checked_steps(described.steps(), described.texts(), text, &mut fields) {
-            Ok(left) => left,
-            Err(fault) => return fault,
+        let way = Way {
+            is_lenient: false,
+            is_whole,
+            blamed: None,
         };
-        if is_whole && 0 < left {
-            let reason = Reason::End;
-            return not_read(text, Stop { left, reason });
-        }
+        let (steps, texts) = (described.steps(), described.texts());
+        let left = match read_pieces(steps, texts, Left::of(text), &mut fields, way) {
+            Ok(left) => left,
+            Err(stop) => return not_read(text, stop),
+        };
         let Some(value) = V::of_fields(&fields, self.kinds) else {
-            return no_value(described.steps(), described.texts(), text, &fields);
+            return not_read(
+                text,
+                stop_of_numbers(steps, texts, Left::of(text), &fields, way),
+            );
         };
         let (front, _) = text.split_at(text.len().saturating_sub(left));
         let at = described.difference(front, &value).unwrap_or(front.len());
-        let reason = Reason::Otherwise;
         not_read(
             text,
             Stop {
                 left: text.len().saturating_sub(at),
-                reason,
+                reason: Mismatch::Otherwise,
             },
         )
     }

@@ -3,7 +3,7 @@
 //! `inline(always)` makes a read one function with what is met often, and `inline(never)` keeps the
 //! rest out of it. A read of a time of nginx counts 783 instructions, and 936 where only the
 //! attributes of this file, `read_usual` and the other functions that are kept out have any.
-ghost use Rattle.std.specs.Prelude.{◌≡◌, ◌≤◌, ◌++◌, ℕ, true, List, [], map, IfErr, IsSomeAnd};
+ghost use Rattle.std.specs.Prelude.{◌≡◌, ◌≤◌, ◌++◌, ℕ, true, List, [], map, IsSomeAnd};
 ghost use Rattle.std.specs.Prelude.{length};
 ghost use Rattle.time_below.specs.Facts.{Facts};
 ghost use Rattle.time_below.specs.Tree.{trees};
@@ -14,25 +14,24 @@ ghost use Rattle.time_plan_read.specs.DatesAndTimes.{HasFourDigits, are_runs, is
 ghost use Rattle.time_plan_read.specs.Numbers.{AreSet, HasUnset, Sets};
 ghost use Rattle.time_provide.specs.Real.{AreReal};
 
-use crate::any_step::{LiteralRef, ReadStep, StepParts};
-use crate::behind::{StepsFrom, has_digits};
+use crate::any_step::ReadStep;
+use crate::behind::StepsFrom;
 use crate::components::{read_component, read_usual};
-use crate::fault::{NotRead, Reason, Stop, not_read};
-use crate::fields::Fields;
 use crate::names::{after_literal, behind};
-use crate::runs::{read_date, read_time, stop_of_run};
+use crate::runs::{read_date, read_time};
+use crate::text_fields::TextFields;
 use time_plan::{Run, Shown};
 
 /// Reads the steps in order into the fields, and returns what follows them.
 ///
 /// No step tells what is wrong with a text, and numbers of so many digits take any bytes:
-/// `checked_steps` tells what is wrong, once the text of the value was another one.
+/// `read_pieces` tells what is wrong, once the text of the value was another one.
 #[inline(always)]
 pub(crate) fn read_steps<'a, T: ReadStep>(
     steps: &[T],
     texts: &[u8],
     text: &'a [u8],
-    fields: &mut Fields,
+    fields: &mut TextFields,
 ) -> Option<&'a [u8]>
     ensures reads { (f : Facts) (front rest : List ℕ) → AreReal f → HasFourDigits f
         → are_runs (map (T.shown_of texts.now) steps.now) ≡ true
@@ -55,38 +54,12 @@ pub(crate) fn read_steps<'a, T: ReadStep>(
     Some(left)
 }
 
-/// The same, and how many bytes are left, or the first place where the text is none of the steps.
-pub(crate) fn checked_steps<T: ReadStep>(
-    steps: &[T],
-    texts: &[u8],
-    text: &[u8],
-    fields: &mut Fields,
-) -> Result<usize, NotRead>
-    ensures { IfErr result (λ fault. fault.at ≤ length text.now) }
-{
-    let mut left = text;
-    let mut steps_left = steps;
-    'steps: while let [step, others @ ..] = steps_left {
-        let here = StepsFrom {
-            step,
-            others,
-            texts,
-        };
-        match checked_step(here, left, fields) {
-            Ok(rest) => left = rest,
-            Err(stop) => return Err(not_read(text, stop)),
-        }
-        steps_left = others;
-    }
-    Ok(left.len())
-}
-
 /// Reads what a step shows into the fields, and its literal, and returns what follows them.
 #[inline(always)]
 fn read_step<'a, T: ReadStep>(
     steps: StepsFrom<'_, T>,
     text: &'a [u8],
-    fields: &mut Fields,
+    fields: &mut TextFields,
 ) -> Option<&'a [u8]>
     ensures reads { (f : Facts) (front rest : List ℕ) → AreReal f → HasFourDigits f
         → is_run (T.shown_of steps.entry.texts.now steps.entry.step.now) ≡ true
@@ -107,7 +80,7 @@ fn read_shown<T: ReadStep>(
     shown: &Shown,
     steps: StepsFrom<'_, T>,
     text: &[u8],
-    fields: &mut Fields,
+    fields: &mut TextFields,
 ) -> Option<usize>
     ensures reads { (f : Facts) (front rest : List ℕ) → AreReal f → HasFourDigits f
         → is_run shown.now ≡ true → tree_outcome (shown_tree shown.now) f ≡ done front
@@ -133,7 +106,7 @@ fn read_otherwise<T: ReadStep>(
     others: &[T],
     texts: &[u8],
     text: &[u8],
-    fields: &mut Fields,
+    fields: &mut TextFields,
 ) -> Option<usize> {
     let here = StepsFrom {
         step,
@@ -144,75 +117,5 @@ fn read_otherwise<T: ReadStep>(
     match step.parts(texts).shown {
         Shown::Component(component) => read_component(component, behind, text, fields),
         Shown::Run(_) => None,
-    }
-}
-
-/// Reads a step as `read_step` does, or tells where the text is none of it.
-pub(crate) fn checked_step<'a, T: ReadStep>(
-    steps: StepsFrom<'_, T>,
-    text: &'a [u8],
-    fields: &mut Fields,
-) -> Result<&'a [u8], Stop> {
-    let StepParts { shown, literal } = steps.step.parts(steps.texts);
-    if let Some(stop) = stop_of_digits(&shown, text) {
-        return Err(stop);
-    }
-    let read = read_shown(&shown, steps, text, fields);
-    let Some(rest) = read.and_then(|count| behind(text, count)) else {
-        return Err(stop_of_shown(&shown, text));
-    };
-    match after_literal(rest, literal) {
-        Some(rest) => Ok(rest),
-        None => Err(stop_of_literal(literal, rest)),
-    }
-}
-
-/// Where a text has other bytes in the place of digits, and of bytes between them, that are read in
-/// any case.
-fn stop_of_digits(shown: &Shown, text: &[u8]) -> Option<Stop> {
-    match shown {
-        Shown::Component(component) if has_digits(component.current(), text) => None,
-        Shown::Component(_) => Some(stop_of_shown(shown, text)),
-        Shown::Run(run) => stop_of_run(*run, text),
-    }
-}
-
-/// That a text does not begin with what a step shows.
-fn stop_of_shown(shown: &Shown, text: &[u8]) -> Stop {
-    Stop {
-        left: text.len(),
-        reason: match shown {
-            Shown::Component(component) => Reason::Component(*component),
-            Shown::Run(_) => Reason::Otherwise,
-        },
-    }
-}
-
-/// Where a text does not go on by a literal.
-fn stop_of_literal(literal: LiteralRef<'_>, text: &[u8]) -> Stop {
-    let bytes = match literal {
-        LiteralRef::Byte(byte) => {
-            return Stop {
-                left: text.len(),
-                reason: Reason::Literal(byte),
-            };
-        }
-        LiteralRef::Bytes(bytes) => bytes,
-    };
-    let mut left = text;
-    for byte in bytes {
-        match left {
-            [first, rest @ ..] if *first == *byte => left = rest,
-            _ => {
-                return Stop {
-                    left: left.len(),
-                    reason: Reason::Literal(*byte),
-                };
-            }
-        }
-    }
-    Stop {
-        left: left.len(),
-        reason: Reason::Otherwise,
     }
 }

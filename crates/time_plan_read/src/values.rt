@@ -6,9 +6,9 @@ ghost use Rattle.time_plan_read.specs.Numbers.{AreNumbersOf, Completes, HasUnset
 
 use crate::clock::{set_time, time_of};
 use crate::dates::{date_of, set_date};
-use crate::fields::Fields;
 use crate::kinds::Kinds;
 use crate::moments::{moment_of, offset_of, set_offset, timestamp};
+use crate::text_fields::TextFields;
 use std::default::Default;
 use time_below::{Date, OffsetDateTime, PlainDateTime, Time, Timestamp, UtcDateTime, UtcOffset};
 use time_fmt::ComponentProvider;
@@ -23,14 +23,14 @@ pub trait Readable: ComponentProvider + Sized {
     ///
     /// The numbers of a date and a time of day that some value has give a value with that date and
     /// that time of day.
-    fn of_fields(fields: &Fields, kinds: Kinds) -> Option<Self>
+    fn of_fields(fields: &TextFields, kinds: Kinds) -> Option<Self>
         ensures complete { (other : Self)
             → AreNumbersOf Self.SUPPLIES_DATE Self.SUPPLIES_TIME kinds.0 fields.now
             (Self.facts other)
             → IsSomeAnd result (λ value. HaveOneSecond (Self.facts value) (Self.facts other)) };
 
     /// The numbers of the value.
-    fn fields(&self) -> Fields
+    fn fields(&self) -> TextFields
         ensures in_range { HasUnset result };
 
     /// The components that texts show, and those of a base value that complete them.
@@ -39,10 +39,10 @@ pub trait Readable: ComponentProvider + Sized {
 }
 
 /// The numbers of a date and a time of day.
-fn fields_of(date: Date, time: Time) -> Fields
+fn fields_of(date: Date, time: Time) -> TextFields
     ensures { HasUnset result }
 {
-    let mut fields = Fields::default();
+    let mut fields = TextFields::default();
     set_date(&mut fields, date);
     set_time(&mut fields, time);
     fields
@@ -66,12 +66,12 @@ impl Readable for Date {
         kinds.have_date()
     }
 
-    fn of_fields(fields: &Fields, kinds: Kinds) -> Option<Date> {
+    fn of_fields(fields: &TextFields, kinds: Kinds) -> Option<Date> {
         date_of(fields, kinds)
     }
 
-    fn fields(&self) -> Fields {
-        let mut fields = Fields::default();
+    fn fields(&self) -> TextFields {
+        let mut fields = TextFields::default();
         set_date(&mut fields, *self);
         fields
     }
@@ -86,12 +86,12 @@ impl Readable for Time {
         kinds.have_time()
     }
 
-    fn of_fields(fields: &Fields, kinds: Kinds) -> Option<Time> {
+    fn of_fields(fields: &TextFields, kinds: Kinds) -> Option<Time> {
         time_of(fields, kinds)
     }
 
-    fn fields(&self) -> Fields {
-        let mut fields = Fields::default();
+    fn fields(&self) -> TextFields {
+        let mut fields = TextFields::default();
         set_time(&mut fields, *self);
         fields
     }
@@ -106,12 +106,12 @@ impl Readable for UtcOffset {
         kinds.have_offset()
     }
 
-    fn of_fields(fields: &Fields, _kinds: Kinds) -> Option<UtcOffset> {
+    fn of_fields(fields: &TextFields, _kinds: Kinds) -> Option<UtcOffset> {
         offset_of(fields)
     }
 
-    fn fields(&self) -> Fields {
-        let mut fields = Fields::default();
+    fn fields(&self) -> TextFields {
+        let mut fields = TextFields::default();
         set_offset(&mut fields, *self);
         fields
     }
@@ -127,11 +127,11 @@ impl Readable for PlainDateTime {
     }
 
     #[inline(always)]
-    fn of_fields(fields: &Fields, kinds: Kinds) -> Option<PlainDateTime> {
+    fn of_fields(fields: &TextFields, kinds: Kinds) -> Option<PlainDateTime> {
         Some(PlainDateTime::new(date_of(fields, kinds)?, time_of(fields, kinds)?))
     }
 
-    fn fields(&self) -> Fields {
+    fn fields(&self) -> TextFields {
         fields_of(self.date(), self.time())
     }
 
@@ -146,7 +146,7 @@ impl Readable for UtcDateTime {
     }
 
     #[inline(always)]
-    fn of_fields(fields: &Fields, kinds: Kinds) -> Option<UtcDateTime> {
+    fn of_fields(fields: &TextFields, kinds: Kinds) -> Option<UtcDateTime> {
         if kinds.have_moment() {
             let moment = moment_of(fields, kinds)?;
             return Some(UtcDateTime::new(moment.date(), moment.time()));
@@ -154,7 +154,7 @@ impl Readable for UtcDateTime {
         Some(UtcDateTime::new(date_of(fields, kinds)?, time_of(fields, kinds)?))
     }
 
-    fn fields(&self) -> Fields {
+    fn fields(&self) -> TextFields {
         fields_of(self.date(), self.time())
     }
 
@@ -169,7 +169,7 @@ impl Readable for Timestamp {
     }
 
     #[inline(always)]
-    fn of_fields(fields: &Fields, kinds: Kinds) -> Option<Timestamp> {
+    fn of_fields(fields: &TextFields, kinds: Kinds) -> Option<Timestamp> {
         if kinds.have_moment() {
             return moment_of(fields, kinds);
         }
@@ -178,7 +178,7 @@ impl Readable for Timestamp {
         timestamp(value.unix_timestamp(), fields.nanosecond)
     }
 
-    fn fields(&self) -> Fields {
+    fn fields(&self) -> TextFields {
         fields_of(self.date(), self.time())
     }
 
@@ -193,7 +193,7 @@ impl Readable for OffsetDateTime {
     }
 
     #[inline(always)]
-    fn of_fields(fields: &Fields, kinds: Kinds) -> Option<OffsetDateTime> {
+    fn of_fields(fields: &TextFields, kinds: Kinds) -> Option<OffsetDateTime> {
         let offset = offset_of(fields)?;
         if kinds.have_moment() {
             return moment_of(fields, kinds)?.checked_to_offset(offset);
@@ -205,7 +205,7 @@ impl Readable for OffsetDateTime {
         ))
     }
 
-    fn fields(&self) -> Fields {
+    fn fields(&self) -> TextFields {
         let mut fields = fields_of(self.date(), self.time());
         set_offset(&mut fields, self.offset());
         fields

@@ -13,7 +13,7 @@ use Rattle.time_read.specs.Mail.{ClockAfter, DateAfter, DayAfter, FourthDigit, H
 use Rattle.time_read.specs.Mail.{NamedParts, SignAfter, YearAfter, ZoneAfter, first_fourth, last_fourth}
 use Rattle.time_read.specs.Names.{NameOf}
 use Rattle.time_read.specs.Shapes.{OfClock, OneDigit, Seq, Two, TwoAfter, least_minute, month_days}
-use Rattle.time_read.specs.declared.fault.Fault.{Fault}
+use Rattle.time_read.specs.declared.fault.Unexpected.{Unexpected}
 use Rattle.time_read.specs.declared.fault.Names.TheVariants as names
 use Rattle.time_read.specs.declared.fault.Expected.TheVariants as expected
 use Rattle.time_read.proofs.Fields.{CanGoOn, begins_first, field_as, field_first, field_after, front_as, front_then}
@@ -63,7 +63,7 @@ next_fourth first last b h m = record {
   };
 }
 
-pub fourth_fault : (first last : ℕ) (text : List ℕ) (e : Fault) → first ≤ last → e.expected ≡ expected.EachFourth first last
+pub fourth_fault : (first last : ℕ) (text : List ℕ) (e : Unexpected) → first ≤ last → e.expected ≡ expected.EachFourth first last
     → length text ≡ e.left
     → ((b : ℕ) (after : List ℕ) → text ≡ b ∷ after → IsInRange (48 + first) (48 + last) b → b % 4 ≡ first % 4 → ⊥)
     → FieldFault 1 (SpellsSome (FourthDigit first last)) text e
@@ -119,16 +119,16 @@ to_leap c n text s =
 leap_goes_on : (c : ℕ) → CanGoOn 1 (OneDigit 0 9) (λ tens. FourthDigit (first_fourth c tens) (last_fourth tens))
 leap_goes_on c = goes (reads_one 0 9) (λ t front s. begins_fourth _ _ (fourths_ordered c t))
 
-as_leap : (c : ℕ) {text : List ℕ} {e : Fault} → FieldFault 2 (SpellsSome (TensAndFourth c)) text e
+as_leap : (c : ℕ) {text : List ℕ} {e : Unexpected} → FieldFault 2 (SpellsSome (TensAndFourth c)) text e
     → FieldFault 2 (SpellsSome (LastOfLeap c)) text e
 as_leap c f =
     field_as (λ t s. record { value = _; spelled = leap_to c s.value t s.spelled }) (λ t s. to_leap c s.value t s.spelled) f
 
-pub leap_first : (c : ℕ) (text : List ℕ) (e : Fault) → FieldFault 1 (SpellsSome (OneDigit 0 9)) text e
+pub leap_first : (c : ℕ) (text : List ℕ) (e : Unexpected) → FieldFault 1 (SpellsSome (OneDigit 0 9)) text e
     → FieldFault 2 (SpellsSome (LastOfLeap c)) text e
 leap_first c text e f = as_leap c (field_first 1 (leap_goes_on c) f)
 
-pub leap_after : (c t : ℕ) (text rest : List ℕ) (e : Fault) → Front (OneDigit 0 9 t) text rest
+pub leap_after : (c t : ℕ) (text rest : List ℕ) (e : Unexpected) → Front (OneDigit 0 9 t) text rest
     → FieldFault 1 (SpellsSome (FourthDigit (first_fourth c t) (last_fourth t))) rest e
     → FieldFault 2 (SpellsSome (LastOfLeap c)) text e
 leap_after c t text rest e p f = as_leap c (field_after (reads_one 0 9) t p f)
@@ -161,13 +161,13 @@ pub year_of_two : (day place c n : ℕ) (text : List ℕ) → day ≤ days_in_mo
     → Two 0 99 n text → LastOfYear day place c n text
 year_of_two day place c n text h k s = (s, each_year _ day place h k)
 
-pub last_by_leap : (day place c : ℕ) {text : List ℕ} {e : Fault} → day ≡ 29 → place ≡ 1
+pub last_by_leap : (day place c : ℕ) {text : List ℕ} {e : Unexpected} → day ≡ 29 → place ≡ 1
     → FieldFault 2 (SpellsSome (LastOfLeap c)) text e → FieldFault 2 (SpellsSome (LastOfYear day place c)) text e
 last_by_leap day place c h k f =
     field_as (λ t s. record { value = s.value; spelled = year_of_leap day place c s.value t h k s.spelled })
     (λ t s. record { value = s.value; spelled = leap_of_year day place c s.value t h k s.spelled }) f
 
-pub last_by_two : (day place c : ℕ) {text : List ℕ} {e : Fault} → day ≤ days_in_month true (place + 1) → (day ≡ 29 → place ≡ 1 → ⊥)
+pub last_by_two : (day place c : ℕ) {text : List ℕ} {e : Unexpected} → day ≤ days_in_month true (place + 1) → (day ≡ 29 → place ≡ 1 → ⊥)
     → FieldFault 2 (SpellsSome (Two 0 99)) text e → FieldFault 2 (SpellsSome (LastOfYear day place c)) text e
 last_by_two day place c h k f =
     field_as (λ t s. record { value = s.value; spelled = year_of_two day place c s.value t h k s.spelled })
@@ -234,17 +234,17 @@ to_year day place y text s =
 year_goes_on : (day place : ℕ) → day ≤ days_in_month true (place + 1) → CanGoOn 3 (TwoAfter 32 19 99) (λ c. LastOfYear day place c)
 year_goes_on day place h = goes (reads_two_after 32 19 99) (λ c front s. begins_last day place c h)
 
-as_year : (day place : ℕ) {text : List ℕ} {e : Fault} → FieldFault 5 (SpellsSome (YearParts day place)) text e
+as_year : (day place : ℕ) {text : List ℕ} {e : Unexpected} → FieldFault 5 (SpellsSome (YearParts day place)) text e
     → FieldFault 5 (SpellsSome (YearAfter day place)) text e
 as_year day place f =
     field_as (λ t s. record { value = _; spelled = year_to day place s.value t s.spelled })
     (λ t s. to_year day place s.value t s.spelled) f
 
-pub year_first : (day place : ℕ) (text : List ℕ) (e : Fault) → day ≤ days_in_month true (place + 1)
+pub year_first : (day place : ℕ) (text : List ℕ) (e : Unexpected) → day ≤ days_in_month true (place + 1)
     → FieldFault 3 (SpellsSome (TwoAfter 32 19 99)) text e → FieldFault 5 (SpellsSome (YearAfter day place)) text e
 year_first day place text e h f = as_year day place (field_first 2 (year_goes_on day place h) f)
 
-pub year_last : (day place c : ℕ) (text rest : List ℕ) (e : Fault) → Front (TwoAfter 32 19 99 c) text rest
+pub year_last : (day place c : ℕ) (text rest : List ℕ) (e : Unexpected) → Front (TwoAfter 32 19 99 c) text rest
     → FieldFault 2 (SpellsSome (LastOfYear day place c)) rest e → FieldFault 5 (SpellsSome (YearAfter day place)) text e
 year_last day place c text rest e p f = as_year day place (field_after (reads_two_after 32 19 99) c p f)
 
@@ -286,20 +286,20 @@ day_goes_on = goes reads_day (λ day front s. begins_first (month_goes_on day) (
 named_goes_on : CanGoOn 3 (NameOf names.Weekday) (λ _. DateAfter)
 named_goes_on = goes (reads_name_of names.Weekday) (λ w front s. begins_first day_goes_on begins_day)
 
-pub named_weekday : (text : List ℕ) (e : Fault) → FieldFault 3 (SpellsSome (NameOf names.Weekday)) text e
+pub named_weekday : (text : List ℕ) (e : Unexpected) → FieldFault 3 (SpellsSome (NameOf names.Weekday)) text e
     → FieldFault 16 (SpellsSome NamedParts) text e
 named_weekday text e f = field_first 13 named_goes_on f
 
-pub named_day : (w : ℕ) (text rest : List ℕ) (e : Fault) → Front (NameOf names.Weekday w) text rest
+pub named_day : (w : ℕ) (text rest : List ℕ) (e : Unexpected) → Front (NameOf names.Weekday w) text rest
     → FieldFault 4 (SpellsSome DayAfter) rest e → FieldFault 16 (SpellsSome NamedParts) text e
 named_day w text rest e p f = field_after {Q = λ _. DateAfter} (reads_name_of names.Weekday) w p (field_first 9 day_goes_on f)
 
-pub named_month : (w day : ℕ) (text rest last : List ℕ) (e : Fault) → Front (NameOf names.Weekday w) text rest
+pub named_month : (w day : ℕ) (text rest last : List ℕ) (e : Unexpected) → Front (NameOf names.Weekday w) text rest
     → Front (DayAfter day) rest last → FieldFault 4 (SpellsSome (MonthAfter day)) last e → FieldFault 16 (SpellsSome NamedParts) text e
 named_month w day text rest last e p q f =
     field_after {Q = λ _. DateAfter} (reads_name_of names.Weekday) w p (field_after reads_day day q (field_first 5 (month_goes_on day) f))
 
-pub named_year : (w day place : ℕ) (text rest last end : List ℕ) (e : Fault) → Front (NameOf names.Weekday w) text rest
+pub named_year : (w day place : ℕ) (text rest last end : List ℕ) (e : Unexpected) → Front (NameOf names.Weekday w) text rest
     → Front (DayAfter day) rest last → Front (MonthAfter day place) last end → FieldFault 5 (SpellsSome (YearAfter day place)) end e
     → FieldFault 16 (SpellsSome NamedParts) text e
 named_year w day place text rest last end e p q r f =
@@ -336,7 +336,7 @@ next_sign : (b : ℕ) → (b ≡ 43) ⊎ (b ≡ 45) → Begins (SpellsSome Sign)
 next_sign b (inl e) = record { more = []; whole = record { value = false; spelled = ap (λ (x : ℕ). x ∷ []) e } }
 next_sign b (inr e) = record { more = []; whole = record { value = true; spelled = ap (λ (x : ℕ). x ∷ []) e } }
 
-pub sign_fault : (text : List ℕ) (e : Fault) → e.expected ≡ expected.Sign → length text ≡ e.left
+pub sign_fault : (text : List ℕ) (e : Unexpected) → e.expected ≡ expected.Sign → length text ≡ e.left
     → ((b : ℕ) (after : List ℕ) → text ≡ b ∷ after → (b ≡ 43) ⊎ (b ≡ 45) → ⊥) → FieldFault 1 (SpellsSome Sign) text e
 sign_fault text e same left none = record {
   right = [];
@@ -369,14 +369,14 @@ reads_zone = reads_seq reads_sign_after (λ b. reads_seq (reads_two 0 25) (λ h.
 pub begins_zone : Begins (SpellsSome ZoneAfter) []
 begins_zone = begins_first zone_goes_on begins_sign_after
 
-pub zone_sign : (text : List ℕ) (e : Fault) → FieldFault 2 (SpellsSome SignAfter) text e → FieldFault 6 (SpellsSome ZoneAfter) text e
+pub zone_sign : (text : List ℕ) (e : Unexpected) → FieldFault 2 (SpellsSome SignAfter) text e → FieldFault 6 (SpellsSome ZoneAfter) text e
 zone_sign text e f = field_first 4 zone_goes_on f
 
-pub zone_hour : (b : Bool) (text rest : List ℕ) (e : Fault) → Front (SignAfter b) text rest
+pub zone_hour : (b : Bool) (text rest : List ℕ) (e : Unexpected) → Front (SignAfter b) text rest
     → FieldFault 2 (SpellsSome (Two 0 25)) rest e → FieldFault 6 (SpellsSome ZoneAfter) text e
 zone_hour b text rest e p f = field_after reads_sign_after b p (field_first 2 (hours_go_on b) f)
 
-pub zone_minute : (b : Bool) (h : ℕ) (text rest last : List ℕ) (e : Fault) → Front (SignAfter b) text rest → Front (Two 0 25 h) rest last
+pub zone_minute : (b : Bool) (h : ℕ) (text rest last : List ℕ) (e : Unexpected) → Front (SignAfter b) text rest → Front (Two 0 25 h) rest last
     → FieldFault 2 (SpellsSome (Two (least_minute b h) 59)) last e → FieldFault 6 (SpellsSome ZoneAfter) text e
 zone_minute b h text rest last e p q f = field_after reads_sign_after b p (field_after (reads_two 0 25) h q f)
 

@@ -21,7 +21,7 @@ use Rattle.time_read.specs.Front.{Front, FieldFault, TextFault}
 use Rattle.time_read.specs.Mail.{ClockAfter, DateAfter, HoursMinutes, MailParts, MailText, NamedParts, Numbers}
 use Rattle.time_read.specs.Mail.{IsOtherWeekday, SpellsButWeekday, TimeAfter, ZoneAfter, mail_value}
 use Rattle.time_read.specs.Shapes.{Clock, least_minute, month_days, IsTrailing}
-use Rattle.time_read.specs.declared.fault.Fault.{Fault}
+use Rattle.time_read.specs.declared.fault.Unexpected.{Unexpected}
 use Rattle.time_read.specs.declared.fault.NotRead.{NotRead}
 use Rattle.time_read.specs.declared.fault.Expected.TheVariants as expected
 use Rattle.time_read.proofs.Fields.{CanGoOn, begins_first, text_as, text_first, text_after, text_of_field, front_then}
@@ -263,7 +263,7 @@ to_whole v text f =
       };
     }
 
-as_mail : {text : List ℕ} {e : Fault} → TextFault (SpellsSome MailParts) text e → TextFault (SpellsSome SpellsButWeekday) text e
+as_mail : {text : List ℕ} {e : Unexpected} → TextFault (SpellsSome MailParts) text e → TextFault (SpellsSome SpellsButWeekday) text e
 as_mail f =
     text_as (λ t s. record { value = _; spelled = whole_to s.value t s.spelled }) (λ t s. to_whole s.value t s.spelled) f
 
@@ -273,15 +273,15 @@ clock_goes_on = goes reads_clock_after (λ c front s. begins_zone)
 named_goes_on : CanGoOn 16 NamedParts (λ _. TimeAfter)
 named_goes_on = goes reads_named (λ d front s. begins_first clock_goes_on begins_clock_after)
 
-pub whole_named : (text : List ℕ) (e : Fault) → FieldFault 16 (SpellsSome NamedParts) text e
+pub whole_named : (text : List ℕ) (e : Unexpected) → FieldFault 16 (SpellsSome NamedParts) text e
     → TextFault (SpellsSome SpellsButWeekday) text e
 whole_named text e f = as_mail (text_first named_goes_on f)
 
-pub whole_clock : (d : ℕ × (ℕ × (ℕ × ℕ))) (text rest : List ℕ) (e : Fault) → Front (NamedParts d) text rest
+pub whole_clock : (d : ℕ × (ℕ × (ℕ × ℕ))) (text rest : List ℕ) (e : Unexpected) → Front (NamedParts d) text rest
     → FieldFault 9 (SpellsSome ClockAfter) rest e → TextFault (SpellsSome SpellsButWeekday) text e
 whole_clock d text rest e p f = as_mail (text_after {Q = λ _. TimeAfter} reads_named d p (text_first clock_goes_on f))
 
-pub whole_zone : (d : ℕ × (ℕ × (ℕ × ℕ))) (c : Clock) (text rest last : List ℕ) (e : Fault) → Front (NamedParts d) text rest
+pub whole_zone : (d : ℕ × (ℕ × (ℕ × ℕ))) (c : Clock) (text rest last : List ℕ) (e : Unexpected) → Front (NamedParts d) text rest
     → Front (ClockAfter c) rest last → FieldFault 6 (SpellsSome ZoneAfter) last e → TextFault (SpellsSome SpellsButWeekday) text e
 whole_zone d c text rest last e p q f =
     as_mail (text_after {Q = λ _. TimeAfter} reads_named d p (text_after {Q = λ _. ZoneAfter} reads_clock_after c q (text_of_field reads_zone.width f)))
@@ -291,7 +291,7 @@ mail_front : (d : ℕ × (ℕ × (ℕ × ℕ))) (c : Clock) (z : Bool × (ℕ ×
 mail_front d c z text rest last end p q r =
     front_then {Q = λ _. TimeAfter} d (c, z) p (front_then {Q = λ _. ZoneAfter} c z q r)
 
-pub whole_end : (d : ℕ × (ℕ × (ℕ × ℕ))) (c : Clock) (z : Bool × (ℕ × ℕ)) (text rest last end : List ℕ) (e : Fault)
+pub whole_end : (d : ℕ × (ℕ × (ℕ × ℕ))) (c : Clock) (z : Bool × (ℕ × ℕ)) (text rest last end : List ℕ) (e : Unexpected)
     → Front (NamedParts d) text rest → Front (ClockAfter c) rest last → Front (ZoneAfter z) last end → IsTrailing end e
     → TextFault (SpellsSome SpellsButWeekday) text e
 whole_end d c z text rest last end e p q r t =

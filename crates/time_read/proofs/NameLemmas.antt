@@ -9,7 +9,7 @@ use Rattle.time_read.specs.Fault.{SpellsSome, Begins, IsFirstFault}
 use Rattle.time_read.specs.Front.{Front, FieldFault, NoFront}
 use Rattle.time_read.specs.Keys.{month_by}
 use Rattle.time_read.specs.Names.{HasDay, IsSome, NameOf, list_of}
-use Rattle.time_read.specs.declared.fault.Fault.{Fault}
+use Rattle.time_read.specs.declared.fault.Unexpected.{Unexpected}
 use Rattle.time_read.specs.declared.fault.Names.{Names}
 use Rattle.time_read.specs.declared.fault.Names.TheVariants as names
 use Rattle.time_read.specs.declared.fault.Expected.TheVariants as expected
@@ -52,7 +52,7 @@ one_begins n begun k h day e =
 -- ---- the place of a fault
 
 -- the first letter is of no name
-pub name_zero : (n : Names) (text : List ℕ) (e : Fault) → IsSome n → e.expected ≡ expected.Name n 0 0 0 → length text ≡ e.left
+pub name_zero : (n : Names) (text : List ℕ) (e : Unexpected) → IsSome n → e.expected ≡ expected.Name n 0 0 0 → length text ≡ e.left
     → (1 ≤ length text → Begins (SpellsSome (NameOf n)) (take 1 text) → ⊥) → FieldFault 3 (SpellsSome (NameOf n)) text e
 name_zero n text e some same left none = record {
   right = [];
@@ -77,7 +77,7 @@ three_is n a b c after none g = at g.more g.whole.value g.whole.spelled where
   at (d ∷ ds) k s = omega (arith, ((reads_name_of n).width k).width _ s)
 
 -- the third
-pub name_two : (n : Names) (text : List ℕ) (e : Fault) → 2 ≤ length text → Begins (SpellsSome (NameOf n)) (take 2 text)
+pub name_two : (n : Names) (text : List ℕ) (e : Unexpected) → 2 ≤ length text → Begins (SpellsSome (NameOf n)) (take 2 text)
     → e.expected ≡ expected.Name n 2 (get_or text 0 0) (get_or text 1 0) → length text - 2 ≡ e.left
     → NoFront (NameOf n) text → FieldFault 3 (SpellsSome (NameOf n)) text e
 name_two n [] e long begun same left none = absurd (omega arith)

@@ -15,7 +15,7 @@ use Rattle.time_read.specs.Profiles.{TheLetter}
 use Rattle.time_read.specs.Shapes.{Seq, TheByte, OneDigit, Two, TwoAfter, TensAndUnits, first_unit, last_unit}
 use Rattle.time_read.proofs.Fields.{CanGoOn, begins_first, begins_after, field_as, field_first, field_after, front_as, front_then, one_front}
 use Rattle.time_read.proofs.Regroup.{parts_of, seq_of}
-use Rattle.time_read.specs.declared.fault.Fault.{Fault}
+use Rattle.time_read.specs.declared.fault.Unexpected.{Unexpected}
 use Rattle.time_read.specs.declared.fault.Profile.{Profile}
 use Rattle.time_read.specs.declared.fault.Profile.TheVariants as profile
 use Rattle.time_read.specs.declared.fault.Expected.TheVariants as expected
@@ -138,13 +138,13 @@ tens_go_on least greatest h = record {
 abbrev IsPair : ℕ → ℕ → Type 0
 IsPair least greatest = (least ≤ greatest) × (greatest < 100)
 
-pub two_first : (least greatest : ℕ) (text : List ℕ) (e : Fault) → IsPair least greatest
+pub two_first : (least greatest : ℕ) (text : List ℕ) (e : Unexpected) → IsPair least greatest
     → FieldFault 1 (SpellsSome (OneDigit (least / 10) (greatest / 10))) text e → FieldFault 2 (SpellsSome (Two least greatest)) text e
 two_first least greatest text e h f =
     field_as (λ t s. record { value = _; spelled = tens_to least greatest s.value t h.1 s.spelled })
     (λ t s. to_tens least greatest s.value t s.spelled) (field_first 1 (tens_go_on least greatest h.0) f)
 
-pub two_after : (least greatest tens : ℕ) (text rest : List ℕ) (e : Fault) → IsPair least greatest
+pub two_after : (least greatest tens : ℕ) (text rest : List ℕ) (e : Unexpected) → IsPair least greatest
     → Front (OneDigit (least / 10) (greatest / 10) tens) text rest
     → FieldFault 1 (SpellsSome (OneDigit (first_unit least tens) (last_unit greatest tens))) rest e
     → FieldFault 2 (SpellsSome (Two least greatest)) text e
@@ -228,11 +228,11 @@ begins_byte P b h =
     let g = begins_after {P = TheByte b} {Q = λ u. P} tt (b ∷ []) [] refl h in
     record { more = b ∷ g.more; whole = to_after P b (b ∷ g.more) g.whole }
 
-pub byte_then_first : {A : Type 0} (k : ℕ) (P : A → Rule) (b : ℕ) {text : List ℕ} {e : Fault} → Begins (SpellsSome P) []
+pub byte_then_first : {A : Type 0} (k : ℕ) (P : A → Rule) (b : ℕ) {text : List ℕ} {e : Unexpected} → Begins (SpellsSome P) []
     → FieldFault 1 (SpellsSome (TheByte b)) text e → FieldFault (1 + k) (SpellsSome (After b P)) text e
 byte_then_first k P b h f = field_as (to_after P b) (after_to P b) (field_first k (byte_goes_on P b h) f)
 
-pub byte_then_after : {A : Type 0} {k : ℕ} (P : A → Rule) (b : ℕ) {text rest : List ℕ} {e : Fault} → text ≡ b ∷ rest
+pub byte_then_after : {A : Type 0} {k : ℕ} (P : A → Rule) (b : ℕ) {text rest : List ℕ} {e : Unexpected} → text ≡ b ∷ rest
     → FieldFault k (SpellsSome P) rest e → FieldFault (1 + k) (SpellsSome (After b P)) text e
 byte_then_after P b {text} {rest} h f =
     field_as (to_after P b) (after_to P b) (field_after (reads_byte b) tt (byte_front b text rest h) f)
@@ -271,7 +271,7 @@ begins_letter p l = record {
 }
 
 -- the letter is not there
-pub letter_fault : (p : Profile) (l : ℕ) (text : List ℕ) (e : Fault) → e.expected ≡ expected.Letter l p
+pub letter_fault : (p : Profile) (l : ℕ) (text : List ℕ) (e : Unexpected) → e.expected ≡ expected.Letter l p
     → length text ≡ e.left → ((b : ℕ) (after : List ℕ) → text ≡ b ∷ after → ¬ IsLetter p l b)
     → FieldFault 1 (SpellsSome (TheLetter p l)) text e
 letter_fault p l text e same left none = record {
@@ -291,7 +291,7 @@ letter_fault p l text e same left none = record {
 }
 
 -- no digit from the first to the last is there
-pub digit_fault : (first last : ℕ) (text : List ℕ) (e : Fault) → first ≤ last → e.expected ≡ expected.Digit first last
+pub digit_fault : (first last : ℕ) (text : List ℕ) (e : Unexpected) → first ≤ last → e.expected ≡ expected.Digit first last
     → length text ≡ e.left → ((b : ℕ) (after : List ℕ) → text ≡ b ∷ after → ¬ IsInRange (48 + first) (48 + last) b)
     → FieldFault 1 (SpellsSome (OneDigit first last)) text e
 digit_fault first last text e h same left none = record {
@@ -384,13 +384,13 @@ four_to n (a ∷ b ∷ c ∷ x ∷ y ∷ ys) d = absurd (omega (arith, d.count))
 four_goes_on : CanGoOn 2 (Two 0 99) (λ _. Two 0 99)
 four_goes_on = record { width = (reads_two 0 99).width; on = λ n front d. begins_two 0 99 (omega arith, omega arith) }
 
-pub four_first : (text : List ℕ) (e : Fault) → FieldFault 2 (SpellsSome (Two 0 99)) text e
+pub four_first : (text : List ℕ) (e : Unexpected) → FieldFault 2 (SpellsSome (Two 0 99)) text e
     → FieldFault 4 (SpellsSome (Digits 4)) text e
 four_first text e f =
     field_as (λ t s. record { value = _; spelled = to_four s.value t s.spelled }) (λ t s. four_to s.value t s.spelled)
     (field_first 2 four_goes_on f)
 
-pub four_after : (n : ℕ) (text rest : List ℕ) (e : Fault) → Front (Two 0 99 n) text rest
+pub four_after : (n : ℕ) (text rest : List ℕ) (e : Unexpected) → Front (Two 0 99 n) text rest
     → FieldFault 2 (SpellsSome (Two 0 99)) rest e → FieldFault 4 (SpellsSome (Digits 4)) text e
 four_after n text rest e p f =
     field_as (λ t s. record { value = _; spelled = to_four s.value t s.spelled }) (λ t s. four_to s.value t s.spelled)

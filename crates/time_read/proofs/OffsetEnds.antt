@@ -17,7 +17,7 @@ use Rattle.time_read.specs.Lenient.{MeansOffset, IsOffsetFor}
 use Rattle.time_read.specs.Profiles.{EndOffset, RestOfOffset}
 use Rattle.time_read.specs.Front.{Front, FieldFault, TextFault}
 use Rattle.time_read.specs.Shapes.{Two, TwoAfter, HoursAndMinutes, is_some, least_minute, sign_byte, IsTrailing}
-use Rattle.time_read.specs.declared.fault.Fault.{Fault}
+use Rattle.time_read.specs.declared.fault.Unexpected.{Unexpected}
 use Rattle.time_read.specs.declared.fault.Profile.{Profile}
 use Rattle.time_read.specs.declared.fault.Profile.TheVariants as profile
 use Rattle.time_read.proofs.Fields.{CanGoOn, begins_first, field_first, field_after, front_then, text_as, text_of_field}
@@ -27,7 +27,7 @@ use Rattle.time_read.proofs.Regroup.{both_as, rest_as, parts_of, seq_of}
 -- ---- the end of a text
 
 -- a text of the rule with bytes after it
-pub text_end : {A : Type 0} {k : ℕ} (P : A → Rule) → ((a : A) → HasWidth k (P a)) → (a : A) {text rest : List ℕ} {e : Fault}
+pub text_end : {A : Type 0} {k : ℕ} (P : A → Rule) → ((a : A) → HasWidth k (P a)) → (a : A) {text rest : List ℕ} {e : Unexpected}
     → Front (P a) text rest → IsTrailing rest e → TextFault (SpellsSome P) text e
 text_end P width a {text} {rest} p t = record {
   right = p.front;
@@ -64,7 +64,7 @@ text_whole {P} {text} {rest} p e =
     subst P (sym (append-nil p.front) ∙ ap (λ t. p.front ++ t) (sym e) ∙ sym p.whole) p.is
 
 -- the empty text with bytes after it
-pub nothing_end : (text : List ℕ) (e : Fault) → IsTrailing text e → TextFault (Literal []) text e
+pub nothing_end : (text : List ℕ) (e : Unexpected) → IsTrailing text e → TextFault (Literal []) text e
 nothing_end text e t = record {
   right = [];
   rest = text;
@@ -206,11 +206,11 @@ width_hours b p = record {
   );
 }
 
-pub hours_first : (b : Bool) (text : List ℕ) (e : Fault) → FieldFault 2 (SpellsSome (Two 0 23)) text e
+pub hours_first : (b : Bool) (text : List ℕ) (e : Unexpected) → FieldFault 2 (SpellsSome (Two 0 23)) text e
     → FieldFault 5 (SpellsSome (HoursAndMinutes b)) text e
 hours_first b text e f = field_first 3 (hours_go_on b) f
 
-pub hours_minute : (b : Bool) (h : ℕ) (text rest : List ℕ) (e : Fault) → Front (Two 0 23 h) text rest
+pub hours_minute : (b : Bool) (h : ℕ) (text rest : List ℕ) (e : Unexpected) → Front (Two 0 23 h) text rest
     → FieldFault 3 (SpellsSome (TwoAfter 58 (least_minute b h) 59)) rest e
     → FieldFault 5 (SpellsSome (HoursAndMinutes b)) text e
 hours_minute b h text rest e p f = field_after (reads_two 0 23) h p f
@@ -321,13 +321,13 @@ by_z profile.Lenient b text h s = at s.spelled.stands where
   at (inr (inl e)) = ap (drop 1) e.0
   at (inr (inr e)) = absurd (not_minus h (ap (λ t. get_or t 0 0) e.0))
 
-as_offset : (p : Profile) (b : Bool) {text : List ℕ} {e : Fault} → TextFault (SpellsSome (HoursAndMinutes (is_some p b))) text e
+as_offset : (p : Profile) (b : Bool) {text : List ℕ} {e : Unexpected} → TextFault (SpellsSome (HoursAndMinutes (is_some p b))) text e
     → TextFault (RestOfOffset p (sign_byte b)) text e
 as_offset p b f =
     text_as (λ t s. record { value = _; spelled = offset_by p b s.value t s.spelled })
     (λ t s. by_offset p b s.value t s.spelled) f
 
-pub offset_z_end : (p : Profile) (text : List ℕ) (e : Fault) → IsTrailing text e → (b : ℕ) → IsLetter p 90 b
+pub offset_z_end : (p : Profile) (text : List ℕ) (e : Unexpected) → IsTrailing text e → (b : ℕ) → IsLetter p 90 b
     → TextFault (RestOfOffset p b) text e
 offset_z_end p text e t b h =
     text_as (λ x s. record { value = utc; spelled = z_by p b x h s }) (λ x s. by_z p b x h s) (nothing_end text e t)
@@ -335,11 +335,11 @@ offset_z_end p text e t b h =
 pub offset_z_is : (p : Profile) (text : List ℕ) → text ≡ [] → (b : ℕ) → IsLetter p 90 b → EndOffset p utc (b ∷ text)
 offset_z_is p text e b h = z_by p b text h e
 
-pub offset_field : (p : Profile) (b : Bool) (text : List ℕ) (e : Fault)
+pub offset_field : (p : Profile) (b : Bool) (text : List ℕ) (e : Unexpected)
     → FieldFault 5 (SpellsSome (HoursAndMinutes (is_some p b))) text e → TextFault (RestOfOffset p (sign_byte b)) text e
 offset_field p b text e f = as_offset p b (text_of_field (width_hours (is_some p b)) f)
 
-pub offset_end : (p : Profile) (b : Bool) (q : ℕ × ℕ) (text rest : List ℕ) (e : Fault)
+pub offset_end : (p : Profile) (b : Bool) (q : ℕ × ℕ) (text rest : List ℕ) (e : Unexpected)
     → Front (HoursAndMinutes (is_some p b) q) text rest → IsTrailing rest e → TextFault (RestOfOffset p (sign_byte b)) text e
 offset_end p b q text rest e h t = as_offset p b (text_end (HoursAndMinutes (is_some p b)) (width_hours (is_some p b)) q h t)
 

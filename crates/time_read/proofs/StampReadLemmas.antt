@@ -27,7 +27,7 @@ use Rattle.time_read.specs.Front.{Front, FieldFault, TextFault}
 use Rattle.time_read.specs.Profiles.{in_utc}
 use Rattle.time_read.specs.Shapes.{Clock, FirstDigits, IsTrailing, OfClock, TheByte}
 use Rattle.time_read.specs.Stamp.{AfterDate, ClockAndNine, IsStamp, NineAfter, NineAndZ, StampNumbers, StampParts, stamp_value}
-use Rattle.time_read.specs.declared.fault.Fault.{Fault}
+use Rattle.time_read.specs.declared.fault.Unexpected.{Unexpected}
 use Rattle.time_read.specs.declared.fault.Expected.TheVariants as expected
 use Rattle.time_read.proofs.Fields.{CanGoOn, begins_first, text_as, text_first, text_after, text_of_field, front_then}
 use Rattle.time_read.proofs.IsoLemmas.{Nine, date_as, in_parts, stamp_is_rfc}
@@ -66,7 +66,7 @@ one_more ds b h k few =
     let d : digit_value b < 10 = omega (arith, digit_value_digit b k, k.1) in
     begins_nine (ds ++ b ∷ []) (digits_join ds (b ∷ []) h (d, tt)) (omega (arith, length-append ds (b ∷ [])))
 
-pub nine_fault : (text : List ℕ) (count : ℕ) (e : Fault) → FirstDigits text count → count < 9 → e.expected ≡ expected.Digit 0 9
+pub nine_fault : (text : List ℕ) (count : ℕ) (e : Unexpected) → FirstDigits text count → count < 9 → e.expected ≡ expected.Digit 0 9
     → length text - count ≡ e.left → FieldFault 9 (SpellsSome (Digits 9)) text e
 nine_fault text count e f few same left =
     let long = length-take-le count text f.within in
@@ -186,36 +186,36 @@ parts_to p text s =
       is = sym (ap (λ (o : Outcome). o.bytes) r.1);
     }
 
-as_stamp : {text : List ℕ} {e : Fault} → TextFault (SpellsSome StampParts) text e → TextFault (SpellsSome IsStamp) text e
+as_stamp : {text : List ℕ} {e : Unexpected} → TextFault (SpellsSome StampParts) text e → TextFault (SpellsSome IsStamp) text e
 as_stamp f =
     text_as (λ t s. record { value = _; spelled = parts_to s.value t s.spelled }) (λ t s. to_parts s.value t s.spelled) f
 
-pub stamp_date : (text : List ℕ) (e : Fault) → FieldFault 10 (SpellsSome FullDate) text e → TextFault (SpellsSome IsStamp) text e
+pub stamp_date : (text : List ℕ) (e : Unexpected) → FieldFault 10 (SpellsSome FullDate) text e → TextFault (SpellsSome IsStamp) text e
 stamp_date text e f = as_stamp (text_first date_goes_on f)
 
 the_byte : (b : ℕ) (text rest : List ℕ) → text ≡ b ∷ rest → Front (TheByte b tt) text rest
 the_byte b text rest h = record { front = b ∷ []; whole = h; is = refl }
 
-pub stamp_letter : (d : OrdinalDate) (text rest : List ℕ) (e : Fault) → Front (FullDate d) text rest
+pub stamp_letter : (d : OrdinalDate) (text rest : List ℕ) (e : Unexpected) → Front (FullDate d) text rest
     → FieldFault 1 (SpellsSome (TheByte 84)) rest e → TextFault (SpellsSome IsStamp) text e
 stamp_letter d text rest e p f = as_stamp (text_after {Q = λ _. AfterDate} reads_full_date d p (text_first letter_goes_on f))
 
-after_letter : (d : OrdinalDate) {text rest last : List ℕ} {e : Fault} → Front (FullDate d) text rest → rest ≡ 84 ∷ last
+after_letter : (d : OrdinalDate) {text rest last : List ℕ} {e : Unexpected} → Front (FullDate d) text rest → rest ≡ 84 ∷ last
     → TextFault (SpellsSome ClockAndNine) last e → TextFault (SpellsSome IsStamp) text e
 after_letter d {text} {rest} {last} p h f =
     as_stamp (text_after {Q = λ _. AfterDate} reads_full_date d p
     (text_after {Q = λ _. ClockAndNine} (reads_byte 84) tt (the_byte 84 rest last h) f))
 
-pub stamp_clock : (d : OrdinalDate) (text rest last : List ℕ) (e : Fault) → Front (FullDate d) text rest → rest ≡ 84 ∷ last
+pub stamp_clock : (d : OrdinalDate) (text rest last : List ℕ) (e : Unexpected) → Front (FullDate d) text rest → rest ≡ 84 ∷ last
     → FieldFault 8 (SpellsSome OfClock) last e → TextFault (SpellsSome IsStamp) text e
 stamp_clock d text rest last e p h f = after_letter d p h (text_first clock_goes_on f)
 
-pub stamp_nine : (d : OrdinalDate) (c : Clock) (text rest last end : List ℕ) (e : Fault) → Front (FullDate d) text rest → rest ≡ 84 ∷ last
+pub stamp_nine : (d : OrdinalDate) (c : Clock) (text rest last end : List ℕ) (e : Unexpected) → Front (FullDate d) text rest → rest ≡ 84 ∷ last
     → Front (OfClock c) last end → FieldFault 10 (SpellsSome NineAfter) end e → TextFault (SpellsSome IsStamp) text e
 stamp_nine d c text rest last end e p h q f =
     after_letter d p h (text_after {Q = λ _. NineAndZ} reads_clock c q (text_first nine_goes_on f))
 
-pub stamp_zed : (d : OrdinalDate) (c : Clock) (n : ℕ) (text rest last end stop : List ℕ) (e : Fault) → Front (FullDate d) text rest
+pub stamp_zed : (d : OrdinalDate) (c : Clock) (n : ℕ) (text rest last end stop : List ℕ) (e : Unexpected) → Front (FullDate d) text rest
     → rest ≡ 84 ∷ last → Front (OfClock c) last end → Front (NineAfter n) end stop → FieldFault 1 (SpellsSome (TheByte 90)) stop e
     → TextFault (SpellsSome IsStamp) text e
 stamp_zed d c n text rest last end stop e p h q r f =
@@ -230,7 +230,7 @@ stamp_front d c n text rest last end stop over p h q r z =
     (front_then {Q = λ _. ClockAndNine} tt (c, (n, tt)) (the_byte 84 rest last h)
     (front_then {Q = λ _. NineAndZ} c (n, tt) q (front_then {Q = λ _. TheByte 90} n tt r (the_byte 90 stop over z))))
 
-pub stamp_end : (d : OrdinalDate) (c : Clock) (n : ℕ) (text rest last end stop over : List ℕ) (e : Fault) → Front (FullDate d) text rest
+pub stamp_end : (d : OrdinalDate) (c : Clock) (n : ℕ) (text rest last end stop over : List ℕ) (e : Unexpected) → Front (FullDate d) text rest
     → rest ≡ 84 ∷ last → Front (OfClock c) last end → Front (NineAfter n) end stop → stop ≡ 90 ∷ over → IsTrailing over e
     → TextFault (SpellsSome IsStamp) text e
 stamp_end d c n text rest last end stop over e p h q r z t =

@@ -20,7 +20,7 @@ use Rattle.time_read.specs.Profiles.{Secfrac, EndOffset, Tail, RestOfOffset, The
 use Rattle.time_read.specs.Shapes.{sign_byte, AtFraction}
 use Rattle.time_read.specs.declared.fault.Expected.{Expected}
 use Rattle.time_read.specs.declared.fault.Expected.TheVariants as expected
-use Rattle.time_read.specs.declared.fault.Fault.{Fault}
+use Rattle.time_read.specs.declared.fault.Unexpected.{Unexpected}
 use Rattle.time_read.proofs.Fields.{longer}
 use Rattle.time_read.specs.declared.fault.Profile.{Profile}
 use Rattle.time_read.specs.declared.fault.Profile.TheVariants as profile
@@ -410,7 +410,7 @@ point_needs_digit p s =
             ap length (offset_leads p _ rest o).is,
           )
 
-pub point_fault : (p : Profile) (text rest : List ℕ) (e : Fault) → text ≡ 46 ∷ rest → e.expected ≡ expected.Digit 0 9
+pub point_fault : (p : Profile) (text rest : List ℕ) (e : Unexpected) → text ≡ 46 ∷ rest → e.expected ≡ expected.Digit 0 9
     → length rest ≡ e.left → ((b : ℕ) (after : List ℕ) → rest ≡ b ∷ after → ¬ IsInRange 48 57 b)
     → TextFault (SpellsSome (Tail p)) text e
 point_fault p text rest e h same left none = record {
@@ -456,7 +456,7 @@ tail_cut p n front first rest f h s =
       cut [] u q e = q
       cut (b ∷ bs) u q e = absurd (omega (arith, ap length u, length-append s.spelled.front (b ∷ bs), ap length e))
 
-pub no_lead : (p : Profile) {text : List ℕ} {n : ℕ} {rest : List ℕ} {x : Expected} (e : Fault) → AtFraction p text n rest x
+pub no_lead : (p : Profile) {text : List ℕ} {n : ℕ} {rest : List ℕ} {x : Expected} (e : Unexpected) → AtFraction p text n rest x
     → ((b : ℕ) (after : List ℕ) → rest ≡ b ∷ after → ¬ BeginsOffset p b) → e.expected ≡ x → length rest ≡ e.left
     → TextFault (SpellsSome (Tail p)) text e
 no_lead p {text} {n} {rest} {x} e a none same left = record {
@@ -501,7 +501,7 @@ begins_cut p n front first right f h b = record {
   whole = tail_cut p n front first (right ++ b.more) f h (subst (SpellsSome (Tail p)) (append_assoc front (first ∷ right) b.more) b.whole);
 }
 
-pub tail_after : (p : Profile) {text : List ℕ} {n : ℕ} {rest after : List ℕ} {x : Expected} (first : ℕ) (e : Fault) → AtFraction p text n rest x
+pub tail_after : (p : Profile) {text : List ℕ} {n : ℕ} {rest after : List ℕ} {x : Expected} (first : ℕ) (e : Unexpected) → AtFraction p text n rest x
     → rest ≡ first ∷ after → BeginsOffset p first → TextFault (RestOfOffset p first) after e → TextFault (SpellsSome (Tail p)) text e
 tail_after p {text} {n} {rest} {after} first e a h lead f =
     let whole : text ≡ a.front ++ (first ∷ after) = a.whole ∙ ap (λ t. a.front ++ t) h in

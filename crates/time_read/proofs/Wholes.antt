@@ -14,7 +14,7 @@ use Rattle.time_read.specs.Refused.{IsRefused}
 use Rattle.time_read.specs.Shapes.{Clock, OfClock, OneDigit, Seq}
 use Rattle.time_read.specs.declared.fault.Profile.{Profile}
 use Rattle.time_read.specs.declared.fault.Profile.TheVariants as profile
-use Rattle.time_read.specs.declared.fault.Fault.{Fault}
+use Rattle.time_read.specs.declared.fault.Unexpected.{Unexpected}
 use Rattle.time_read.specs.declared.fault.NotRead.{NotRead}
 use Rattle.time_read.proofs.Fields.{CanGoOn, begins_first, text_as, text_first, text_after}
 use Rattle.time_read.proofs.Numbers.{begins_letter, four_first, reads_letter, two_first}
@@ -95,33 +95,33 @@ date_goes_on p = record {
   on = λ d front s. begins_first (letter_goes_on p) (begins_letter p 84);
 }
 
-as_whole : (p : Profile) {text : List ℕ} {e : Fault} → TextFault (SpellsSome (WholeText p)) text e
+as_whole : (p : Profile) {text : List ℕ} {e : Unexpected} → TextFault (SpellsSome (WholeText p)) text e
     → TextFault (SpellsSome (ReadsAs p)) text e
 as_whole p f =
     text_as (λ t s. record { value = _; spelled = whole_to p s.value t s.spelled })
     (λ t s. to_whole p s.value t (in_parts p s.value t s.spelled)) f
 
-pub whole_date : (p : Profile) (text : List ℕ) (e : Fault) → FieldFault 10 (SpellsSome FullDate) text e
+pub whole_date : (p : Profile) (text : List ℕ) (e : Unexpected) → FieldFault 10 (SpellsSome FullDate) text e
     → TextFault (SpellsSome (ReadsAs p)) text e
 whole_date p text e f = as_whole p (text_first (date_goes_on p) f)
 
-after_date : (p : Profile) (d : OrdinalDate) {text rest : List ℕ} {e : Fault} → Front (FullDate d) text rest
+after_date : (p : Profile) (d : OrdinalDate) {text rest : List ℕ} {e : Unexpected} → Front (FullDate d) text rest
     → TextFault (SpellsSome (AfterT p)) rest e → TextFault (SpellsSome (ReadsAs p)) text e
 after_date p d h f = as_whole p (text_after {Q = λ _. AfterT p} reads_full_date d h f)
 
-pub whole_letter : (p : Profile) (d : OrdinalDate) (text rest : List ℕ) (e : Fault) → Front (FullDate d) text rest
+pub whole_letter : (p : Profile) (d : OrdinalDate) (text rest : List ℕ) (e : Unexpected) → Front (FullDate d) text rest
     → FieldFault 1 (SpellsSome (TheLetter p 84)) rest e → TextFault (SpellsSome (ReadsAs p)) text e
 whole_letter p d text rest e h f = after_date p d h (text_first (letter_goes_on p) f)
 
-after_letter : (p : Profile) (d : OrdinalDate) {text rest last : List ℕ} {e : Fault} → Front (FullDate d) text rest
+after_letter : (p : Profile) (d : OrdinalDate) {text rest last : List ℕ} {e : Unexpected} → Front (FullDate d) text rest
     → Front (TheLetter p 84 tt) rest last → TextFault (SpellsSome (ClockAndTail p)) last e → TextFault (SpellsSome (ReadsAs p)) text e
 after_letter p d h l f = after_date p d h (text_after {Q = λ _. ClockAndTail p} (reads_letter p 84) tt l f)
 
-pub whole_clock : (p : Profile) (d : OrdinalDate) (text rest last : List ℕ) (e : Fault) → Front (FullDate d) text rest
+pub whole_clock : (p : Profile) (d : OrdinalDate) (text rest last : List ℕ) (e : Unexpected) → Front (FullDate d) text rest
     → Front (TheLetter p 84 tt) rest last → FieldFault 8 (SpellsSome OfClock) last e → TextFault (SpellsSome (ReadsAs p)) text e
 whole_clock p d text rest last e h l f = after_letter p d h l (text_first (clock_goes_on p) f)
 
-pub whole_tail : (p : Profile) (d : OrdinalDate) (c : Clock) (text rest last end : List ℕ) (e : Fault) → Front (FullDate d) text rest
+pub whole_tail : (p : Profile) (d : OrdinalDate) (c : Clock) (text rest last end : List ℕ) (e : Unexpected) → Front (FullDate d) text rest
     → Front (TheLetter p 84 tt) rest last → Front (OfClock c) last end → TextFault (SpellsSome (Tail p)) end e
     → TextFault (SpellsSome (ReadsAs p)) text e
 whole_tail p d c text rest last end e h l q f = after_letter p d h l (text_after {Q = λ _. Tail p} reads_clock c q f)
@@ -145,7 +145,7 @@ whole_is p d c n o text rest last end h l q t =
     })
 
 -- the first digit of the year
-pub no_digit : (p : Profile) (text : List ℕ) (e : Fault) → FieldFault 1 (SpellsSome (OneDigit 0 9)) text e
+pub no_digit : (p : Profile) (text : List ℕ) (e : Unexpected) → FieldFault 1 (SpellsSome (OneDigit 0 9)) text e
     → TextFault (SpellsSome (ReadsAs p)) text e
 no_digit p text e f = whole_date p text e (date_first text e (four_first text e (two_first 0 99 text e (omega arith, omega arith) f)))
 
@@ -156,11 +156,11 @@ date_there d front rest h = record { front = front; whole = refl; is = h }
 -- ---- places
 
 -- no more bytes are left than there are
-pub left_within : {P : Rule} (text : List ℕ) (e : Fault) → TextFault P text e → e.left ≤ length text
+pub left_within : {P : Rule} (text : List ℕ) (e : Unexpected) → TextFault P text e → e.left ≤ length text
 left_within text e f = omega (arith, ap length f.whole, length-append f.right f.rest, f.left)
 
 -- the place by the bytes that are left
-pub place_is : (P : Rule) (text : List ℕ) (e : Fault) (at : ℕ) → at ≡ length text - e.left → TextFault P text e
+pub place_is : (P : Rule) (text : List ℕ) (e : Unexpected) (at : ℕ) → at ≡ length text - e.left → TextFault P text e
     → IsFirstFault P (take at text) (drop at text) e.expected
 place_is P text e at h f =
     let n : length f.right ≡ at = omega (arith, ap length f.whole, length-append f.right f.rest, f.left) in
@@ -169,7 +169,7 @@ place_is P text e at h f =
     subst (λ (t : List ℕ). IsFirstFault P t (drop at text) e.expected) right
     (subst (λ (t : List ℕ). IsFirstFault P f.right t e.expected) rest f.first)
 
-pub is_refused : {V : Type 0} (Spells : V → Rule) (seconds : ℕ) (text : List ℕ) (e : Fault) (place : NotRead)
+pub is_refused : {V : Type 0} (Spells : V → Rule) (seconds : ℕ) (text : List ℕ) (e : Unexpected) (place : NotRead)
     → place.at ≡ length text - e.left → place.expected ≡ e.expected → (IsTrue place.is_second_60 ↔ IsSecond60 seconds place.at text)
     → TextFault (SpellsSome Spells) text e → IsRefused Spells seconds text place
 is_refused Spells seconds text e place at expected second_60 f = record {

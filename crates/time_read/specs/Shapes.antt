@@ -11,7 +11,7 @@ use Rattle.time_read.specs.Profiles.{Secfrac, Tail}
 use Rattle.time_read.specs.declared.days.Day.{Day}
 use Rattle.time_read.specs.declared.fault.Expected.{Expected}
 use Rattle.time_read.specs.declared.fault.Expected.TheVariants as expected
-use Rattle.time_read.specs.declared.fault.Fault.{Fault}
+use Rattle.time_read.specs.declared.fault.Unexpected.{Unexpected}
 use Rattle.time_read.specs.declared.fault.Profile.{Profile}
 use Rattle.time_read.specs.declared.fault.Profile.TheVariants as profile
 
@@ -133,7 +133,7 @@ next_after profile.Strict count =
 next_after profile.Lenient count = expected.DigitOrOffset profile.Lenient
 
 -- the text goes on where it should end
-pub record IsTrailing (text : List ℕ) (fault : Fault) : Type 0 where
+pub record IsTrailing (text : List ℕ) (fault : Unexpected) : Type 0 where
   pub expected : fault.expected ≡ expected.End
   pub left : length text ≡ fault.left
   pub some : 0 < length text

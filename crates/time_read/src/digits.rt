@@ -10,7 +10,7 @@ ghost use Rattle.time_read.specs.Front.{Front, FieldFault, NoFront};
 ghost use Rattle.time_read.specs.Profiles.{TheLetter};
 ghost use Rattle.time_read.specs.Shapes.{TheByte, OneDigit, Two, TwoAfter, first_unit, last_unit};
 
-use crate::fault::{Expected, Fault, Profile};
+use crate::fault::{Expected, Profile, Unexpected};
 
 // What follows this byte, if a text begins with it.
 #[inline(always)]
@@ -57,7 +57,7 @@ pub(crate) fn after_letter(text: &[u8], letter: u8, profile: Profile) -> Option<
 
 // Reads this letter.
 #[inline(always)]
-pub(crate) fn letter(text: &[u8], letter: u8, profile: Profile) -> Result<&[u8], Fault>
+pub(crate) fn letter(text: &[u8], letter: u8, profile: Profile) -> Result<&[u8], Unexpected>
     requires { letter ≤ 90 }
     ensures read { IfOk result (λ rest. Front (TheLetter profile letter tt) text.now rest.now) }
     ensures fault { IfErr result (λ e.
@@ -65,7 +65,7 @@ pub(crate) fn letter(text: &[u8], letter: u8, profile: Profile) -> Result<&[u8],
 {
     match after_letter(text, letter, profile) {
         Some(rest) => Ok(rest),
-        None => Err(Fault {
+        None => Err(Unexpected {
             left: text.len(),
             expected: Expected::Letter(letter, profile),
         }),
@@ -74,7 +74,7 @@ pub(crate) fn letter(text: &[u8], letter: u8, profile: Profile) -> Result<&[u8],
 
 // Reads this byte.
 #[inline(always)]
-pub(crate) fn byte(text: &[u8], wanted: u8) -> Result<&[u8], Fault>
+pub(crate) fn byte(text: &[u8], wanted: u8) -> Result<&[u8], Unexpected>
     ensures read { IfOk result (λ rest. text.now ≡ wanted ∷ rest.now) }
     ensures fault { IfErr result (λ e. FieldFault 1 (SpellsSome (TheByte wanted)) text.now e) }
 {
@@ -83,7 +83,7 @@ pub(crate) fn byte(text: &[u8], wanted: u8) -> Result<&[u8], Fault>
             return Ok(rest);
         }
     }
-    Err(Fault {
+    Err(Unexpected {
         left: text.len(),
         expected: Expected::Byte(wanted),
     })
@@ -91,7 +91,7 @@ pub(crate) fn byte(text: &[u8], wanted: u8) -> Result<&[u8], Fault>
 
 // Reads a digit from the first to the last.
 #[inline(always)]
-pub(crate) fn digit(text: &[u8], first: u8, last: u8) -> Result<(u8, &[u8]), Fault>
+pub(crate) fn digit(text: &[u8], first: u8, last: u8) -> Result<(u8, &[u8]), Unexpected>
     requires order { first ≤ last }
     requires digits { last < 10 }
     ensures read { IfOk result (λ r. Front (OneDigit first last r.0) text.now r.1.now) }
@@ -103,7 +103,7 @@ pub(crate) fn digit(text: &[u8], first: u8, last: u8) -> Result<(u8, &[u8]), Fau
             return Ok((*byte - 48, rest));
         }
     }
-    Err(Fault {
+    Err(Unexpected {
         left: text.len(),
         expected: Expected::Digit(first, last),
     })
@@ -166,7 +166,7 @@ pub(crate) fn two_within(text: &[u8], least: u8, greatest: u8) -> Option<(u8, &[
 
 // Reads two digits of a number from the least to the greatest, one after the other.
 #[inline(always)]
-fn digit_by_digit(text: &[u8], least: u8, greatest: u8) -> Result<(u8, &[u8]), Fault>
+fn digit_by_digit(text: &[u8], least: u8, greatest: u8) -> Result<(u8, &[u8]), Unexpected>
     requires order { least ≤ greatest }
     requires pairs { greatest < 100 }
     ensures read { IfOk result (λ r. Front (Two least greatest r.0) text.now r.1.now) }
@@ -182,7 +182,7 @@ fn digit_by_digit(text: &[u8], least: u8, greatest: u8) -> Result<(u8, &[u8]), F
 // functions that read pairs would otherwise be too large to be inlined.
 #[cold]
 #[inline(never)]
-fn pair_fault(text: &[u8], least: u8, greatest: u8) -> Fault
+fn pair_fault(text: &[u8], least: u8, greatest: u8) -> Unexpected
     requires order { least ≤ greatest }
     requires pairs { greatest < 100 }
     requires none { NoFront (Two least greatest) text.now }
@@ -193,7 +193,7 @@ fn pair_fault(text: &[u8], least: u8, greatest: u8) -> Fault
 
 // Reads two digits of a number from the least to the greatest.
 #[inline(always)]
-pub(crate) fn pair(text: &[u8], least: u8, greatest: u8) -> Result<(u8, &[u8]), Fault>
+pub(crate) fn pair(text: &[u8], least: u8, greatest: u8) -> Result<(u8, &[u8]), Unexpected>
     requires order { least ≤ greatest }
     requires pairs { greatest < 100 }
     ensures read { IfOk result (λ r. Front (Two least greatest r.0) text.now r.1.now) }
@@ -228,7 +228,7 @@ fn two_after(text: &[u8], before: u8, least: u8, greatest: u8) -> Option<(u8, &[
 // as above.
 #[cold]
 #[inline(never)]
-fn pair_after_fault(text: &[u8], before: u8, least: u8, greatest: u8) -> Fault
+fn pair_after_fault(text: &[u8], before: u8, least: u8, greatest: u8) -> Unexpected
     requires order { least ≤ greatest }
     requires pairs { greatest < 100 }
     requires none { NoFront (TwoAfter before least greatest) text.now }
@@ -247,7 +247,7 @@ pub(crate) fn pair_after(
     before: u8,
     least: u8,
     greatest: u8,
-) -> Result<(u8, &[u8]), Fault>
+) -> Result<(u8, &[u8]), Unexpected>
     requires order { least ≤ greatest }
     requires pairs { greatest < 100 }
     ensures read { IfOk result (λ r. Front (TwoAfter before least greatest r.0) text.now r.1.now) }
@@ -263,7 +263,7 @@ pub(crate) fn pair_after(
 
 // Reads four digits.
 #[inline(always)]
-pub(crate) fn four_digits(text: &[u8]) -> Result<(u16, &[u8]), Fault>
+pub(crate) fn four_digits(text: &[u8]) -> Result<(u16, &[u8]), Unexpected>
     ensures read { IfOk result (λ r. Front (Digits 4 r.0) text.now r.1.now) }
     ensures range { IfOk result (λ r. r.0 < 10_000) }
     ensures fault { IfErr result (λ e. FieldFault 4 (SpellsSome (Digits 4)) text.now e) }

@@ -65,7 +65,7 @@ pub struct NotRead {
 
 // The position by the bytes that are left from there on.
 #[derive(Clone, Copy)]
-pub(crate) struct Fault {
+pub(crate) struct Unexpected {
     pub(crate) left: usize,
     pub(crate) expected: Expected,
 }

@@ -11,13 +11,13 @@ ghost use Rattle.time_read.specs.Shapes.{IsDay};
 ghost use Rattle.time_known.specs.Rules.{Sign};
 
 use crate::digits::{byte, digit, pair, pair_after};
-use crate::fault::{Expected, Fault, Names};
+use crate::fault::{Expected, Names, Unexpected};
 use crate::names::some_name;
 use crate::offset::least_minute;
 use crate::parts::clock;
 
 // Reads a comma, a space and a day of a month.
-fn day_after(text: &[u8]) -> Result<(u8, &[u8]), Fault>
+fn day_after(text: &[u8]) -> Result<(u8, &[u8]), Unexpected>
     ensures read { IfOk result (λ r. Front (DayAfter r.0) text.now r.1.now) }
     ensures range { IfOk result (λ r. r.0 ≤ 31) }
     ensures fault { IfErr result (λ e. FieldFault 4 (SpellsSome DayAfter) text.now e) }
@@ -27,7 +27,7 @@ fn day_after(text: &[u8]) -> Result<(u8, &[u8]), Fault>
 }
 
 // Reads a space and the name of a month that has this day in some year: its index from 0.
-fn month_after(text: &[u8], day: u8) -> Result<(u8, &[u8]), Fault>
+fn month_after(text: &[u8], day: u8) -> Result<(u8, &[u8]), Unexpected>
     requires { day ≤ 31 }
     ensures read { IfOk result (λ r. Front (MonthAfter day r.0) text.now r.1.now) }
     ensures range { IfOk result (λ r. r.0 < 12) }
@@ -38,7 +38,7 @@ fn month_after(text: &[u8], day: u8) -> Result<(u8, &[u8]), Fault>
 }
 
 // Reads a digit from the first to the last, by steps of four.
-fn fourth_digit(text: &[u8], first: u8, last: u8) -> Result<(u8, &[u8]), Fault>
+fn fourth_digit(text: &[u8], first: u8, last: u8) -> Result<(u8, &[u8]), Unexpected>
     requires order { first ≤ last }
     requires digits { last < 10 }
     ensures read { IfOk result (λ r. Front (FourthDigit first last r.0) text.now r.1.now) }
@@ -50,7 +50,7 @@ fn fourth_digit(text: &[u8], first: u8, last: u8) -> Result<(u8, &[u8]), Fault>
             return Ok((*byte - 48, rest));
         }
     }
-    Err(Fault {
+    Err(Unexpected {
         left: text.len(),
         expected: Expected::EachFourth(first, last),
     })
@@ -71,7 +71,7 @@ fn fourths(century: u8, tens: u8) -> (u8, u8)
 }
 
 // Reads the last two digits of a leap year.
-fn last_of_leap(text: &[u8], century: u8) -> Result<(u8, &[u8]), Fault>
+fn last_of_leap(text: &[u8], century: u8) -> Result<(u8, &[u8]), Unexpected>
     ensures read { IfOk result (λ r. Front (LastOfLeap century r.0) text.now r.1.now) }
     ensures range { IfOk result (λ r. r.0 < 100) }
     ensures fault { IfErr result (λ e. FieldFault 2 (SpellsSome (LastOfLeap century)) text.now e) }
@@ -90,7 +90,7 @@ fn is_leap_day(day: u8, place: u8) -> bool
 }
 
 // Reads the last two digits of a year in which the month has this day.
-fn last_of_year(text: &[u8], day: u8, place: u8, century: u8) -> Result<(u8, &[u8]), Fault>
+fn last_of_year(text: &[u8], day: u8, place: u8, century: u8) -> Result<(u8, &[u8]), Unexpected>
     requires { day ≤ days_in_month true (place + 1) }
     ensures read { IfOk result (λ r. Front (LastOfYear day place century r.0) text.now r.1.now) }
     ensures range { IfOk result (λ r. r.0 < 100) }
@@ -104,7 +104,7 @@ fn last_of_year(text: &[u8], day: u8, place: u8, century: u8) -> Result<(u8, &[u
 }
 
 // Reads a space and a year from 1900 on in which the month at an index from 0 has this day.
-fn year_after(text: &[u8], day: u8, place: u8) -> Result<(u16, &[u8]), Fault>
+fn year_after(text: &[u8], day: u8, place: u8) -> Result<(u16, &[u8]), Unexpected>
     requires { day ≤ days_in_month true (place + 1) }
     ensures read { IfOk result (λ r. Front (YearAfter day place r.0) text.now r.1.now) }
     ensures range { IfOk result (λ r. r.0 < 10_000) }
@@ -117,7 +117,7 @@ fn year_after(text: &[u8], day: u8, place: u8) -> Result<(u16, &[u8]), Fault>
 
 // Reads a date with the name of some weekday: the weekday, the day, the index of the month from 0
 // and the year.
-pub(crate) fn named_date(text: &[u8]) -> Result<(u8, u8, u8, u16, &[u8]), Fault>
+pub(crate) fn named_date(text: &[u8]) -> Result<(u8, u8, u8, u16, &[u8]), Unexpected>
     ensures read { IfOk result (λ r. Front (NamedParts (r.0, (r.1, (r.2, r.3)))) text.now r.4.now) }
     ensures weekday { IfOk result (λ r. r.0 < 7) }
     ensures day { IfOk result (λ r. IsDay (record { year = r.3; month = r.2 + 1; day = r.1 })) }
@@ -131,7 +131,7 @@ pub(crate) fn named_date(text: &[u8]) -> Result<(u8, u8, u8, u16, &[u8]), Fault>
 }
 
 // Reads a space, an hour, a minute and a second.
-pub(crate) fn clock_after(text: &[u8]) -> Result<(u8, u8, u8, &[u8]), Fault>
+pub(crate) fn clock_after(text: &[u8]) -> Result<(u8, u8, u8, &[u8]), Unexpected>
     ensures read { IfOk result (λ r. Front (ClockAfter (
         record { hour = r.0; minute = r.1; second = r.2 })) text.now r.3.now) }
     ensures hour { IfOk result (λ r. r.0 < 24) }
@@ -144,7 +144,7 @@ pub(crate) fn clock_after(text: &[u8]) -> Result<(u8, u8, u8, &[u8]), Fault>
 }
 
 // Reads a sign: whether it is a minus.
-pub(crate) fn sign(text: &[u8]) -> Result<(bool, &[u8]), Fault>
+pub(crate) fn sign(text: &[u8]) -> Result<(bool, &[u8]), Unexpected>
     ensures read { IfOk result (λ r. Front (Sign r.0) text.now r.1.now) }
     ensures fault { IfErr result (λ e. FieldFault 1 (SpellsSome Sign) text.now e) }
 {
@@ -156,14 +156,14 @@ pub(crate) fn sign(text: &[u8]) -> Result<(bool, &[u8]), Fault>
             return Ok((true, rest));
         }
     }
-    Err(Fault {
+    Err(Unexpected {
         left: text.len(),
         expected: Expected::Sign,
     })
 }
 
 // Reads a space and a sign: whether it is a minus.
-fn sign_after(text: &[u8]) -> Result<(bool, &[u8]), Fault>
+fn sign_after(text: &[u8]) -> Result<(bool, &[u8]), Unexpected>
     ensures read { IfOk result (λ r. Front (SignAfter r.0) text.now r.1.now) }
     ensures fault { IfErr result (λ e. FieldFault 2 (SpellsSome SignAfter) text.now e) }
 {
@@ -172,7 +172,7 @@ fn sign_after(text: &[u8]) -> Result<(bool, &[u8]), Fault>
 }
 
 // Reads a space, a sign, two digits of hours and two of minutes, but for `-0000`.
-pub(crate) fn zone_after(text: &[u8]) -> Result<(bool, u8, u8, &[u8]), Fault>
+pub(crate) fn zone_after(text: &[u8]) -> Result<(bool, u8, u8, &[u8]), Unexpected>
     ensures read { IfOk result (λ r. Front (ZoneAfter (r.0, (r.1, r.2))) text.now r.3.now) }
     ensures hour { IfOk result (λ r. r.1 ≤ 25) }
     ensures minute { IfOk result (λ r. r.2 < 60) }

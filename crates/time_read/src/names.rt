@@ -8,7 +8,7 @@ ghost use Rattle.time_read.specs.Fault.{Begins, SpellsSome};
 ghost use Rattle.time_read.specs.Front.{Front, FieldFault, NoFront};
 ghost use Rattle.time_read.specs.Names.{HasDay, IsSome, NameOf, list_of};
 
-use crate::fault::{Expected, Fault, Names};
+use crate::fault::{Expected, Names, Unexpected};
 use crate::letters::{count, has_day, letters, place_by};
 
 // Reads one of these names, or nothing: its index from 0.
@@ -59,13 +59,13 @@ fn some_begins_with(names: Names, begun: &[u8]) -> bool
 // The fault of a text that does not begin with one of these names.
 #[cold]
 #[inline(never)]
-pub(crate) fn name_fault(text: &[u8], names: Names) -> Fault
+pub(crate) fn name_fault(text: &[u8], names: Names) -> Unexpected
     requires some { IsSome names }
     requires none { NoFront (NameOf names) text.now }
     ensures { FieldFault 3 (SpellsSome (NameOf names)) text.now result }
 {
     if text.len() < 1 {
-        return Fault {
+        return Unexpected {
             left: text.len(),
             expected: Expected::Name(names, 0, 0, 0),
         };
@@ -73,39 +73,39 @@ pub(crate) fn name_fault(text: &[u8], names: Names) -> Fault
     if some_begins_with(names, &text[..1]) {
         return second_fault(text, names);
     }
-    Fault {
+    Unexpected {
         left: text.len(),
         expected: Expected::Name(names, 0, 0, 0),
     }
 }
 
 // The same of a text whose first byte begins one.
-fn second_fault(text: &[u8], names: Names) -> Fault
+fn second_fault(text: &[u8], names: Names) -> Unexpected
     requires long { 1 ≤ length text.now }
     requires begun { Begins (SpellsSome (NameOf names)) (take 1 text.now) }
     requires none { NoFront (NameOf names) text.now }
     ensures { FieldFault 3 (SpellsSome (NameOf names)) text.now result }
 {
     if text.len() < 2 {
-        return Fault {
+        return Unexpected {
             left: text.len() - 1,
             expected: Expected::Name(names, 1, text[0], 0),
         };
     }
     if some_begins_with(names, &text[..2]) {
-        return Fault {
+        return Unexpected {
             left: text.len() - 2,
             expected: Expected::Name(names, 2, text[0], text[1]),
         };
     }
-    Fault {
+    Unexpected {
         left: text.len() - 1,
         expected: Expected::Name(names, 1, text[0], 0),
     }
 }
 
 // Reads one of these names: its index from 0.
-pub(crate) fn some_name(text: &[u8], names: Names) -> Result<(u8, &[u8]), Fault>
+pub(crate) fn some_name(text: &[u8], names: Names) -> Result<(u8, &[u8]), Unexpected>
     requires { IsSome names }
     ensures read { IfOk result (λ r. Front (NameOf names r.0) text.now r.1.now) }
     ensures range { IfOk result (λ r. r.0 < length (list_of names)) }

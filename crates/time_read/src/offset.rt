@@ -11,19 +11,19 @@ ghost use Rattle.time_read.specs.Shapes.{HoursAndMinutes, IsTrailing, is_some, l
 ghost use Rattle.time_read.specs.Shapes.{sign_byte};
 
 use crate::digits::{pair, pair_after};
-use crate::fault::{Expected, Fault, Profile};
+use crate::fault::{Expected, Profile, Unexpected};
 use time_below::UtcOffset;
 
 // Reads the end of a text.
 #[inline(always)]
-pub(crate) fn end(text: &[u8]) -> Result<(), Fault>
+pub(crate) fn end(text: &[u8]) -> Result<(), Unexpected>
     ensures read { OnOk result (text.now ≡ []) }
     ensures fault { IfErr result (λ e. IsTrailing text.now e) }
 {
     if text.is_empty() {
         Ok(())
     } else {
-        Err(Fault {
+        Err(Unexpected {
             left: text.len(),
             expected: Expected::End,
         })
@@ -66,7 +66,7 @@ pub(crate) fn least_minute(some: bool, hour: u8) -> u8
 
 // Reads the hours and the minutes of an offset after its sign, with a colon between them.
 #[inline(always)]
-fn hours_and_minutes(text: &[u8], some: bool) -> Result<(u8, u8, &[u8]), Fault>
+fn hours_and_minutes(text: &[u8], some: bool) -> Result<(u8, u8, &[u8]), Unexpected>
     ensures read { IfOk result (λ r. Front (HoursAndMinutes some (r.0, r.1)) text.now r.2.now) }
     ensures hour { IfOk result (λ r. r.0 < 24) }
     ensures minute { IfOk result (λ r. r.1 < 60) }
@@ -80,7 +80,7 @@ fn hours_and_minutes(text: &[u8], some: bool) -> Result<(u8, u8, &[u8]), Fault>
 
 // Reads what is left after the letter `Z`.
 #[inline(always)]
-pub(crate) fn rest_of_utc(text: &[u8], profile: Profile) -> Result<UtcOffset, Fault>
+pub(crate) fn rest_of_utc(text: &[u8], profile: Profile) -> Result<UtcOffset, Unexpected>
     ensures read { IfOk result (λ o.
         (b : ℕ) → IsLetter profile 90 b → EndOffset profile o (b ∷ text.now)) }
     ensures fault { IfErr result (λ e.
@@ -96,7 +96,7 @@ pub(crate) fn rest_of_signed(
     text: &[u8],
     is_negative: bool,
     profile: Profile,
-) -> Result<UtcOffset, Fault>
+) -> Result<UtcOffset, Unexpected>
     ensures read { IfOk result (λ o. EndOffset profile o (sign_byte is_negative ∷ text.now)) }
     ensures fault { IfErr result (λ e.
         TextFault (RestOfOffset profile (sign_byte is_negative)) text.now e) }

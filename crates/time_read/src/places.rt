@@ -8,7 +8,7 @@ ghost use Rattle.time_read.specs.Front.{TextFault};
 ghost use Rattle.time_read.specs.Profiles.{ReadsAs};
 ghost use Rattle.time_read.specs.Refused.{IsRefused};
 
-use crate::fault::{Fault, NotRead, Profile};
+use crate::fault::{NotRead, Profile, Unexpected};
 
 // The position of the seconds in a text of RFC 3339, and in a stamp.
 pub(crate) const SECONDS: usize = 17;
@@ -24,7 +24,7 @@ pub(crate) fn is_second_60(text: &[u8], at: usize, seconds: usize) -> bool
 
 // The position of a fault by the bytes that are left. The seconds of the text stand at `seconds`.
 #[inline(always)]
-pub(crate) fn place_of_fault(text: &[u8], fault: Fault, seconds: usize) -> NotRead
+pub(crate) fn place_of_fault(text: &[u8], fault: Unexpected, seconds: usize) -> NotRead
     requires left { fault.left ≤ length text.now }
     requires seconds { seconds < 100 }
     ensures at { result.at ≡ length text.now - fault.left }
@@ -41,7 +41,7 @@ pub(crate) fn place_of_fault(text: &[u8], fault: Fault, seconds: usize) -> NotRe
 
 // The position at which a text of RFC 3339 is refused whose first fault this is.
 #[inline(always)]
-pub(crate) fn place_of(text: &[u8], fault: Fault, _profile: Profile) -> NotRead
+pub(crate) fn place_of(text: &[u8], fault: Unexpected, _profile: Profile) -> NotRead
     requires { TextFault (SpellsSome (ReadsAs _profile)) text.now fault }
     ensures { IsRefused (ReadsAs _profile) SECONDS text.now result }
 {

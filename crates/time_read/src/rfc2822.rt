@@ -14,7 +14,7 @@ ghost use Rattle.time_read.specs.Shapes.{IsDay, date_of_day};
 ghost use Rattle.time_read.specs.Space.{IsGap, IsSpace};
 
 use crate::days::{Day, date_of, days_of_month};
-use crate::fault::{Expected, Fault, NotRead};
+use crate::fault::{Expected, NotRead, Unexpected};
 use crate::feed::{day_month_year, second, two, weekday};
 use crate::mail::{clock_after, named_date, zone_after};
 use crate::not_mail::{MailFault, MailPart, NotMail};
@@ -28,7 +28,7 @@ use time_below::{Date, OffsetDateTime, Time, UtcOffset};
 const SECONDS: usize = 23;
 
 // Reads a whole text, with the name of some weekday.
-fn fields(text: &[u8]) -> Result<(u8, OffsetDateTime), Fault>
+fn fields(text: &[u8]) -> Result<(u8, OffsetDateTime), Unexpected>
     ensures read { IfOk result (λ r. MailText r.0 r.1 text.now) }
     ensures fault { IfErr result (λ e. TextFault (SpellsSome SpellsButWeekday) text.now e) }
 {

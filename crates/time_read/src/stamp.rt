@@ -10,21 +10,21 @@ ghost use Rattle.time_read.specs.Stamp.{IsStamp, NineAfter};
 use crate::days::{Day, date_of};
 use crate::decimals::nanosecond;
 use crate::digits::byte;
-use crate::fault::{Expected, Fault, NotRead};
+use crate::fault::{Expected, NotRead, Unexpected};
 use crate::offset::end;
 use crate::parts::{clock, full_date};
 use crate::places::{SECONDS, place_of_fault};
 use time_below::{Time, UtcDateTime};
 
 // Reads nine digits.
-fn nine_digits(text: &[u8]) -> Result<(u32, &[u8]), Fault>
+fn nine_digits(text: &[u8]) -> Result<(u32, &[u8]), Unexpected>
     ensures read { IfOk result (λ r. Front (Digits 9 r.0) text.now r.1.now) }
     ensures range { IfOk result (λ r. r.0 < 10 ^ 9) }
     ensures fault { IfErr result (λ e. FieldFault 9 (SpellsSome (Digits 9)) text.now e) }
 {
     let (number, count) = nanosecond(text);
     if count < 9 {
-        return Err(Fault {
+        return Err(Unexpected {
             left: text.len() - count,
             expected: Expected::Digit(0, 9),
         });
@@ -33,7 +33,7 @@ fn nine_digits(text: &[u8]) -> Result<(u32, &[u8]), Fault>
 }
 
 // Reads a point and nine digits.
-fn nine_after(text: &[u8]) -> Result<(u32, &[u8]), Fault>
+fn nine_after(text: &[u8]) -> Result<(u32, &[u8]), Unexpected>
     ensures read { IfOk result (λ r. Front (NineAfter r.0) text.now r.1.now) }
     ensures range { IfOk result (λ r. r.0 < 10 ^ 9) }
     ensures fault { IfErr result (λ e. FieldFault 10 (SpellsSome NineAfter) text.now e) }
@@ -43,7 +43,7 @@ fn nine_after(text: &[u8]) -> Result<(u32, &[u8]), Fault>
 }
 
 // Reads a whole stamp.
-fn fields(text: &[u8]) -> Result<UtcDateTime, Fault>
+fn fields(text: &[u8]) -> Result<UtcDateTime, Unexpected>
     ensures read { IfOk result (λ v. IsStamp v text.now) }
     ensures fault { IfErr result (λ e. TextFault (SpellsSome IsStamp) text.now e) }
 {

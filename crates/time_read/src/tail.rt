@@ -10,13 +10,16 @@ ghost use Rattle.time_read.specs.Shapes.{AtFraction, Skipped, next_after};
 
 use crate::decimals::{after_digits, nanosecond};
 use crate::digits::{after, after_letter};
-use crate::fault::{Expected, Fault, Profile};
+use crate::fault::{Expected, Profile, Unexpected};
 use crate::offset::{rest_of_signed, rest_of_utc};
 use time_below::UtcOffset;
 
 // Reads a fraction, if there is one, and an offset, to the end of the text.
 #[inline(always)]
-pub(crate) fn fraction_and_offset(text: &[u8], profile: Profile) -> Result<(u32, UtcOffset), Fault>
+pub(crate) fn fraction_and_offset(
+    text: &[u8],
+    profile: Profile,
+) -> Result<(u32, UtcOffset), Unexpected>
     ensures read { IfOk result (λ r. Tail profile (r.0, r.1) text.now) }
     ensures range { IfOk result (λ r. r.0 < 10 ^ 9) }
     ensures fault { IfErr result (λ e. TextFault (SpellsSome (Tail profile)) text.now e) }
@@ -34,7 +37,7 @@ pub(crate) fn fraction_and_offset(text: &[u8], profile: Profile) -> Result<(u32,
         let offset = rest_of_signed(rest, true, profile)?;
         return Ok((nanosecond, offset));
     }
-    Err(Fault {
+    Err(Unexpected {
         left: rest.len(),
         expected,
     })
@@ -42,7 +45,7 @@ pub(crate) fn fraction_and_offset(text: &[u8], profile: Profile) -> Result<(u32,
 
 // Reads a fraction, if there is one: its nanosecond, what is left, and what may come there.
 #[inline(always)]
-fn fraction(text: &[u8], profile: Profile) -> Result<(u32, &[u8], Expected), Fault>
+fn fraction(text: &[u8], profile: Profile) -> Result<(u32, &[u8], Expected), Unexpected>
     ensures read { IfOk result (λ r. AtFraction profile text.now r.0 r.1.now r.2) }
     ensures range { IfOk result (λ r. r.0 < 10 ^ 9) }
     ensures fault { IfErr result (λ e. TextFault (SpellsSome (Tail profile)) text.now e) }
@@ -55,14 +58,14 @@ fn fraction(text: &[u8], profile: Profile) -> Result<(u32, &[u8], Expected), Fau
 
 // Reads the digits after a point: one to nine, or more where the profile is lenient.
 #[inline(always)]
-fn decimals(text: &[u8], profile: Profile) -> Result<(u32, &[u8], Expected), Fault>
+fn decimals(text: &[u8], profile: Profile) -> Result<(u32, &[u8], Expected), Unexpected>
     ensures read { IfOk result (λ r. AtFraction profile (46 ∷ text.now) r.0 r.1.now r.2) }
     ensures range { IfOk result (λ r. r.0 < 10 ^ 9) }
     ensures fault { IfErr result (λ e. TextFault (SpellsSome (Tail profile)) (46 ∷ text.now) e) }
 {
     let (nanosecond, count) = nanosecond(text);
     if count == 0 {
-        return Err(Fault {
+        return Err(Unexpected {
             left: text.len(),
             expected: Expected::Digit(0, 9),
         });

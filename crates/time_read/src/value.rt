@@ -12,7 +12,7 @@ ghost use Rattle.time_read.specs.declared.fault.Profile.TheVariants as profile;
 
 use crate::days::{Day, date_of};
 use crate::digits::letter;
-use crate::fault::{Fault, Profile};
+use crate::fault::{Profile, Unexpected};
 use crate::parts::{clock, full_date};
 use crate::tail::fraction_and_offset;
 use time_below::{Date, OffsetDateTime, Time};
@@ -42,7 +42,7 @@ impl Reads for Lenient {
 
 // Reads a date.
 #[inline(always)]
-pub(crate) fn date(text: &[u8]) -> Result<(Date, &[u8]), Fault>
+pub(crate) fn date(text: &[u8]) -> Result<(Date, &[u8]), Unexpected>
     ensures read { IfOk result (λ r. Front (FullDate r.0) text.now r.1.now) }
     ensures fault { IfErr result (λ e. FieldFault 10 (SpellsSome FullDate) text.now e) }
 {
@@ -52,7 +52,11 @@ pub(crate) fn date(text: &[u8]) -> Result<(Date, &[u8]), Fault>
 
 // Reads what follows a date, to the end of the text.
 #[inline(always)]
-pub(crate) fn after_date(date: Date, text: &[u8], profile: Profile) -> Result<OffsetDateTime, Fault>
+pub(crate) fn after_date(
+    date: Date,
+    text: &[u8],
+    profile: Profile,
+) -> Result<OffsetDateTime, Unexpected>
     ensures read { IfOk result (λ v. (front : List ℕ)
         → FullDate date front → ReadsAs profile v (front ++ text.now)) }
     ensures fault { IfErr result (λ e. (front : List ℕ)
@@ -67,7 +71,7 @@ pub(crate) fn after_date(date: Date, text: &[u8], profile: Profile) -> Result<Of
 
 // Reads a whole text. What follows the date stands here again, so that it is no call.
 #[inline(always)]
-pub(crate) fn value_of<P: Reads>(text: &[u8]) -> Result<OffsetDateTime, Fault>
+pub(crate) fn value_of<P: Reads>(text: &[u8]) -> Result<OffsetDateTime, Unexpected>
     ensures read { IfOk result (λ v. ReadsAs P.PROFILE v text.now) }
     ensures fault { IfErr result (λ e. TextFault (SpellsSome (ReadsAs P.PROFILE)) text.now e) }
 {

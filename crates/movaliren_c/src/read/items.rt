@@ -22,7 +22,7 @@ use time_below::format_description::Component;
 use time_below::{OffsetDateTime, Timestamp};
 use time_plan::{Run, Shown};
 use time_plan_read::{
-    LiteralRef, NotRead, ReadStep, Readable, Reason as Fault, StepParts, reader_of_steps,
+    LiteralRef, Mismatch, NotRead, ReadStep, Readable, StepParts, reader_of_steps,
 };
 
 /// Why no moment is read.
@@ -115,11 +115,11 @@ fn place_by_items(fault: NotRead) -> ReadError
     ensures { result.at ≡ fault.at }
 {
     let (expected, first, last) = match fault.reason {
-        Fault::Literal(byte) => (2, byte, byte),
-        Fault::End => (7, 0, 0),
-        Fault::Component(component) => (24, kind_number(component), 0),
-        Fault::NoValue(component) => (25, kind_number(component), 0),
-        Fault::Otherwise => (26, 0, 0),
+        Mismatch::Literal(byte) => (2, byte, byte),
+        Mismatch::End => (7, 0, 0),
+        Mismatch::Component(component) => (24, kind_number(component), 0),
+        Mismatch::NoValue(component) => (25, kind_number(component), 0),
+        Mismatch::Otherwise => (26, 0, 0),
     };
     ReadError {
         at: fault.at,

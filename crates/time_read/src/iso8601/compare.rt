@@ -8,7 +8,7 @@ ghost use Rattle.time_known.specs.Iso8601.{iso8601_outcome};
 ghost use Rattle.time_known.specs.Iso8601Parts.{SuppliesParts};
 ghost use Rattle.time_known.specs.Iso8601Width.{iso8601_width};
 
-use crate::fault::{Expected, Fault};
+use crate::fault::{Expected, Unexpected};
 use std::default::Default;
 use std::marker::Brand;
 use time_fmt::{Before, ComponentProvider, RoomSink};
@@ -35,7 +35,7 @@ pub(super) fn difference<V: ComponentProvider>(
     config: &Config,
     text: &[u8],
     value: &V,
-) -> Option<Fault>
+) -> Option<Unexpected>
 where
     V::State: Drop,
     ensures same { IfNone result (iso8601_outcome config.now (V.facts value.now) ≡ done text.now) }
@@ -48,7 +48,11 @@ where
 }
 
 /// The same by a configuration without many decimals.
-fn short_difference<V: ComponentProvider>(config: &Config, text: &[u8], value: &V) -> Option<Fault>
+fn short_difference<V: ComponentProvider>(
+    config: &Config,
+    text: &[u8],
+    value: &V,
+) -> Option<Unexpected>
 where
     V::State: Drop,
     requires room { iso8601_width config.now ≤ ROOM }
@@ -59,7 +63,11 @@ where
 }
 
 /// The same by any configuration.
-fn long_difference<V: ComponentProvider>(config: &Config, text: &[u8], value: &V) -> Option<Fault>
+fn long_difference<V: ComponentProvider>(
+    config: &Config,
+    text: &[u8],
+    value: &V,
+) -> Option<Unexpected>
 where
     V::State: Drop,
     requires room { iso8601_width config.now ≤ MOST_BYTES }
@@ -75,7 +83,7 @@ fn difference_in<B: Before, V: ComponentProvider>(
     room: &mut [u8],
     text: &[u8],
     value: &V,
-) -> Option<Fault>
+) -> Option<Unexpected>
 where
     V::State: Drop,
     requires before { room.old ≡ B.before }
@@ -122,13 +130,13 @@ where
 /// The first byte at which a text is another one than this.
 #[cold]
 #[inline(never)]
-fn fault_between(own: &[u8], text: &[u8]) -> Fault {
+fn fault_between(own: &[u8], text: &[u8]) -> Unexpected {
     let count = same_bytes(own, text);
     let expected = match own.get(count) {
         Some(byte) => Expected::Byte(*byte),
         None => Expected::End,
     };
-    Fault {
+    Unexpected {
         left: text.len().saturating_sub(count),
         expected,
     }
@@ -137,11 +145,8 @@ fn fault_between(own: &[u8], text: &[u8]) -> Fault {
 /// How many bytes two texts have in common at the front.
 fn same_bytes(own: &[u8], text: &[u8]) -> usize {
     let mut count = 0usize;
-    for (a, b) in own.iter().zip(text) {
-        if *a != *b {
-            return count;
-        }
-        count = count.saturating_add(1);
+    while count < own.len() && count < text.len() && own[count] == text[count] {
+        count += 1;
     }
     count
 }

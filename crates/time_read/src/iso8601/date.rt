@@ -3,7 +3,7 @@ ghost use Rattle.std.specs.Prelude.{◌<◌, ◌≤◌, IfOk};
 ghost use Rattle.time_below.specs.Calendar.{IsYear};
 
 use crate::digits::{byte, digit, four_digits, pair};
-use crate::fault::{Expected, Fault};
+use crate::fault::{Expected, Unexpected};
 use crate::iso8601::parts::{pair_behind, separator};
 use crate::mail::sign;
 use time_below::util::weeks_in_year;
@@ -11,7 +11,10 @@ use time_below::{Date, Month, Weekday, is_leap_year};
 use time_known::iso8601::{Config, DateKind};
 
 /// Reads a date.
-pub(super) fn read_date<'a>(config: &Config, text: &'a [u8]) -> Result<(Date, &'a [u8]), Fault> {
+pub(super) fn read_date<'a>(
+    config: &Config,
+    text: &'a [u8],
+) -> Result<(Date, &'a [u8]), Unexpected> {
     let (year, rest) = if config.year_is_six_digits() {
         six_digit_year(text)?
     } else {
@@ -25,7 +28,7 @@ pub(super) fn read_date<'a>(config: &Config, text: &'a [u8]) -> Result<(Date, &'
 }
 
 /// Reads a year of four digits.
-fn four_digit_year(text: &[u8]) -> Result<(i32, &[u8]), Fault>
+fn four_digit_year(text: &[u8]) -> Result<(i32, &[u8]), Unexpected>
     ensures { IfOk result (λ read. IsYear read.0) }
 {
     let (year, rest) = four_digits(text)?;
@@ -45,7 +48,7 @@ fn signed_year(is_negative: bool, number: u32) -> i32
 }
 
 /// Reads a year of a sign and six digits.
-fn six_digit_year(text: &[u8]) -> Result<(i32, &[u8]), Fault>
+fn six_digit_year(text: &[u8]) -> Result<(i32, &[u8]), Unexpected>
     ensures { IfOk result (λ read. IsYear read.0) }
 {
     let (is_negative, rest) = sign(text)?;
@@ -56,7 +59,11 @@ fn six_digit_year(text: &[u8]) -> Result<(i32, &[u8]), Fault>
 }
 
 /// Reads the month and the day of a date of this year.
-fn month_and_day<'a>(config: &Config, text: &'a [u8], year: i32) -> Result<(Date, &'a [u8]), Fault>
+fn month_and_day<'a>(
+    config: &Config,
+    text: &'a [u8],
+    year: i32,
+) -> Result<(Date, &'a [u8]), Unexpected>
     requires { IsYear year }
 {
     let (number, rest) = pair_behind(config, text, b'-', 1, 12)?;
@@ -66,7 +73,11 @@ fn month_and_day<'a>(config: &Config, text: &'a [u8], year: i32) -> Result<(Date
 }
 
 /// Reads the week of a date of this year of the week calendar.
-fn week_of_year<'a>(config: &Config, text: &'a [u8], year: i32) -> Result<(u8, &'a [u8]), Fault> {
+fn week_of_year<'a>(
+    config: &Config,
+    text: &'a [u8],
+    year: i32,
+) -> Result<(u8, &'a [u8]), Unexpected> {
     let rest = separator(config, text, b'-')?;
     let rest = byte(rest, b'W')?;
     pair(rest, 1, weeks_in_year(year))
@@ -77,14 +88,14 @@ fn week_and_weekday<'a>(
     config: &Config,
     text: &'a [u8],
     year: i32,
-) -> Result<(Date, &'a [u8]), Fault> {
+) -> Result<(Date, &'a [u8]), Unexpected> {
     let (week, rest) = week_of_year(config, text, year)?;
     let rest = separator(config, rest, b'-')?;
     let (number, after) = digit(rest, 1, 7)?;
     match Date::from_iso_week_date(year, week, Weekday::Sunday.nth_next(number)) {
         Ok(date) => Ok((date, after)),
         // 999999-12-31 is the fifth day of its week, and no date is later.
-        Err(_) => Err(Fault {
+        Err(_) => Err(Unexpected {
             left: rest.len(),
             expected: Expected::Digit(1, 5),
         }),
@@ -105,7 +116,11 @@ fn days_behind(year: i32, hundreds: u8) -> (u8, u8)
 }
 
 /// Reads the three digits of a day of this year.
-fn day_of_year<'a>(config: &Config, text: &'a [u8], year: i32) -> Result<(Date, &'a [u8]), Fault>
+fn day_of_year<'a>(
+    config: &Config,
+    text: &'a [u8],
+    year: i32,
+) -> Result<(Date, &'a [u8]), Unexpected>
     requires { IsYear year }
 {
     let rest = separator(config, text, b'-')?;
@@ -114,7 +129,7 @@ fn day_of_year<'a>(config: &Config, text: &'a [u8], year: i32) -> Result<(Date, 
     let (below, after) = pair(rest, least, greatest)?;
     match Date::from_ordinal_date(year, 100 * hundreds as u16 + below as u16) {
         Ok(date) => Ok((date, after)),
-        Err(_) => Err(Fault {
+        Err(_) => Err(Unexpected {
             left: rest.len(),
             expected: Expected::Digit(least, greatest),
         }),

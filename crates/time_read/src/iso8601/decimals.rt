@@ -6,21 +6,21 @@ ghost use Rattle.std.specs.Prelude.{◌<◌, ◌^◌, IfOk};
 
 use crate::decimals::nanosecond;
 use crate::digits::byte;
-use crate::fault::{Expected, Fault};
+use crate::fault::{Expected, Unexpected};
 use time_digits::ru8;
 use time_known::iso8601::{Config, DecimalSign};
 
 /// The fault of a text whose digits end after so many bytes.
 #[cold]
-fn no_digit(text: &[u8], count: usize) -> Fault {
-    Fault {
+fn no_digit(text: &[u8], count: usize) -> Unexpected {
+    Unexpected {
         left: text.len().saturating_sub(count),
         expected: Expected::Digit(0, 9),
     }
 }
 
 /// What follows the sign before decimals.
-fn behind_sign<'a>(config: &Config, text: &'a [u8]) -> Result<&'a [u8], Fault> {
+fn behind_sign<'a>(config: &Config, text: &'a [u8]) -> Result<&'a [u8], Unexpected> {
     match config.decimal_sign() {
         DecimalSign::Point => byte(text, b'.'),
         DecimalSign::Comma => byte(text, b','),
@@ -44,7 +44,7 @@ pub(super) fn nanosecond_of<'a>(
     config: &Config,
     text: &'a [u8],
     digits: Option<ru8<1, 255>>,
-) -> Result<(u32, &'a [u8]), Fault>
+) -> Result<(u32, &'a [u8]), Unexpected>
     ensures { IfOk result (λ read. read.0 < 10 ^ 9) }
 {
     let Some(digits) = digits else {
@@ -64,7 +64,7 @@ pub(super) fn nanosecond_of<'a>(
 }
 
 /// Reads this many digits.
-fn digits_of(text: &[u8], wanted: usize) -> Result<(&[u8], &[u8]), Fault> {
+fn digits_of(text: &[u8], wanted: usize) -> Result<(&[u8], &[u8]), Unexpected> {
     let count = digits_before(text);
     if count < wanted || text.len() < wanted {
         return Err(no_digit(text, count));
@@ -79,7 +79,7 @@ pub(super) fn decimals_of<'a>(
     text: &'a [u8],
     digits: Option<ru8<1, 255>>,
     unit: u64,
-) -> Result<(u64, &'a [u8]), Fault> {
+) -> Result<(u64, &'a [u8]), Unexpected> {
     let Some(digits) = digits else {
         return Ok((0, text));
     };

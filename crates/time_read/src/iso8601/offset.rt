@@ -3,7 +3,7 @@
 //! The attributes keep out of the readers what makes a fault: without those of ISO 8601 a text
 //! costs four tenths more.
 use crate::digits::{after, pair};
-use crate::fault::{Expected, Fault, Profile};
+use crate::fault::{Expected, Profile, Unexpected};
 use crate::iso8601::parts::pair_behind;
 use crate::mail::sign;
 use crate::offset::signed_offset;
@@ -15,7 +15,7 @@ use time_known::iso8601::{Config, OffsetPrecision};
 pub(super) fn read_offset<'a>(
     config: &Config,
     text: &'a [u8],
-) -> Result<(UtcOffset, &'a [u8]), Fault> {
+) -> Result<(UtcOffset, &'a [u8]), Unexpected> {
     if config.has_time() {
         if let Some(rest) = after(text, b'Z') {
             return Ok((UtcOffset::UTC, rest));
@@ -35,11 +35,11 @@ pub(super) fn read_offset<'a>(
 
 /// The fault of a text that does not begin with an offset.
 #[cold]
-fn no_offset(config: &Config, fault: Fault) -> Fault {
+fn no_offset(config: &Config, fault: Unexpected) -> Unexpected {
     let expected = if config.has_time() {
         Expected::Offset(Profile::Strict)
     } else {
         Expected::Sign
     };
-    Fault { expected, ..fault }
+    Unexpected { expected, ..fault }
 }

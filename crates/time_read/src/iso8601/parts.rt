@@ -2,7 +2,7 @@
 ghost use Rattle.std.specs.Prelude.{◌<◌, ◌≤◌, IfOk};
 
 use crate::digits::{byte, pair};
-use crate::fault::Fault;
+use crate::fault::Unexpected;
 use crate::iso8601::date::read_date;
 use crate::iso8601::offset::read_offset;
 use crate::iso8601::time::read_time;
@@ -26,7 +26,7 @@ pub(super) fn separator<'a>(
     config: &Config,
     text: &'a [u8],
     wanted: u8,
-) -> Result<&'a [u8], Fault> {
+) -> Result<&'a [u8], Unexpected> {
     if config.use_separators() {
         byte(text, wanted)
     } else {
@@ -42,7 +42,7 @@ pub(super) fn pair_behind<'a>(
     wanted: u8,
     least: u8,
     greatest: u8,
-) -> Result<(u8, &'a [u8]), Fault>
+) -> Result<(u8, &'a [u8]), Unexpected>
     requires order { least ≤ greatest }
     requires pairs { greatest < 100 }
     ensures least { IfOk result (λ read. least ≤ read.0) }
@@ -53,7 +53,7 @@ pub(super) fn pair_behind<'a>(
 }
 
 /// The parts of a whole text by a configuration, or its first fault.
-pub(super) fn parts_of(config: &Config, text: &[u8]) -> Result<Parts, Fault> {
+pub(super) fn parts_of(config: &Config, text: &[u8]) -> Result<Parts, Unexpected> {
     let mut parts = Parts {
         date: Date::MIN,
         time: Time::MIDNIGHT,

@@ -4,7 +4,7 @@
 //! costs four tenths more.
 ghost use Rattle.std.specs.Prelude.{◌<◌, ◌≤◌, IfSome, length};
 
-use crate::fault::{Fault, NotRead};
+use crate::fault::{NotRead, Unexpected};
 use crate::places::is_second_60;
 use time_known::iso8601::{Config, TimePrecision};
 
@@ -37,7 +37,7 @@ fn place_of_seconds(config: &Config) -> Option<usize>
 /// The position of a fault by the bytes that are left.
 #[cold]
 #[inline(never)]
-pub(super) fn place_of(config: &Config, text: &[u8], fault: Fault) -> NotRead
+pub(super) fn place_of(config: &Config, text: &[u8], fault: Unexpected) -> NotRead
     ensures { result.at ≤ length text.now }
 {
     let at = text.len().saturating_sub(fault.left);

@@ -2,7 +2,7 @@
 ghost use Rattle.std.specs.Prelude.{◌<◌};
 
 use crate::digits::{byte, pair};
-use crate::fault::Fault;
+use crate::fault::Unexpected;
 use crate::iso8601::decimals::{decimals_of, nanosecond_of};
 use crate::iso8601::parts::pair_behind;
 use time_below::Time;
@@ -15,7 +15,7 @@ const NANOSECONDS_PER_HOUR: u64 = 3_600_000_000_000;
 const NANOSECONDS_PER_MINUTE: u64 = 60_000_000_000;
 
 /// Reads the letter before a time of day, where the configuration has it.
-fn time_letter<'a>(config: &Config, text: &'a [u8]) -> Result<&'a [u8], Fault> {
+fn time_letter<'a>(config: &Config, text: &'a [u8]) -> Result<&'a [u8], Unexpected> {
     if config.has_date() || !config.use_separators() {
         byte(text, b'T')
     } else {
@@ -24,7 +24,10 @@ fn time_letter<'a>(config: &Config, text: &'a [u8]) -> Result<&'a [u8], Fault> {
 }
 
 /// Reads a time of day.
-pub(super) fn read_time<'a>(config: &Config, text: &'a [u8]) -> Result<(Time, &'a [u8]), Fault> {
+pub(super) fn read_time<'a>(
+    config: &Config,
+    text: &'a [u8],
+) -> Result<(Time, &'a [u8]), Unexpected> {
     let rest = time_letter(config, text)?;
     let (hour, rest) = pair(rest, 0, 23)?;
     match config.time_precision() {
@@ -42,7 +45,7 @@ fn behind_hour<'a>(
     text: &'a [u8],
     hour: u8,
     digits: Option<ru8<1, 255>>,
-) -> Result<(Time, &'a [u8]), Fault>
+) -> Result<(Time, &'a [u8]), Unexpected>
     requires { hour < 24 }
 {
     let (behind, rest) = decimals_of(config, text, digits, NANOSECONDS_PER_HOUR)?;
@@ -56,7 +59,7 @@ fn behind_minute<'a>(
     text: &'a [u8],
     hour: u8,
     digits: Option<ru8<1, 255>>,
-) -> Result<(Time, &'a [u8]), Fault>
+) -> Result<(Time, &'a [u8]), Unexpected>
     requires { hour < 24 }
 {
     let (minute, rest) = pair_behind(config, text, b':', 0, 59)?;
@@ -70,7 +73,7 @@ fn to_second<'a>(
     text: &'a [u8],
     hour: u8,
     digits: Option<ru8<1, 255>>,
-) -> Result<(Time, &'a [u8]), Fault>
+) -> Result<(Time, &'a [u8]), Unexpected>
     requires { hour < 24 }
 {
     let (minute, rest) = pair_behind(config, text, b':', 0, 59)?;

@@ -2,8 +2,8 @@
 use std::default::Default;
 
 /// What was read of a text, and of a base value what no text shows. Anything else is zero.
-#[derive(Clone, Copy, Default, Debug)]
-pub struct Fields {
+#[derive(Clone, Copy, Default)]
+pub struct TextFields {
     pub(crate) unix_second: i64,
     pub(crate) unix_millisecond: i64,
     pub(crate) year: i32,
