@@ -32,3 +32,6 @@ at_most p h = record { put = p.put; grown = p.grown; block = p.block; within = o
 pub puts_then : {i j : ℕ} {old mid new : Buffer} {a b : List ℕ} → PutsUpTo i old mid a → PutsUpTo j mid new b
     → PutsUpTo (i + j) old new (a ++ b)
 puts_then first second = grind (arith, joined_lengths)
+
+-- texts and pieces, each put behind the one before
+pub ruleset one_by_one = (puts_then, piece, counted, length-append, append_assoc)

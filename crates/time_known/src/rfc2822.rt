@@ -82,7 +82,7 @@ impl Text for Rfc2822Text {
         t.fields.time t.fields.offset };
 
     #[inline(always)]
-    #[tactic(auto, using(crate::proofs::LengthLemmas::joined_lengths))]
+    #[tactic(auto, using(crate::proofs::LengthLemmas::one_by_one))]
     fn put_into<S: Sink>(&self, output: &mut S) {
         put_named_date(output, self.weekday, &self.fields);
         write(output, " ");

@@ -84,7 +84,7 @@ impl Text for Rfc3339Text {
     ghost text = { λ t. rfc3339_text (shown t.fields).date t.fields.time t.fields.offset };
 
     #[inline(always)]
-    #[tactic(auto, using(crate::proofs::LengthLemmas::joined_lengths))]
+    #[tactic(auto, using(crate::proofs::LengthLemmas::one_by_one))]
     fn put_into<S: Sink>(&self, output: &mut S) {
         put_date(output, &self.fields, "-");
         write(output, "T");
@@ -105,7 +105,7 @@ impl Text for SecondText {
 
     ghost text = { λ t. second_text (shown t.fields).date t.fields.time };
 
-    #[tactic(auto, using(crate::proofs::LengthLemmas::joined_lengths))]
+    #[tactic(auto, using(crate::proofs::LengthLemmas::one_by_one))]
     fn put_into<S: Sink>(&self, output: &mut S) {
         put_date(output, &self.fields, "-");
         write(output, "T");
@@ -117,7 +117,7 @@ impl Text for SecondText {
 /// Puts `full-time` (RFC 3339, section 5.6): the clock, the fraction of a second where there is
 /// one, and the offset.
 #[inline(always)]
-#[tactic(auto, using(crate::proofs::LengthLemmas::joined_lengths))]
+#[tactic(auto, using(crate::proofs::LengthLemmas::one_by_one))]
 pub fn put_full_time<S: Sink>(output: &mut S, time: Time, offset: UtcOffset)
     requires room { Fits (S.buffer output.old) full_time_width }
     ensures puts { PutsUpTo full_time_width (S.buffer output.old) (S.buffer output.new)
