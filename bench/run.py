@@ -3,14 +3,14 @@
 
     bench/run.py [--counts] [FOLDER]
 
-Works on a copy of the repository, in FOLDER or a temporary one, to which the files `*.rt.in` beside this one are
-added as a program, and once more with `LENT`, and `kit/main.rt.in` as a third. All are proved before they are built, over libraries that earlier
-checks left in `crates/*/out`, and over new ones where there are none. Beside them stand `strftime` and {fmt} by
-`beside.cpp`, where g++ and Debian's libfmt-dev are installed, whose texts are compared with ours, and the counts of
-the Rust crate in `time-0.3.55.tsv`. Instructions are counted by callgrind, where it is installed, as the difference
-of two runs. FOLDER keeps them, so that a second run counts only what a changed program costs. Times are the least of
-some rounds, in each of which every way has a turn, and are always taken again. With --counts nothing is timed, and the
-columns of times are empty: a busy machine makes times longer, and leaves counts as they are.
+Works on a copy of the repository, in FOLDER or a temporary one, to which two programs are added: the files of `texts`
+with those of `placed`, and with those of `lent`. `kit/main.rt.in` is a third one. All are proved before they are built,
+over libraries that earlier checks left in `crates/*/out`, and over new ones where there are none. Beside them stand
+`strftime` and {fmt} by `beside.cpp`, where g++ and Debian's libfmt-dev are installed, whose texts are compared with ours,
+and the counts of the Rust crate in `time-0.3.55.tsv`. Instructions are counted by callgrind, where it is installed, as the
+difference of two runs. FOLDER keeps them, so that a second run counts only what a changed program costs. Times are the
+least of some rounds, in each of which every way has a turn, and are always taken again. With --counts nothing is timed,
+and the columns of times are empty: a busy machine makes times longer, and leaves counts as they are.
 """
 
 import concurrent.futures
@@ -153,14 +153,12 @@ def copied(folder):
 
 def added(folder):
     """The three programs of the measure, which the copy does not have."""
-    for name, is_lent in [("time_bench", "false"), ("time_bench_lent", "true")]:
-        sources = folder / "crates" / name / "src"
-        sources.mkdir(parents=True, exist_ok=True)
-        for part in HERE.glob("*.rt.in"):
-            code = part.read_text().replace("const LENT: bool = false;", f"const LENT: bool = {is_lent};")
-            code = code.replace("        // COMPONENTS\n", "".join(ARMS))
-            file = part.name.removesuffix(".in").replace("texts", "main")
-            (sources / file).write_text(code)
+    for name, ways in [("time_bench", "placed"), ("time_bench_lent", "lent")]:
+        for place in [HERE / "texts", HERE / ways]:
+            for part in place.rglob("*.rt.in"):
+                file = folder / "crates" / name / "src" / part.relative_to(place).with_suffix("")
+                file.parent.mkdir(parents=True, exist_ok=True)
+                file.write_text(part.read_text().replace("        // COMPONENTS\n", "".join(ARMS)))
         with open(folder / "crates.txt", "a", encoding="utf-8") as crates:
             crates.write(f"{name}: {LIBRARIES}\n")
     kit = folder / "crates" / "time_bench_kit" / "src"

@@ -90,7 +90,7 @@ impl DayText {
         let (_, nanosecond) = moment.as_parts();
         let passed = seconds_since(self.midnight, local_second(moment, offset));
         if !is_in_day(passed) || !has_text(offset) {
-            return self.append_anew(output, moment, offset);
+            return self.append_anew(output, *moment, offset);
         }
         make_room(output, WIDTH)?;
         let time = time_of(passed, nanosecond);
@@ -98,15 +98,16 @@ impl DayText {
         Ok(true)
     }
 
-    /// The same by the description, after which the text of the moment's day is cached.
+    /// The same by the description, after which the text of the moment's day is cached. The moment is
+    /// passed by value, so that the usual path keeps it out of memory.
     #[cold]
     fn append_anew(
         &mut self,
         output: &mut Vec<u8>,
-        moment: &Timestamp,
+        moment: Timestamp,
         offset: UtcOffset,
     ) -> Result<bool, AllocError>
-        ensures { IfOk result (AppendsShown (ShowsAt rfc3339_outcome offset moment.now)
+        ensures { IfOk result (AppendsShown (ShowsAt rfc3339_outcome offset moment)
             output.old.items output.new.items) }
     {
         let Some(local) = moment.checked_to_offset(offset) else {
@@ -115,7 +116,7 @@ impl DayText {
         let length = output.as_slice().len();
         let has_text = append_text(&Rfc3339, output, &local, &mut DateState::default())?;
         if has_text {
-            *self = DayText::of(local_second(moment, offset), &output[length..]);
+            *self = DayText::of(local_second(&moment, offset), &output[length..]);
         }
         Ok(has_text)
     }

@@ -103,7 +103,7 @@ struct FoundText {
     front: Front,
 }
 
-/// The first text of the line that is read, if it has one.
+/// The first text of the line that is read, if it has one. Most texts begin their lines.
 #[inline(always)]
 fn first_text<R: Reads>(reader: &mut R, line: &[u8]) -> Option<FoundText>
     ensures same { SameReads (R.reads reader.old) (R.reads reader.new) }
@@ -112,7 +112,10 @@ fn first_text<R: Reads>(reader: &mut R, line: &[u8]) -> Option<FoundText>
     ensures count { IfSome result (λ r. r.front.count ≤ length (drop r.at line.now)) }
     ensures none { IfNone result (NothingBefore (R.reads reader.old) line.now (length line.now)) }
 {
-    for at in 0..line.len() {
+    if let Some(front) = reader.read_front(line) {
+        return Some(FoundText { at: 0, front });
+    }
+    for at in 1..line.len() {
         if let Some(front) = reader.read_front(&line[at..]) {
             return Some(FoundText { at, front });
         }

@@ -420,8 +420,8 @@ fn append_usual<S: Shows>(
         return append_timeless(numbers, passed, output, line, 0);
     };
     let first = append_piece(shown, &usual, output, line, 0, start, count)?;
-    output.extend_from_slice(&line[first.end..])?;
     passed.pass_if(first.stays);
+    output.extend_from_slice(&line[first.end..])?;
     Ok(())
 }
 
