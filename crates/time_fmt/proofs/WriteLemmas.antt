@@ -1,10 +1,11 @@
 -- Texts that were written one after another are one text, and one text is what an outcome appends; so are
 -- outcomes.
-use Rattle.std.proofs.Common.{◌≡◌, ℕ, ◌+◌, ◌-◌, ◌++◌, length-append, append_assoc, refl, arith, Option, Some, None}
+use Rattle.std.proofs.Common.{◌≡◌, ℕ, ◌+◌, ◌-◌, ◌++◌, length-append, append_assoc, refl, ap, arith, List, [], Option, Some, None}
 use Rattle.std.proofs.Common.{IsSomeAnd, Result, Ok, Err, Vec, vec_len}
 use Rattle.std.specs.Global.{Global}
+use Rattle.std.proofs.lemmas.List.{append-nil}
 use Rattle.time_fmt.specs.declared.error.Format.{Format}
-use Rattle.time_fmt.specs.Outcome.{Outcome, Refusal, Appends, Adds, join}
+use Rattle.time_fmt.specs.Outcome.{Outcome, Refusal, Appends, Adds, done, join}
 use Rattle.std.proofs.lemmas.Grind.{common_steps}
 
 -- an outcome is added if it is appended after a reservation
@@ -29,6 +30,26 @@ join_refused a b r h = rw h refl
 pub join_done : (a b : Outcome) → a.refusal ≡ None
     → join a b ≡ record { bytes = a.bytes ++ b.bytes; refusal = b.refusal }
 join_done a b h = rw h refl
+
+-- joining outcomes is associative
+regrouped : (x : List ℕ) (r : Option Refusal) (y : List ℕ) (s : Option Refusal) (c : Outcome)
+    → join (join (record { bytes = x; refusal = r }) (record { bytes = y; refusal = s })) c
+    ≡ join (record { bytes = x; refusal = r }) (join (record { bytes = y; refusal = s }) c)
+regrouped x (Some r) y s c = refl
+regrouped x None y (Some s) c = refl
+regrouped x None y None c = ap (λ (bs : List ℕ). record { bytes = bs; refusal = c.refusal }) (append_assoc x y c.bytes)
+
+pub join_assoc : (a b c : Outcome) → join (join a b) c ≡ join a (join b c)
+join_assoc a b c = regrouped a.bytes a.refusal b.bytes b.refusal c
+
+nothing_behind : (x : List ℕ) (r : Option Refusal)
+    → join (record { bytes = x; refusal = r }) (done []) ≡ record { bytes = x; refusal = r }
+nothing_behind x (Some r) = refl
+nothing_behind x None = ap (λ (bs : List ℕ). record { bytes = bs; refusal = None }) (append-nil x)
+
+-- nothing changes an outcome behind it
+pub join_nothing : (a : Outcome) → join a (done []) ≡ a
+join_nothing a = nothing_behind a.bytes a.refusal
 
 -- a refusal of the first of two outcomes is that of both
 pub appends_first : {old new : Vec ℕ Global} {e : Format} (a b : Outcome) → Appends old new (Err e) a

@@ -13,4 +13,5 @@ pub mod Parts
 pub mod Room
 pub mod Runs
 pub mod Sink
+pub mod Steps
 pub mod Text

@@ -2,76 +2,86 @@
 //!
 //! Without `inline(always)` the compiler leaves calls of the functions that have it, and keeps the
 //! sink in memory from one step to the next.
-ghost use Rattle.std.specs.Prelude.{◌≡◌, ◌-◌, Bool, Err, IfErr, IfOk, IsNone, IsTrue, drop};
-ghost use Rattle.std.specs.Prelude.{length, map};
+ghost use Rattle.std.specs.Prelude.{◌≡◌, Bool, Err, IfErr, IfOk, IfSome, IsNone, IsTrue, map};
 ghost use Rattle.time_below.specs.Tree.{Tree, all_of, trees};
 ghost use Rattle.time_below.specs.Width.{tree_width, trees_width};
-ghost use Rattle.time_fmt.specs.Guarantee.{AppendsLeaf, AppendsTree, FirstHas, IsWrittenUpTo};
-ghost use Rattle.time_fmt.specs.Sink.{Fits};
+ghost use Rattle.time_fmt.specs.Guarantee.{AppendsLeaf, AppendsTree};
+ghost use Rattle.time_fmt.specs.Steps.{FitsIf, IsWrittenUpTo, StopsBefore};
 
 use crate::refused::Refused;
 use crate::sink::Sink;
 use time_provide::ComponentProvider;
 
-/// A step of a text: a part of it that is written without the others.
-pub trait WriteStep: Sized {
-    /// What it describes.
-    ghost tree_of: { Self → Tree };
+/// A step of a text: a part of it that is written without the others. Each step is read with what
+/// stands beside all of them, a `B`, as the bytes that items name.
+pub trait WriteStep<B: Copy>: Sized {
+    /// What it describes, if it is valid.
+    ghost tree_of: { B → Self → Tree };
 
-    /// Whether it may have items of its own, before which the loop stops.
-    ghost may_have_items: { Self → Bool };
+    /// Whether it is valid. No other is written.
+    ghost is_valid: { B → Self → Bool };
+
+    /// Whether the loop may stop before it.
+    ghost may_stop: { Self → Bool };
+
+    /// Whether its maximum length fits before it is written. Where it may not, each step looks for
+    /// itself.
+    ghost has_room: { Bool };
 
     /// Writes a step that is met often, and returns its refusal, if it is refused. Of any other it
     /// writes nothing, and returns `None`. It becomes part of the loop.
     fn write_often<S: Sink, V: ComponentProvider>(
         &self,
+        beside: B,
         output: &mut S,
         value: &V,
         state: &mut V::State,
     ) -> Option<Result<(), Refused>>
-        requires room { Fits (S.buffer output.old) (tree_width (tree_of self.now)) }
+        requires room { FitsIf has_room (S.buffer output.old) (tree_width (tree_of beside self.now)) }
         requires agrees { V.agrees state.old value.now }
-        ensures appends { AppendsLeaf (tree_of self.now) (V.facts value.now)
+        ensures appends { AppendsLeaf (tree_of beside self.now) (V.facts value.now)
             (S.buffer output.old) (S.buffer output.new) result }
+        ensures valid { IfSome result (λ _. IsTrue (is_valid beside self.now)) }
         ensures agrees { V.agrees state.new value.now };
 
-    /// Writes any step without items of its own, and returns its refusal, if it is refused. Of one
-    /// with items it writes nothing, and returns `None`.
+    /// Writes any step before which the loop does not stop, and returns its refusal, if it is
+    /// refused. Of any other it writes nothing, and returns `None`.
     fn write_seldom<S: Sink, V: ComponentProvider>(
         &self,
+        beside: B,
         output: &mut S,
         value: &V,
         state: &mut V::State,
     ) -> Option<Result<(), Refused>>
-        requires room { Fits (S.buffer output.old) (tree_width (tree_of self.now)) }
+        requires room { FitsIf has_room (S.buffer output.old) (tree_width (tree_of beside self.now)) }
         requires agrees { V.agrees state.old value.now }
-        ensures appends { AppendsLeaf (tree_of self.now) (V.facts value.now)
+        ensures appends { AppendsLeaf (tree_of beside self.now) (V.facts value.now)
             (S.buffer output.old) (S.buffer output.new) result }
-        ensures items { IsNone result → IsTrue (may_have_items self.now) }
+        ensures valid { IfSome result (λ _. IsTrue (is_valid beside self.now)) }
+        ensures stops { IsNone result → IsTrue (may_stop self.now) }
         ensures agrees { V.agrees state.new value.now };
 }
 
-/// Writes the steps in order, up to the first that has items of its own, and returns those that are
-/// left, or the first refusal. The sink is taken out of its borrow meanwhile, so that its address
-/// and its length stay in registers from one step to the next. It goes by an index, since the
-/// compiler keeps two lengths for a slice that shrinks.
+/// Writes the steps in order, up to the first that neither of its writers takes, and returns those
+/// that are left, or the first refusal. The sink is taken out of its borrow meanwhile, so that its
+/// address and its length stay in registers from one step to the next. It goes by an index, since
+/// the compiler keeps two lengths for a slice that shrinks.
 #[inline(always)]
-pub fn write_all<'a, T: WriteStep, S: Sink, V: ComponentProvider>(
+pub fn write_all<'a, B: Copy, T: WriteStep<B>, S: Sink, V: ComponentProvider>(
     steps: &'a [T],
+    beside: B,
     output: &mut S,
     value: &V,
     state: &mut V::State,
 ) -> Result<&'a [T], Refused>
-    requires room { Fits (S.buffer output.old) (trees_width (trees (map T.tree_of steps.now))) }
+    requires room { FitsIf T.has_room (S.buffer output.old)
+        (trees_width (trees (map (T.tree_of beside) steps.now))) }
     requires agrees { V.agrees state.old value.now }
-    ensures written { IfOk result (λ left. IsWrittenUpTo (V.facts value.now)
-        (trees (map T.tree_of steps.now)) (trees (map T.tree_of left.now))
-        (S.buffer output.old) (S.buffer output.new)) }
-    ensures behind { IfOk result (λ left. left.now
-        ≡ drop (length steps.now - length left.now) steps.now) }
-    ensures stops { IfOk result (λ left. FirstHas T.may_have_items left.now) }
+    ensures written { IfOk result (λ left. IsWrittenUpTo (T.is_valid beside) (T.tree_of beside)
+        (V.facts value.now) steps.now left.now (S.buffer output.old) (S.buffer output.new)) }
+    ensures stops { IfOk result (λ left. StopsBefore T.may_stop left.now) }
     ensures refused { IfErr result (λ refused. AppendsTree
-        (all_of (trees (map T.tree_of steps.now))) (V.facts value.now)
+        (all_of (trees (map (T.tree_of beside) steps.now))) (V.facts value.now)
         (S.buffer output.old) (S.buffer output.new) (Err refused)) }
     ensures agrees { V.agrees state.new value.now }
 {
@@ -79,7 +89,7 @@ pub fn write_all<'a, T: WriteStep, S: Sink, V: ComponentProvider>(
     let mut index = 0;
     while index < steps.len() {
         let step = &steps[index];
-        match step.write_often(&mut taken, value, state) {
+        match step.write_often(beside, &mut taken, value, state) {
             Some(Ok(())) => {}
             Some(Err(refused)) => {
                 output.put_back(taken);
@@ -87,7 +97,7 @@ pub fn write_all<'a, T: WriteStep, S: Sink, V: ComponentProvider>(
             }
             None => {
                 let mut apart = taken;
-                match step.write_seldom(&mut apart, value, state) {
+                match step.write_seldom(beside, &mut apart, value, state) {
                     Some(Ok(())) => taken = apart,
                     Some(Err(refused)) => {
                         output.put_back(apart);

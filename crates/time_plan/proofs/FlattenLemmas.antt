@@ -1,5 +1,5 @@
 -- Steps that are made one after another.
-use Rattle.std.proofs.Common.{◌≡◌, ℕ, suc, ◌+◌, ◌-◌, ◌<◌, ◌≤◌, ◌++◌, ◌&&◌, Bool, true, List, [], ◌∷◌, length, refl, sym, ap, ◌∙◌, arith, map, take, drop, get_or, subst, Some, None}
+use Rattle.std.proofs.Common.{◌≡◌, ℕ, zero, suc, ◌+◌, ◌-◌, ◌<◌, ◌≤◌, ◌++◌, ◌&&◌, Bool, true, List, [], ◌∷◌, length, refl, sym, ap, ◌∙◌, arith, map, take, drop, get_or, subst, Some, None}
 use Rattle.std.proofs.lemmas.List.{set_split, set-get_or, at_drop_all}
 use Rattle.std.specs.Prelude.{slice_get, slice_index_or, slice_set, OnOk, Result, Ok, Err}
 use Rattle.time_below.proofs.NodeLemmas.{and_assoc, next_of}
@@ -9,14 +9,14 @@ use Rattle.time_below.specs.Tree.{Tree, Trees, all_of, first_of, end, trees}
 use Rattle.time_below.specs.Width.{tree_width, trees_width, is_guaranteed_text, are_guaranteed_text}
 use Rattle.time_fmt.specs.Description.{tree_outcome, trees_outcome}
 use Rattle.time_fmt.specs.Outcome.{done, join}
-use Rattle.time_fmt.proofs.Engine.{smaller_rest}
+use Rattle.time_fmt.proofs.WriteLemmas.{join_assoc, join_nothing}
 use Rattle.time_plan.specs.Literal.{literal_bytes, literal_tree}
 use Rattle.time_plan.specs.Shown.{shown_tree}
 use Rattle.time_plan.specs.Steps.{step_tree, step_trees, Extends, Begins}
 use Rattle.time_fmt.specs.declared.runs.Run.TheVariants as run
 use Rattle.time_plan.specs.declared.shown.Shown.TheVariants as shown
 use Rattle.time_plan.specs.declared.step.Step.{Step}
-use Rattle.time_plan.proofs.StepLemmas.{join_assoc, join_nothing, step_outcome, step_width, step_is_text, and_true}
+use Rattle.time_plan.proofs.StepLemmas.{step_outcome, step_width, step_is_text, and_true}
 use Rattle.time_plan.proofs.StepLemmas.{literal_outcome, literal_width, literal_text, shown_guaranteed}
 
 -- ---- one step more
@@ -176,6 +176,13 @@ one_begins tree nodes others x some is are =
     let first = next_of tree nodes 0 x (omega (arith, some)) is in
     rw are (record { outcome = λ f. ap (λ ts. trees_outcome ts f) first; width = ap trees_width first; text = ap are_guaranteed_text first })
 
+-- nodes that are left are no larger than all
+smaller_drop : {A : Type 0} (size : A → ℕ) (n : ℕ) (nodes : List A)
+    → sizes (map size (drop n nodes)) ≤ sizes (map size nodes)
+smaller_drop size zero nodes = omega arith
+smaller_drop size (suc n) [] = omega arith
+smaller_drop size (suc n) (x ∷ xs) = omega (arith, smaller_drop size n xs)
+
 -- some nodes more
 pub flattened_nodes : {A : Type 0} (tree : A → Tree) (size : A → ℕ) (n all_size : ℕ) (old now new all : Trees)
     (nodes others : List A) (t : Tree)
@@ -184,7 +191,7 @@ pub flattened_nodes : {A : Type 0} (tree : A → Tree) (size : A → ℕ) (n all
     → Flattened old new all (trees (map tree others)) all_size (sizes (map size others))
 flattened_nodes tree size n all_size old now new all nodes others t so_far are begins step =
     flattened_more old now new all (trees (map tree nodes)) (trees (map tree others)) t so_far begins
-    (smaller_rest size n nodes others are) step
+    (rw are (smaller_drop size n nodes)) step
 
 pub flattened_all : {all_size left_size : ℕ} (old now all left : Trees)
     → Flattened old now all left all_size left_size → left ≡ end → Extends old now (all_of all)

@@ -1,7 +1,5 @@
 -- What a step means, and what is known of its text.
-use Rattle.std.proofs.Common.{◌≡◌, ℕ, ◌+◌, ◌≤◌, ◌<◌, get_or, ◌&&◌, Bool, true, false, List, [], ◌∷◌, length, refl, ap, ◌∙◌, arith, append_assoc}
-use Rattle.std.proofs.Common.{Option, Some, None}
-use Rattle.std.proofs.lemmas.List.{append-nil}
+use Rattle.std.proofs.Common.{◌≡◌, ℕ, ◌+◌, ◌≤◌, ◌<◌, get_or, ◌&&◌, Bool, true, false, List, [], ◌∷◌, length, refl, ap, ◌∙◌, arith}
 use Rattle.std.proofs.lemmas.Str.{IsUtf8-from_is_utf8, is_utf8-from_IsUtf8}
 use Rattle.std.specs.Str.{is_utf8}
 use Rattle.time_below.specs.Facts.{Facts}
@@ -9,38 +7,17 @@ use Rattle.time_below.specs.Tree.{more, end}
 use Rattle.time_below.specs.Width.{tree_width, is_guaranteed_text}
 use Rattle.time_fmt.specs.Description.{tree_outcome}
 use Rattle.time_fmt.specs.Guarantee.{IsTextIf}
-use Rattle.time_fmt.specs.Outcome.{Outcome, Refusal, done, join}
+use Rattle.time_fmt.specs.Outcome.{done, join}
 use Rattle.time_fmt.specs.declared.runs.Run.TheVariants as run
 use Rattle.time_fmt.proofs.GuaranteeLemmas.{text_of_component, text_more, empty_utf8}
 use Rattle.time_fmt.proofs.RunLemmas.{run_text}
+use Rattle.time_fmt.proofs.WriteLemmas.{join_nothing}
 use Rattle.time_plan.specs.Literal.{literal_bytes, literal_tree}
 use Rattle.time_plan.specs.Shown.{shown_tree}
 use Rattle.time_plan.specs.Steps.{step_tree}
 use Rattle.time_plan.specs.declared.shown.Shown.{Shown}
 use Rattle.time_plan.specs.declared.shown.Shown.TheVariants as shown
 use Rattle.time_plan.specs.declared.step.Step.{Step}
-
--- ---- outcomes
-
--- joining outcomes is associative
-regrouped : (x : List ℕ) (r : Option Refusal) (y : List ℕ) (s : Option Refusal) (c : Outcome)
-    → join (join (record { bytes = x; refusal = r }) (record { bytes = y; refusal = s })) c
-    ≡ join (record { bytes = x; refusal = r }) (join (record { bytes = y; refusal = s }) c)
-regrouped x (Some r) y s c = refl
-regrouped x None y (Some s) c = refl
-regrouped x None y None c = ap (λ (bs : List ℕ). record { bytes = bs; refusal = c.refusal }) (append_assoc x y c.bytes)
-
-pub join_assoc : (a b c : Outcome) → join (join a b) c ≡ join a (join b c)
-join_assoc a b c = regrouped a.bytes a.refusal b.bytes b.refusal c
-
-nothing_behind : (x : List ℕ) (r : Option Refusal)
-    → join (record { bytes = x; refusal = r }) (done []) ≡ record { bytes = x; refusal = r }
-nothing_behind x (Some r) = refl
-nothing_behind x None = ap (λ (bs : List ℕ). record { bytes = bs; refusal = None }) (append-nil x)
-
--- nothing changes an outcome behind it
-pub join_nothing : (a : Outcome) → join a (done []) ≡ a
-join_nothing a = nothing_behind a.bytes a.refusal
 
 -- ---- literals
 

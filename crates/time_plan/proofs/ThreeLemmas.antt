@@ -10,7 +10,7 @@ use Rattle.time_fmt.specs.Runs.{three_parts}
 use Rattle.time_plan.specs.Shown.{part_component}
 use Rattle.time_plan.specs.Steps.{IsAlike, Begins}
 use Rattle.time_plan.specs.declared.shown.RunPart.{RunPart}
-use Rattle.time_plan.proofs.StepLemmas.{join_assoc, join_nothing}
+use Rattle.time_fmt.proofs.WriteLemmas.{join_assoc, join_nothing}
 
 -- what is joined to three parts is joined to the last of them
 regrouped : (a x b y c o : Outcome)

@@ -1,15 +1,16 @@
 -- Steps that are written one after another.
 use Rattle.std.proofs.Common.{◌≡◌, ℕ, ◌+◌, ◌≤◌, ◌++◌, List, length, refl, sym, ap, ◌∙◌, arith, append_assoc, subst}
-use Rattle.std.proofs.Common.{[], ◌∷◌, false, map, Ok, Err, length-append}
+use Rattle.std.proofs.Common.{[], ◌∷◌, Bool, false, map, Ok, Err, length-append}
 use Rattle.time_below.specs.Facts.{Facts}
-use Rattle.time_below.specs.Tree.{Tree, all_of, end, trees}
+use Rattle.time_below.specs.Tree.{Tree, all_of, trees}
 use Rattle.time_below.specs.Width.{tree_width}
 use Rattle.time_fmt.specs.declared.refused.Refused.{Refused}
 use Rattle.time_fmt.specs.Description.{tree_outcome}
 use Rattle.time_fmt.specs.Ends.{Ends, refusal_of}
-use Rattle.time_fmt.specs.Guarantee.{AppendsTree, FirstHas, IsWrittenUpTo}
+use Rattle.time_fmt.specs.Guarantee.{AppendsTree}
 use Rattle.time_fmt.specs.Outcome.{Outcome, done}
 use Rattle.time_fmt.specs.Sink.{Buffer, Puts}
+use Rattle.time_fmt.specs.Steps.{IsWrittenUpTo, StopsBefore}
 use Rattle.time_fmt.proofs.Engine.{all_written}
 use Rattle.time_fmt.proofs.WriteLemmas.{join_refused, join_done}
 use Rattle.time_plan.specs.Shown.{shown_tree}
@@ -68,9 +69,9 @@ step_refused {r = r} s f old new stopped =
       text = step_text s f;
     }
 
--- where no step has items of its own, all are written
-pub nothing_left : {A : Type 0} (tree : A → Tree) (f : Facts) (all left : List A) (old now : Buffer)
-    → FirstHas (λ _. false) left → IsWrittenUpTo f (trees (map tree all)) (trees (map tree left)) old now
+-- where the loop stops before no step, all are written
+pub nothing_left : {A : Type 0} (is_valid : A → Bool) (tree : A → Tree) (f : Facts) (all left : List A) (old now : Buffer)
+    → StopsBefore (λ _. false) left → IsWrittenUpTo is_valid tree f all left old now
     → AppendsTree (all_of (trees (map tree all))) f old now (Ok tt)
-nothing_left tree f all [] old now none so_far = all_written f (trees (map tree all)) end old now refl so_far
-nothing_left tree f all (x ∷ xs) old now some so_far = let never : ⊥ = cc in absurd never
+nothing_left is_valid tree f all [] old now none so_far = all_written is_valid tree f all [] old now refl so_far
+nothing_left is_valid tree f all (x ∷ xs) old now some so_far = let never : ⊥ = cc in absurd never

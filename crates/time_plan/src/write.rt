@@ -2,7 +2,7 @@
 //!
 //! Without `inline(always)` the compiler leaves calls of the functions that have it.
 //! `inline(never)` keeps long or rare bodies out of their callers.
-ghost use Rattle.std.specs.Prelude.{◌≡◌, MatchOption, false, length};
+ghost use Rattle.std.specs.Prelude.{◌≡◌, MatchOption, false, length, true};
 ghost use Rattle.time_below.specs.Tree.{all_of};
 ghost use Rattle.time_below.specs.Width.{tree_width, trees_width};
 ghost use Rattle.time_fmt.specs.Description.{tree_outcome};
@@ -20,8 +20,8 @@ use time_fmt::writers::write_bytes;
 use time_fmt::{Refused, Sink, WriteStep, end_component, write_all, write_often, write_run};
 use time_provide::ComponentProvider;
 
-/// Writes the steps in order, up to the first that is refused, and returns its refusal. None has
-/// items of its own, so that none is left.
+/// Writes the steps in order, up to the first that is refused, and returns its refusal. The loop
+/// stops before none, so that none is left.
 #[inline(never)]
 pub fn write_steps<S: Sink, V: ComponentProvider>(
     steps: &[Step],
@@ -35,17 +35,22 @@ pub fn write_steps<S: Sink, V: ComponentProvider>(
         (S.buffer output.old) (S.buffer output.new) result }
     ensures agrees { V.agrees state.new value.now }
 {
-    write_all(steps, output, value, state)?;
+    write_all(steps, (), output, value, state)?;
     Ok(())
 }
 
-impl WriteStep for Step {
-    ghost tree_of = { step_tree };
+impl WriteStep<()> for Step {
+    ghost tree_of = { λ _ step. step_tree step };
 
-    ghost may_have_items = { λ _. false };
+    ghost is_valid = { λ _ _. true };
+
+    ghost may_stop = { λ _. false };
+
+    ghost has_room = { true };
 
     fn write_often<S: Sink, V: ComponentProvider>(
         &self,
+        _beside: (),
         output: &mut S,
         value: &V,
         state: &mut V::State,
@@ -62,6 +67,7 @@ impl WriteStep for Step {
 
     fn write_seldom<S: Sink, V: ComponentProvider>(
         &self,
+        _beside: (),
         output: &mut S,
         value: &V,
         state: &mut V::State,

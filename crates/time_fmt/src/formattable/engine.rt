@@ -33,7 +33,7 @@ pub(super) fn write_nodes<T: Node, S: Sink, V: ComponentProvider>(
     ensures agrees { V.agrees state.new value.now }
 {
     let mut left = nodes;
-    while let [node, behind @ ..] = write_all(left, output, value, state)? {
+    while let [node, behind @ ..] = write_all(left, (), output, value, state)? {
         write_inner(node, output, value, state)?;
         left = behind;
     }
@@ -60,15 +60,20 @@ fn write_inner<T: Node, S: Sink, V: ComponentProvider>(
 }
 
 /// Each node is a step.
-impl<T: Node> WriteStep for T {
-    ghost tree_of = { T.tree };
+impl<T: Node> WriteStep<()> for T {
+    ghost tree_of = { λ _ node. T.tree node };
 
-    ghost may_have_items = { λ _. true };
+    ghost is_valid = { λ _ _. true };
+
+    ghost may_stop = { λ _. true };
+
+    ghost has_room = { true };
 
     /// Writes a literal, or a component that is met often.
     #[inline(always)]
     fn write_often<S: Sink, V: ComponentProvider>(
         &self,
+        _beside: (),
         output: &mut S,
         value: &V,
         state: &mut V::State,
@@ -87,6 +92,7 @@ impl<T: Node> WriteStep for T {
     #[inline(always)]
     fn write_seldom<S: Sink, V: ComponentProvider>(
         &self,
+        _beside: (),
         output: &mut S,
         value: &V,
         state: &mut V::State,

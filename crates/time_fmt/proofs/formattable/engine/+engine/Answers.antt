@@ -1,52 +1,67 @@
-use Rattle.std.proofs.Common.{rules, sym}
+use Rattle.std.proofs.Common.{refl, rules, sym, true}
 use Rattle.std.proofs.lemmas.List.{take_rest}
 use Rattle.std.proofs.lemmas.Result.{err_from_is_err_and}
+use Rattle.time_below.specs.Width.{tree_width}
+use Rattle.time_fmt.specs.Sink.{Fits}
 use Rattle.time_fmt.proofs.GuaranteeLemmas.{text_of_component}
-use Rattle.time_fmt.proofs.Engine.{all_written, first_of_rest, first_smaller, less_rest, list_refused, no_trees, rest_of_rest, room_for_next, written_more, written_on}
+use Rattle.time_fmt.proofs.Engine.{all_written, first_of_rest, first_smaller, list_refused, no_steps, rest_refused, room_for_first, room_for_rest, written_from_the_start, written_more, written_on}
 use Rattle.time_fmt.proofs.Engine.{first_appends, no_first, appends_bytes, nothing_appends}
 use Rattle.time_fmt.proofs.formattable.engine.+engine.Goals as goal
+
+pub write_nodes-loop-node-init : goal.write_nodes-loop-node-init
+write_nodes-loop-node-init g t c = (c.requires.agrees, written_from_the_start _ _ _ _ _)
+
+pub write_nodes-write_all-requires-clause-room : goal.write_nodes-write_all-requires-clause-room
+write_nodes-write_all-requires-clause-room g t c =
+    room_for_rest true _ g.T.Node.tree _ _ _ _ _ c.requires.room c.loop-node.invariant.1
 
 -- what the loop found is what is left of all nodes
 pub write_nodes-write_inner-requires : goal.write_nodes-write_inner-requires
 write_nodes-write_inner-requires g t c κs within =
     let found = c.in_ok-write_all.field-0.now in
     let behind = take_rest found 1 in
-    let up_to = written_on _ _ _ _ _ _ _ c.loop-node.invariant.2 c.in_ok-write_all.ensures.written in
-    let next = first_of_rest g.T.Node.tree found _ c.node-item.result c.in-len1-up.len_at_least c.node-item.is behind in
-    let rest = rest_of_rest c.args.nodes.now c.loop-node.left.now found c.loop-node.invariant.1 c.in_ok-write_all.ensures.behind in
-    let room = room_for_next _ _ _ _ _ _ _ up_to next in
+    let up_to = written_on _ _ _ _ _ _ _ _ _ c.loop-node.invariant.1 c.in_ok-write_all.ensures.written in
+    let next = first_of_rest found _ c.node-item.result c.in-len1-up.len_at_least c.node-item.is behind in
+    let room : Fits (g.S.Sink.buffer c.write_all.new.output) (tree_width (g.T.Node.tree c.node-item.result)) =
+    room_for_first true g.T.Node.tree found _ _ (g.S.Sink.buffer c.write_all.new.output)
+    (room_for_rest true _ g.T.Node.tree _ c.args.nodes.now found (g.S.Sink.buffer c.args.output.now)
+    (g.S.Sink.buffer c.write_all.new.output) c.requires.room up_to) next in
     let agrees = c.write_all.ensures.agrees in
-    let smaller = first_smaller g.T.Node.size c.args.nodes.now found c.node-item.result rest c.in-len1-up.len_at_least c.node-item.is in
+    let smaller = first_smaller _ _ g.T.Node.size _ _ _ _ _ _ _ up_to next in
     search rules
 
--- a node that is refused ends the list
+-- a refusal in the loop ends the list, and so does a node that is refused
+pub write_nodes-returns-in_err-write_all-clause-appends :
+    goal.write_nodes-returns-in_err-write_all-clause-appends
+write_nodes-returns-in_err-write_all-clause-appends g t c =
+    let same = err_from_is_err_and c.from_residual.result c.from_residual.ensures.1 in
+    rw (same.1, same.2) (rest_refused _ _ _ _ _ _ _ _ c.loop-node.invariant.1 c.in_err-write_all.ensures.refused)
+
 pub write_nodes-returns-in_err-write_inner-clause-appends :
     goal.write_nodes-returns-in_err-write_inner-clause-appends
 write_nodes-returns-in_err-write_inner-clause-appends g t c =
     let found = c.in_ok-write_all.field-0.now in
     let behind = take_rest found 1 in
-    let up_to = written_on _ _ _ _ _ _ _ c.loop-node.invariant.2 c.in_ok-write_all.ensures.written in
-    let next = first_of_rest g.T.Node.tree found _ c.node-item.result c.in-len1-up.len_at_least c.node-item.is behind in
+    let up_to = written_on _ _ _ _ _ _ _ _ _ c.loop-node.invariant.1 c.in_ok-write_all.ensures.written in
+    let next = first_of_rest found _ c.node-item.result c.in-len1-up.len_at_least c.node-item.is behind in
     let same = err_from_is_err_and c.from_residual-in_err-write_inner.result c.from_residual-in_err-write_inner.ensures.1 in
-    rw (same.1, same.2) (list_refused _ _ _ _ _ _ _ _ up_to next c.in_err-write_inner.ensures.appends)
+    rw (same.1, same.2) (list_refused _ _ _ _ _ _ _ _ _ _ up_to next c.in_err-write_inner.ensures.appends)
 
 pub write_nodes-loop-node-preserved : goal.write_nodes-loop-node-preserved
 write_nodes-loop-node-preserved g t c =
     let found = c.in_ok-write_all.field-0.now in
     let behind = take_rest found 1 in
-    let up_to = written_on _ _ _ _ _ _ _ c.loop-node.invariant.2 c.in_ok-write_all.ensures.written in
-    let next = first_of_rest g.T.Node.tree found _ c.node-item.result c.in-len1-up.len_at_least c.node-item.is behind in
-    let rest = rest_of_rest c.args.nodes.now c.loop-node.left.now found c.loop-node.invariant.1 c.in_ok-write_all.ensures.behind in (
+    let up_to = written_on _ _ _ _ _ _ _ _ _ c.loop-node.invariant.1 c.in_ok-write_all.ensures.written in
+    let next = first_of_rest found _ c.node-item.result c.in-len1-up.len_at_least c.node-item.is behind in (
       c.in_ok-write_inner.ensures.agrees,
-      less_rest _ _ _ c.in-len1-up.len_at_least behind rest,
-      written_more _ _ _ _ _ _ _ _ up_to next c.in_ok-write_inner.ensures.appends,
+      written_more _ _ _ _ _ _ _ _ _ _ up_to next refl c.in_ok-write_inner.ensures.appends,
     )
 
 -- the end of the loop leaves nothing
 pub write_nodes-returns-clause-appends : goal.write_nodes-returns-clause-appends
 write_nodes-returns-clause-appends g t c =
-    all_written _ _ _ _ _ (no_trees g.T.Node.tree c.in_ok-write_all.field-0.now c.in_default.len_below)
-    (written_on _ _ _ _ _ _ _ c.loop-node.invariant.2 c.in_ok-write_all.ensures.written)
+    all_written _ _ _ _ _ _ _ (no_steps c.in_ok-write_all.field-0.now c.in_default.len_below)
+    (written_on _ _ _ _ _ _ _ _ _ c.loop-node.invariant.1 c.in_ok-write_all.ensures.written)
 
 -- each layer has the outcome and the capacity of its tree
 pub write_node-write_bytes-requires : goal.write_node-write_bytes-requires

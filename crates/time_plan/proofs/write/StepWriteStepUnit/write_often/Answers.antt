@@ -1,5 +1,5 @@
 use Rattle.time_plan.proofs.WriteLemmas.{step_ended, step_refused}
-use Rattle.time_plan.proofs.write.StepWriteStep.write_often.Goals as goal
+use Rattle.time_plan.proofs.write.StepWriteStepUnit.write_often.Goals as goal
 
 pub returns-in-Some-Ok-clause-appends : goal.returns-in-Some-Ok-clause-appends
 returns-in-Some-Ok-clause-appends g c =
