@@ -1,36 +1,42 @@
 -- Descriptions, item by item.
 use Rattle.std.proofs.Common.{◌≡◌, ◌≤◌, ◌<◌, ◌+◌, ◌-◌, ◌++◌, ℕ, min, List, [], ◌∷◌, length, drop, take, get_or, map}
-use Rattle.std.proofs.Common.{None, IfOk, Result, Ok, Err, sym, ap, ◌∙◌, arith, length-append, subst, true, false}
-use Rattle.std.specs.Prelude.{ℤ, pos, int_lt, is_some, unsigned_abs}
+use Rattle.std.proofs.Common.{Option, Some, None, IfOk, IfSome, IsSomeAnd, MatchOption, Result, Ok, Err, sym, ap, ◌∙◌, arith, length-append, refl, subst, true, false}
+use Rattle.std.specs.Prelude.{◌==◌, ◌&&◌, Bool, IsTrue, if◌then◌else◌, nat_le, ℤ, pos, int_lt, is_ok, is_some, slice_range, unsigned_abs}
+use Rattle.std.specs.List.{list_all}
+use Rattle.std.specs.Result.{result_unwrap_or}
 use Rattle.std.proofs.Math.Seq.{take-append_seam}
 use Rattle.std.proofs.lemmas.Grind.{common_steps}
 use Rattle.std.proofs.lemmas.List.{append-nil, at_drop_more, at_drop_all, length-drop}
-use Rattle.movaliren_c.specs.Answer.{IsReasonFor, IsRefusedFor, IsText}
-use Rattle.movaliren_c.specs.Items.{EndsItem, EndsRun, IsPut, IsShown, IsWithinWidth, PutsOrLoses, as_one, described, list_of, reason_before}
+use Rattle.movaliren_c.specs.Answer.{IsReasonFor, IsRefusedFor, IsText, Refuses}
+use Rattle.movaliren_c.specs.Items.{EndsItem, EndsRun, IsPut, IsShown, IsWithinWidth, PutsOrLoses, as_one, component_of, described, item_tree, list_of, reason_before, tree_or_nothing}
 use Rattle.movaliren_c.specs.Items.{first_part, run_before, second_part, third_part}
 use Rattle.movaliren_c.specs.Value.{with_value}
 use Rattle.movaliren_c.specs.declared.answers.reason.Reason.{Reason}
 use Rattle.movaliren_c.specs.declared.answers.reason.Reason.TheVariants as reason
+use Rattle.movaliren_c.specs.declared.described.item.Item.{Item}
 use Rattle.movaliren_c.specs.declared.described.run.Run.{Run}
 use Rattle.movaliren_c.specs.declared.described.run.Run.TheVariants as run
 use Rattle.time_below.specs.Facts.{Facts, the_date}
-use Rattle.time_below.specs.Tree.{Tree, trees, all_of}
-use Rattle.time_below.specs.Width.{component_width, tree_width, trees_width}
+use Rattle.time_below.specs.Tree.{Tree, trees, all_of, byte_literal, of_component}
+use Rattle.time_below.specs.Width.{component_width, is_guaranteed_text, tree_width, trees_width}
 use Rattle.time_below.specs.declared.format_description.component.Component.{Component}
 use Rattle.time_below.specs.declared.format_description.modifier.Padding.TheVariants as padding
 use Rattle.time_fmt.specs.Description.{component_outcome, tree_outcome, trees_outcome}
 use Rattle.time_fmt.specs.Ends.{Ends, refusal_of}
+use Rattle.time_fmt.specs.Guarantee.{AppendsLeaf, AppendsTree, IsTextIf}
 use Rattle.time_fmt.specs.Kind.{kind_outcome, extended_year, standard_year}
 use Rattle.time_fmt.specs.declared.error.Format.{Format}
 use Rattle.time_fmt.specs.declared.refused.Refused.{Refused}
 use Rattle.time_fmt.specs.Outcome.{IsAtTheStart, Names, Outcome, done, join}
 use Rattle.time_fmt.specs.Runs.{date_run, year_text}
 use Rattle.time_fmt.specs.Sink.{Buffer, Puts}
+use Rattle.time_fmt.specs.Steps.{IsWrittenUpTo}
 use Rattle.time_fmt.proofs.RunLemmas.{date_ends}
 use Rattle.time_fmt.proofs.TextLemmas.{signed_four}
-use Rattle.time_fmt.proofs.WriteLemmas.{join_done}
+use Rattle.time_fmt.proofs.Engine.{joined, width_joined}
+use Rattle.time_fmt.proofs.GuaranteeLemmas.{empty_utf8, text_of_component}
+use Rattle.time_fmt.proofs.WriteLemmas.{join_done, join_nothing}
 use Rattle.movaliren_c.proofs.BatchLemmas.{refused_first}
-use Rattle.movaliren_c.proofs.FlatLemmas.{alone, joined}
 
 -- what is left of a list begins with the member at its index
 next_of : {I A : Type 0} (f : I → Result A Reason) (items : List I) (i : ℕ) (d : I) → i < length items
@@ -81,15 +87,60 @@ pub ended : {u : Unit} (next : Result Tree Reason) (f : Facts) (now new : Buffer
     → IsPut next f now new (Ok 0)
 ended next f now new h = grind (arith, put_once)
 
+ended_step : (item : Result Tree Reason) (f : Facts) (old new : Buffer) (answer : Result Unit Refused)
+    → EndsItem item f old new answer
+    → Ends (tree_width (tree_or_nothing item)) old new answer (tree_outcome (tree_or_nothing item) f)
+ended_step (Ok t) f old new answer h = h
+ended_step (Err r) f old new answer h = absurd h
+
+-- what an item gives is a text, if its tree is sure to have one
+abbrev HasText : Result Tree Reason → Facts → Type 0
+HasText item f = IsTextIf (is_guaranteed_text (tree_or_nothing item)) (tree_outcome (tree_or_nothing item) f)
+
+either_has : (b : Bool) (x y : Result Tree Reason) (f : Facts) → HasText x f → HasText y f → HasText (if b then x else y) f
+either_has true x y f p q = p
+either_has false x y f p q = q
+
+literal_has : (bytes : List ℕ) (f : Facts) → HasText (Ok (byte_literal bytes)) f
+literal_has bytes f = λ no. let never : ⊥ = cc in absurd never
+
+component_has : (c : Result Component Reason) (f : Facts) → HasText (with_value c (λ c. Ok (of_component c))) f
+component_has (Ok c) f = λ yes. text_of_component c f
+component_has (Err r) f = λ yes. empty_utf8
+
+item_has : (texts : List ℕ) (i : Item) (f : Facts) → HasText (item_tree texts i) f
+item_has texts i f =
+    let is_there = nat_le i.start (length texts) && nat_le i.len (length texts - i.start) in
+    let bytes = slice_range texts i.start (i.start + i.len) in
+    let component = with_value (component_of i) (λ c. Ok (of_component c)) in
+    let none : HasText (Err reason.BadItem) f = λ yes. empty_utf8 in
+    either_has (i.kind == 255) (if is_there then Ok (byte_literal bytes) else Err reason.BadItem)
+    (if i.kind == 254 then Ok (byte_literal (i.byte ∷ [])) else component) f
+    (either_has is_there (Ok (byte_literal bytes)) (Err reason.BadItem) f (literal_has bytes f) none)
+    (either_has (i.kind == 254) (Ok (byte_literal (i.byte ∷ []))) component f (literal_has (i.byte ∷ []) f)
+    (component_has (component_of i) f))
+
+-- what ended is a valid step
+pub leaf_of_item : (texts : List ℕ) (i : Item) (f : Facts) (old new : Buffer) (written : Option (Result Unit Refused))
+    → MatchOption written (new ≡ old) (λ answer. EndsItem (item_tree texts i) f old new answer)
+    → AppendsLeaf (tree_or_nothing (item_tree texts i)) f old new written
+leaf_of_item texts i f old new None same = same
+leaf_of_item texts i f old new (Some answer) h = record {
+  ends = ended_step (item_tree texts i) f old new answer h;
+  text = item_has texts i f;
+}
+
+pub valid_item : (N : Type 0) (item : Result Tree Reason) (f : Facts) (old new : Buffer) (written : Option (Result Unit Refused))
+    → MatchOption written N (λ answer. EndsItem item f old new answer) → IfSome written (λ answer. IsTrue (is_ok item))
+valid_item N item f old new None h = tt
+valid_item N (Ok t) f old new (Some answer) h = refl
+valid_item N (Err r) f old new (Some answer) h = absurd h
+
 -- ---- texts, one after another
 
 put_both : (old now new : Buffer) (lost more total : ℕ) (a b : List ℕ) → PutsOrLoses old now lost a
     → PutsOrLoses now new more b → total ≡ min (lost + more) 0xffff_ffff_ffff_ffff → PutsOrLoses old new total (a ++ b)
 put_both old now new lost more total a b first second sum = grind (arith, common_steps)
-
-width_joined : (a b : List Tree) → trees_width (trees (a ++ b)) ≡ trees_width (trees a) + trees_width (trees b)
-width_joined [] b = omega arith
-width_joined (t ∷ ts) b = omega (arith, width_joined ts b)
 
 trees_put : (front next : List Tree) (f : Facts) (old now new : Buffer) (lost more total : ℕ)
     → IsPut (Ok (all_of (trees front))) f old now (Ok lost) → IsPut (Ok (all_of (trees next))) f now new (Ok more)
@@ -139,7 +190,7 @@ more_put next left behind old now new lost more total f all begin state step sum
 
 alone_put : (t : Tree) (f : Facts) (old new : Buffer) (lost : ℕ) → IsPut (Ok t) f old new (Ok lost)
     → IsPut (Ok (all_of (trees (t ∷ [])))) f old new (Ok lost)
-alone_put t f old new lost put = grind (arith, alone)
+alone_put t f old new lost put = grind (arith, join_nothing)
 
 -- an item whose text was put or lost
 pub one_more : {before after : Type 0} {I : Type 0} (g : I → Result Tree Reason) (items behind : List I) (d : I)
@@ -152,6 +203,38 @@ one_more g items behind d (Err r) old now new lost more total f all some is_behi
 one_more g items behind d (Ok t) old now new lost more total f all some is_behind there state step sum so_far =
     more_put (t ∷ []) (list_of (map g items)) (list_of (map g behind)) old now new lost more total f all
     (rw is_behind (next_there g items 0 d t (omega (arith, some)) there)) state (alone_put t f now new more step) sum so_far
+
+one_listed : (next : Result Tree Reason) (are_valid : Bool) (items : List (Result Tree Reason)) (ts : List Tree)
+    (behind : Result (List Tree) Reason) → (is_ok next && are_valid) ≡ true
+    → (are_valid ≡ true → list_of items ≡ with_value behind (λ others. Ok (ts ++ others)))
+    → list_of (next ∷ items) ≡ with_value behind (λ others. Ok (tree_or_nothing next ∷ (ts ++ others)))
+one_listed (Ok t) are_valid items ts behind valid is =
+    ap (λ (rest : Result (List Tree) Reason). with_value rest (λ others. Ok (t ∷ others))) (is valid) ∙ further (t ∷ []) ts behind
+one_listed (Err r) are_valid items ts behind valid is = let no : false ≡ true = valid in let never : ⊥ = cc in absurd never
+
+none_listed : (behind : Result (List Tree) Reason) → behind ≡ with_value behind (λ others. Ok others)
+none_listed (Ok others) = refl
+none_listed (Err r) = refl
+
+-- valid items have trees, in front of those behind them
+listed : {I : Type 0} (g : I → Result Tree Reason) (front behind : List I) → IsTrue (list_all (λ i. is_ok (g i)) front)
+    → list_of (map g (front ++ behind))
+    ≡ with_value (list_of (map g behind)) (λ others. Ok (map (λ i. tree_or_nothing (g i)) front ++ others))
+listed g [] behind valid = none_listed (list_of (map g behind))
+listed g (i ∷ is) behind valid =
+    one_listed (g i) (list_all (λ i. is_ok (g i)) is) (map g (is ++ behind)) (map (λ i. tree_or_nothing (g i)) is)
+    (list_of (map g behind)) valid (listed g is behind)
+
+-- the items that the loop wrote
+pub steps_more : {before after : Type 0} {I : Type 0} (g : I → Result Tree Reason) (items left : List I)
+    (old now new : Buffer) (lost : ℕ) (f : Facts) (all : Result (List Tree) Reason) → after
+    → IsWrittenUpTo (λ i. is_ok (g i)) (λ i. tree_or_nothing (g i)) f items left now new
+    → SoFar before old now lost f all (list_of (map g items)) → SoFar after old new lost f all (list_of (map g left))
+steps_more g items left old now new lost f all state up_to so_far =
+    let next = map (λ i. tree_or_nothing (g i)) up_to.front in
+    more_put next (list_of (map g items)) (list_of (map g left)) old now new lost 0 lost f all
+    (ap (λ is. list_of (map g is)) up_to.whole ∙ listed g up_to.front left up_to.valid) state
+    (ended (Ok (all_of (trees next))) f now new up_to.appends.ends) (omega (arith, so_far.put.2.small)) so_far
 
 -- a date or a time of day that ended
 pub run_more : {before after : Type 0} {I : Type 0} (g : I → Result Tree Reason) (items behind : List I) (r : Run) (x y : ℕ)
@@ -203,7 +286,7 @@ standard_date_ends r x y f old new is there small beside_year most put =
 -- a list of one component is the component
 pub in_array : (o : Outcome) (count : ℕ) (old new : List ℕ) → IsAtTheStart old new (Ok count) (join o (done []))
     → (o.refusal ≡ None) × (take count new ≡ o.bytes) × (length o.bytes ≡ count)
-in_array o count old new put = grind (arith, alone, take-append_seam)
+in_array o count old new put = grind (arith, join_nothing, take-append_seam)
 
 -- ---- the end
 
@@ -213,6 +296,24 @@ refused_of : (all behind : Result (List Tree) Reason) (front : List Tree) (t : T
     → IsPut (as_one all) f old new (Err (reason_before all r))
 refused_of all behind front t f r old new h k l = grind (arith, joined, join_done, refused_first)
 
+refused_in : {refused : Refused} (left all : Result (List Tree) Reason) (front next : List Tree) (f : Facts) (r : Reason)
+    (old now mid new : Buffer) → ((ts : List Tree) → left ≡ Ok ts → ts ≡ next)
+    → (trees_outcome (trees front) f).refusal ≡ None → AppendsTree (all_of (trees next)) f now mid (Err refused)
+    → Refuses r (refusal_of refused) → all ≡ with_value left (λ others. Ok (front ++ others))
+    → IsPut (as_one all) f old new (Err (reason_before all r))
+refused_in (Err invalid) all front next f r old now mid new same complete appends why begin =
+    let is : all ≡ Err invalid = begin in
+    subst (λ (d : Result (List Tree) Reason). IsPut (as_one d) f old new (Err (reason_before d r))) (sym is) refl
+refused_in {refused = refused} (Ok ts) all front next f r old now mid new same complete appends why begin =
+    let is : all ≡ Ok (front ++ next) = begin ∙ ap (λ (others : List Tree). Ok (front ++ others)) (same ts refl) in
+    let whole : (trees_outcome (trees (front ++ next)) f).refusal ≡ (trees_outcome (trees next) f).refusal =
+    ap (λ (o : Outcome). o.refusal) (joined front next f ∙ join_done (trees_outcome (trees front) f) (trees_outcome (trees next) f) complete) in
+    let there : (trees_outcome (trees (front ++ next)) f).refusal ≡ Some (refusal_of refused) =
+    whole ∙ sym appends.ends.refusal in
+    let names : IsSomeAnd (Some (refusal_of refused)) (Refuses r) = why in
+    subst (λ (d : Result (List Tree) Reason). IsPut (as_one d) f old new (Err (reason_before d r))) (sym is)
+    (subst (λ refusal. IsSomeAnd refusal (Refuses r)) (sym there) names)
+
 -- an item ends all
 pub stops_here : {agrees : Type 0} {I : Type 0} (g : I → Result Tree Reason) (items : List I) (d : I)
     (next : Result Tree Reason) (old now mid new : Buffer) (lost : ℕ) (f : Facts) (all : Result (List Tree) Reason) (r : Reason)
@@ -220,6 +321,36 @@ pub stops_here : {agrees : Type 0} {I : Type 0} (g : I → Result Tree Reason) (
     → SoFar agrees old now lost f all (list_of (map g items)) → IsPut (as_one all) f old new (Err (reason_before all r))
 stops_here g items d next old now mid new lost f all r h k l p =
     grind (arith, common_steps, refused_of, next_there, next_not_there)
+
+behind_tree : (t : Tree) (rest : Result (List Tree) Reason) (ts all : List Tree)
+    → ((others : List Tree) → rest ≡ Ok others → others ≡ all) → with_value rest (λ others. Ok (t ∷ others)) ≡ Ok ts
+    → ts ≡ t ∷ all
+behind_tree t (Ok others) ts all same is =
+    sym (ap (λ (r : Result (List Tree) Reason). result_unwrap_or r []) is) ∙ ap (λ (rest : List Tree). t ∷ rest) (same others refl)
+behind_tree t (Err r) ts all same is = let never : ⊥ = cc in absurd never
+
+first_tree : (next : Result Tree Reason) (items : List (Result Tree Reason)) (ts all : List Tree)
+    → ((others : List Tree) → list_of items ≡ Ok others → others ≡ all) → list_of (next ∷ items) ≡ Ok ts
+    → ts ≡ tree_or_nothing next ∷ all
+first_tree (Ok t) items ts all same is = behind_tree t (list_of items) ts all same is
+first_tree (Err r) items ts all same is = let never : ⊥ = cc in absurd never
+
+-- all items are valid, so each has its tree
+all_listed : {I : Type 0} (g : I → Result Tree Reason) (items : List I) (ts : List Tree) → list_of (map g items) ≡ Ok ts
+    → ts ≡ map (λ i. tree_or_nothing (g i)) items
+all_listed g [] ts is = sym (ap (λ (r : Result (List Tree) Reason). result_unwrap_or r []) is)
+all_listed g (i ∷ is) ts h =
+    first_tree (g i) (map g is) ts (map (λ i. tree_or_nothing (g i)) is) (all_listed g is) h
+
+-- a refusal in the loop ends all
+pub refused_here : {agrees : Type 0} {refused : Refused} {I : Type 0} (g : I → Result Tree Reason) (items : List I)
+    (old now mid new : Buffer) (lost : ℕ) (f : Facts) (all : Result (List Tree) Reason) (r : Reason)
+    → AppendsTree (all_of (trees (map (λ i. tree_or_nothing (g i)) items))) f now mid (Err refused)
+    → Refuses r (refusal_of refused) → SoFar agrees old now lost f all (list_of (map g items))
+    → IsPut (as_one all) f old new (Err (reason_before all r))
+refused_here g items old now mid new lost f all r appends why so_far =
+    refused_in (list_of (map g items)) all so_far.front (map (λ i. tree_or_nothing (g i)) items) f r old now mid new
+    (all_listed g items) so_far.put.0 appends why so_far.begin
 
 -- a refusal that is named ends an item
 pub ended_refused : (next : Result Tree Reason) (f : Facts) (now new : Buffer) (answer : Result Unit Refused)
@@ -234,6 +365,21 @@ pub run_alone : {agrees : Type 0} {I : Type 0} (g : I → Result Tree Reason) (i
     → EndsRun r x y f old new → IsPut (as_one (list_of (map g items))) f old new (Ok 0)
 run_alone {agrees = agrees} g items r x y old new f state five begin ends =
     grind (arith, common_steps, length-drop, at_drop_all, append-nil, run_more, nothing_so_far)
+
+-- where no item is left, all are put or lost
+pub all_put : {agrees : Type 0} {I : Type 0} (g : I → Result Tree Reason) (left : List I) (old now : Buffer) (lost : ℕ)
+    (f : Facts) (all : Result (List Tree) Reason) → length left < 1 → SoFar agrees old now lost f all (list_of (map g left))
+    → IsPut (as_one all) f old now (Ok lost)
+all_put g [] old now lost f all none so_far =
+    let is : all ≡ Ok so_far.front = so_far.begin ∙ ap Ok (append-nil so_far.front) in
+    subst (λ (description : Result (List Tree) Reason). IsPut (as_one description) f old now (Ok lost)) (sym is) so_far.put
+all_put g (i ∷ is) old now lost f all none so_far = let no : ⊥ = omega (arith, none) in absurd no
+
+-- a reason is that of what is shown
+pub refusal_shown : (all : Result (List Tree) Reason) (f : Facts) (r : Reason) (old new : Buffer) (before after : List ℕ)
+    → IsPut (as_one all) f old new (Err r) → IsShown all f (Err r) before after
+refusal_shown (Ok ts) f r old new before after h = h
+refusal_shown (Err invalid) f r old new before after h = h
 
 -- so they are shown at the start of the buffer
 pub put_shown : (all : Result (List Tree) Reason) (f : Facts) (lost count : ℕ) (old new : Buffer) (before after : List ℕ)

@@ -2,7 +2,6 @@
 use Rattle.std.proofs.Common.{◌≡◌, ◌<◌, ◌+◌, ◌++◌, ℕ, Bool, true, List, [], ◌∷◌, length, Option, Some, None, refl, sym, ap, ◌∙◌, append_assoc, arith}
 use Rattle.std.specs.Prelude.{IsTrue}
 use Rattle.std.proofs.lemmas.Bool.{and_parts, eqb-true}
-use Rattle.std.proofs.lemmas.List.{append-nil}
 use Rattle.movaliren_c.specs.Flat.{all_flat, closed_at, first_shown, flat, flat_items, hidden_at, or_at, shown_in}
 use Rattle.time_below.specs.Facts.{Facts}
 use Rattle.time_below.specs.Tree.{Tree, Trees, trees, byte_literal, text_literal, of_component, all_of, first_of, nothing, end, more}
@@ -11,28 +10,18 @@ use Rattle.time_describe.specs.Literal.{literal_of}
 use Rattle.time_describe.specs.Reading.{Frame}
 use Rattle.time_fmt.specs.Description.{tree_outcome, trees_outcome}
 use Rattle.time_fmt.specs.Outcome.{Outcome, done, join}
+use Rattle.time_fmt.proofs.Engine.{joined}
+use Rattle.time_fmt.proofs.WriteLemmas.{join_nothing}
 use Rattle.std.proofs.lemmas.Grind.{common_steps}
 
 -- ---- outcomes
 
-pub join_assoc : (a b c : Outcome) → join (join a b) c ≡ join a (join b c)
-join_assoc a b c = grind (arith, common_steps, append_assoc)
-
-pub alone : (a : Outcome) → join a (done []) ≡ a
-alone a = grind (arith, common_steps, append-nil)
-
-pub joined : (a b : List Tree) (f : Facts) → trees_outcome (trees (a ++ b)) f ≡ join (trees_outcome (trees a) f) (trees_outcome (trees b) f)
-joined [] b f = refl
-joined (t ∷ ts) b f =
-    ap (join (tree_outcome t f)) (joined ts b f)
-    ∙ sym (join_assoc (tree_outcome t f) (trees_outcome (trees ts) f) (trees_outcome (trees b) f))
-
 -- what is flat gives the same
 mutual
   flat_same : (t : Tree) (f : Facts) → trees_outcome (trees (flat t)) f ≡ tree_outcome t f
-  flat_same (byte_literal bytes) f = alone (done bytes)
-  flat_same (text_literal text) f = alone (done text)
-  flat_same (of_component c) f = alone (tree_outcome (of_component c) f)
+  flat_same (byte_literal bytes) f = join_nothing (done bytes)
+  flat_same (text_literal text) f = join_nothing (done text)
+  flat_same (of_component c) f = join_nothing (tree_outcome (of_component c) f)
   flat_same (all_of ts) f = all_flat_same ts f
   flat_same (first_of end) f = refl
   flat_same (first_of (more t ts)) f = flat_same t f

@@ -4,14 +4,15 @@ use Rattle.std.proofs.lemmas.Bool.{lt-ltb}
 use Rattle.std.proofs.lemmas.List.{map-append, take_more_set}
 use Rattle.std.proofs.lemmas.Str.{IsUtf8-from_ascii, is_utf8-from_IsUtf8}
 use Rattle.std.specs.Str.{is_utf8}
-use Rattle.movaliren_c.proofs.FlatLemmas.{alone, join_assoc, joined}
 use Rattle.movaliren_c.specs.Items.{trees_of}
 use Rattle.movaliren_c.specs.Steps.{AreStepsOf, Begins, steps_outcome}
 use Rattle.movaliren_c.specs.declared.answers.reason.Reason.{Reason}
 use Rattle.movaliren_c.specs.declared.described.item.Item.{Item}
 use Rattle.time_below.specs.Facts.{Facts}
 use Rattle.time_below.specs.Tree.{Tree, trees}
+use Rattle.time_fmt.proofs.Engine.{joined}
 use Rattle.time_fmt.proofs.GuaranteeLemmas.{ascii_test}
+use Rattle.time_fmt.proofs.WriteLemmas.{join_assoc, join_nothing}
 use Rattle.time_fmt.specs.Description.{tree_outcome, trees_outcome}
 use Rattle.time_fmt.specs.Outcome.{Outcome, done, join}
 use Rattle.time_plan_read.proofs.StepLemmas.{parts_outcome}
@@ -66,7 +67,7 @@ one_more : (steps : List StepParts) (p : StepParts) (f : Facts)
 one_more steps p f =
     ap (λ (ts : List Tree). trees_outcome (trees ts) f) (map-append parts_tree steps (p ∷ []))
     ∙ joined (map parts_tree steps) (parts_tree p ∷ []) f
-    ∙ ap (join (steps_outcome steps f)) (alone (tree_outcome (parts_tree p) f))
+    ∙ ap (join (steps_outcome steps f)) (join_nothing (tree_outcome (parts_tree p) f))
 
 -- a step that is kept behind the others
 pub begins_by_more : (whole mid rest : Result (List Tree) Reason) (room : List StepParts) (count : ℕ) (p : StepParts)
@@ -86,7 +87,7 @@ begins_by_all whole steps begins =
     map_ok whole
     (λ all. (f : Facts) → trees_outcome (trees all) f ≡ join (steps_outcome steps f) (done []))
     (λ all. (f : Facts) → trees_outcome (trees all) f ≡ steps_outcome steps f)
-    (λ all h f. h f ∙ alone (steps_outcome steps f)) (begins.gives [] refl)
+    (λ all h f. h f ∙ join_nothing (steps_outcome steps f)) (begins.gives [] refl)
 
 -- ---- the bytes between the parts of a date or of a time of day
 

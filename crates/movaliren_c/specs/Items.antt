@@ -12,7 +12,7 @@ use Rattle.movaliren_c.specs.declared.answers.reason.Reason.TheVariants as reaso
 use Rattle.movaliren_c.specs.declared.described.run.Run.{Run}
 use Rattle.movaliren_c.specs.declared.described.run.Run.TheVariants as run
 use Rattle.time_below.specs.Facts.{Facts}
-use Rattle.time_below.specs.Tree.{Tree, trees, all_of, byte_literal, of_component}
+use Rattle.time_below.specs.Tree.{Tree, trees, all_of, byte_literal, nothing, of_component}
 use Rattle.time_below.specs.Width.{tree_width, trees_width}
 use Rattle.time_below.specs.declared.format_description.component.Component.{Component}
 use Rattle.time_below.specs.declared.format_description.component.Component.TheVariants as component
@@ -116,6 +116,11 @@ list_of (Ok a ∷ rest) = with_value (list_of rest) (λ others. Ok (a ∷ others
 abbrev pub trees_of : List ℕ → List Item → Result (List Tree) Reason
 trees_of texts items = list_of (map (item_tree texts) items)
 
+-- the tree of a valid item, and nothing for any other
+abbrev pub tree_or_nothing : Result Tree Reason → Tree
+tree_or_nothing (Ok t) = t
+tree_or_nothing (Err invalid) = nothing
+
 -- the tree of a part
 abbrev pub part_tree : Part → Tree
 part_tree (part.Text bytes) = byte_literal bytes.now
@@ -194,6 +199,11 @@ pub record EndsFirst (texts : List ℕ) (items : List Item) (f : Facts) (old new
 abbrev pub reason_before : Result (List Tree) Reason → Reason → Reason
 reason_before (Ok ts) r = r
 reason_before (Err invalid) r = invalid
+
+-- an answer, whose reason is this one where there is a description
+abbrev pub answer_before : Result (List Tree) Reason → Result ℕ Reason → Result ℕ Reason
+answer_before description (Ok n) = Ok n
+answer_before description (Err r) = Err (reason_before description r)
 
 -- A text was put, or it is longer than the room, and has so many bytes more than were put. Both numbers are up to the
 -- greatest `usize`.

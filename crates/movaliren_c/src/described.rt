@@ -3,11 +3,12 @@
 //! Without `inline(always)` the compiler leaves calls of the functions that have it. `cold` and
 //! `inline(never)` keep long or rare bodies out of their callers.
 ghost use Rattle.std.specs.Prelude.{◌≡◌, ◌≤◌, ◌<◌, ◌+◌, ◌∷◌, IfNone, IfOk, IfSome, IsFalse, IsTrue};
-ghost use Rattle.std.specs.Prelude.{MatchOption, Ok, [], length, slice_range};
+ghost use Rattle.std.specs.Prelude.{MatchOption, Ok, [], false, is_ok, length, slice_range, true};
 ghost use Rattle.movaliren_c.specs.Answer.{Answers};
 ghost use Rattle.movaliren_c.specs.Items.{EndsFirst, EndsItem, EndsRun, IsDescribed, IsPut};
-ghost use Rattle.movaliren_c.specs.Items.{IsShown, PutsOrLoses, as_one, item_tree, part_tree};
-ghost use Rattle.movaliren_c.specs.Items.{reason_before, trees_of, width_answer};
+ghost use Rattle.movaliren_c.specs.Items.{IsShown, PutsOrLoses, answer_before, as_one, item_tree};
+ghost use Rattle.movaliren_c.specs.Items.{part_tree, reason_before, tree_or_nothing, trees_of};
+ghost use Rattle.movaliren_c.specs.Items.{width_answer};
 ghost use Rattle.movaliren_c.specs.Utc.{local_value};
 ghost use Rattle.movaliren_c.specs.Value.{date_value, moment_value, timestamp_value};
 ghost use Rattle.time_below.specs.Facts.{Facts, facts_of_date, facts_of_offset_date_time};
@@ -30,15 +31,15 @@ use crate::answers::reason::{Reason, answer_number, reason_of};
 use crate::answers::room::copy_text;
 use crate::described::item::{Item, Part, part_of, text_of};
 use crate::described::local_parts::{FirstState, local_parts_at, local_parts_of};
-use crate::described::run::{Run, begins_with_run, head_of, run_of};
+use crate::described::run::{Run, head_of, run_of};
 use crate::values::moment::{Moment, date_value, timestamp_value};
 use std::marker::Brand;
 use time_below::format_description::modifier::Padding;
 use time_below::format_description::{component_width, modifier};
 use time_fmt::writers::write_bytes;
 use time_fmt::{
-    Before, Modifier, Refused, RoomSink, Sink, end_component, write_date, write_into_room,
-    write_part, write_time,
+    Before, Modifier, Refused, RoomSink, Sink, WriteStep, end_component, write_all, write_date,
+    write_into_room, write_part, write_time,
 };
 use time_provide::ComponentProvider;
 
@@ -163,7 +164,7 @@ pub fn write_described<V: FirstState>(
         return Ok(count);
     }
     let mut line = [0u8; SHORT];
-    match write_chosen::<Brand, V>(items, texts, &value, &mut line) {
+    match write_items::<Brand, V>(items, texts, &value, &mut line) {
         Ok(count) if count <= SHORT => copy_text(&line[..count], room),
         Ok(count) if count <= room.len() => write_long::<Brand, V>(items, texts, &value, room),
         Ok(_) => Err(Reason::BufferTooSmall),
@@ -202,7 +203,7 @@ fn write_alone<B: Before, V: FirstState>(
 {
     let mut output = RoomSink::<B>::new(room);
     let mut state = value.first_state();
-    if write_run::<RoomSink<'_, B>, V, true>(items, texts, &mut output, value, &mut state) {
+    if write_run(items, texts, &mut output, value, &mut state) {
         Some(output.len())
     } else {
         None
@@ -222,32 +223,13 @@ pub fn write_long<B: Before, V: FirstState>(
     requires before { room.old ≡ B.before }
     ensures { IsShown (trees_of texts.now items.now) (V.facts value.now) result room.old room.new }
 {
-    write_items::<B, V, false>(items, texts, value, room)
-}
-
-/// Writes the text of the items to the start of a buffer, or as much of it as fits, by the loop
-/// that is chosen for them. Returns the number of bytes of the whole text, up to the greatest
-/// `usize`.
-fn write_chosen<B: Before, V: FirstState>(
-    items: &[Item],
-    texts: &[u8],
-    value: &V,
-    room: &mut [u8],
-) -> Result<usize, Reason>
-    requires before { room.old ≡ B.before }
-    ensures { IsShown (trees_of texts.now items.now) (V.facts value.now) result room.old room.new }
-{
-    if begins_with_run(items) {
-        write_items::<B, V, true>(items, texts, value, room)
-    } else {
-        write_items::<B, V, false>(items, texts, value, room)
-    }
+    write_items::<B, V>(items, texts, value, room)
 }
 
 /// Writes the text of the items to the start of a buffer, or as much of it as fits. Returns the
 /// number of bytes of the whole text, up to the greatest `usize`.
 #[inline(never)]
-fn write_items<B: Before, V: FirstState, const HAS_RUNS: bool>(
+fn write_items<B: Before, V: FirstState>(
     items: &[Item],
     texts: &[u8],
     value: &V,
@@ -257,53 +239,71 @@ fn write_items<B: Before, V: FirstState, const HAS_RUNS: bool>(
     ensures { IsShown (trees_of texts.now items.now) (V.facts value.now) result room.old room.new }
 {
     let mut output = RoomSink::<B>::new(room);
-    let lost = put_items::<RoomSink<'_, B>, V, HAS_RUNS>(items, texts, &mut output, value)?;
-    Ok(output.len().saturating_add(lost))
+    match put_items(items, texts, &mut output, value) {
+        Ok(lost) => Ok(output.len().saturating_add(lost)),
+        Err(reason) => Err(first_reason(items, texts, reason)),
+    }
 }
 
 /// Writes the texts of the items into a sink, but for those that do not fit. Returns their number
-/// of bytes, up to the greatest `usize`.
-fn put_items<S: Sink, V: FirstState, const HAS_RUNS: bool>(
+/// of bytes, up to the greatest `usize`. An item before which the loop stops is written by a call.
+/// A reason is that of the first item that is invalid or refused.
+fn put_items<S: Sink, V: FirstState>(
     items: &[Item],
     texts: &[u8],
     output: &mut S,
     value: &V,
 ) -> Result<usize, Reason>
-    ensures puts { IsPut (as_one (trees_of texts.now items.now)) (V.facts value.now)
-        (S.buffer output.old) (S.buffer output.new) result }
+    ensures puts { let all = trees_of texts.now items.now in IsPut (as_one all) (V.facts value.now)
+        (S.buffer output.old) (S.buffer output.new) (answer_before all result) }
     ensures lender { IfOk result (λ _. (S.buffer output.new).block.lender ≡ (S.buffer output.old).block.lender) }
 {
     let mut state = value.first_state();
     let mut lost = 0usize;
     let mut left = items;
-    while let [item, behind @ ..] = left {
-        if write_run::<S, V, HAS_RUNS>(left, texts, output, value, &mut state) {
-            left = &left[5..];
-            continue;
-        }
-        match write_usual(item, texts, output, value, &mut state) {
-            Some(Ok(())) => {}
-            Some(Err(refused)) => return Err(first_reason(items, texts, reason_of(refused.into()))),
-            None => {
-                let mut apart = output.take_out();
-                let answer = write_item(item, texts, &mut apart, value, &mut state);
-                output.put_back(apart);
-                match answer {
-                    Ok(more) => lost = lost.saturating_add(more),
-                    Err(reason) => return Err(first_reason(items, texts, reason)),
-                }
-            }
-        }
+    while let [item, behind @ ..] = write_all(left, texts, output, value, &mut state)? {
+        lost = lost.saturating_add(write_item(item, texts, output, value, &mut state)?);
         left = behind;
     }
     Ok(lost)
 }
 
-/// Writes the date or the time of day at the front of the items, if the loop looks for them, there
-/// is one, the value has it and its text fits. Returns whether it was written. It becomes part of
-/// the loop. Where that looks for them, each other item costs more.
+/// Each item is a step. It is read with the bytes that items name. It looks for room itself.
+impl<'a> WriteStep<&'a [u8]> for Item {
+    ghost tree_of = { λ texts item. tree_or_nothing (item_tree texts.now item) };
+
+    ghost is_valid = { λ texts item. is_ok (item_tree texts.now item) };
+
+    ghost may_stop = { λ _. true };
+
+    ghost has_room = { false };
+
+    fn write_often<S: Sink, V: ComponentProvider>(
+        &self,
+        texts: &'a [u8],
+        output: &mut S,
+        value: &V,
+        state: &mut V::State,
+    ) -> Option<Result<(), Refused>> {
+        write_usual(self, texts, output, value, state)
+    }
+
+    /// None: the loop stops before an item that is not met often.
+    fn write_seldom<S: Sink, V: ComponentProvider>(
+        &self,
+        _texts: &'a [u8],
+        _output: &mut S,
+        _value: &V,
+        _state: &mut V::State,
+    ) -> Option<Result<(), Refused>> {
+        None
+    }
+}
+
+/// Writes the date or the time of day at the front of the items, if there is one, the value has it
+/// and its text fits. Returns whether it was written.
 #[inline(always)]
-fn write_run<S: Sink, V: ComponentProvider, const HAS_RUNS: bool>(
+fn write_run<S: Sink, V: ComponentProvider>(
     items: &[Item],
     texts: &[u8],
     output: &mut S,
@@ -316,9 +316,6 @@ fn write_run<S: Sink, V: ComponentProvider, const HAS_RUNS: bool>(
     ensures nothing { IsFalse result → S.buffer output.new ≡ S.buffer output.old }
     ensures agrees { V.agrees state.new value.now }
 {
-    if !HAS_RUNS {
-        return false;
-    }
     match run_of(items, texts) {
         Some((run, between)) => write_parts(run, between, output, value, state),
         None => false,

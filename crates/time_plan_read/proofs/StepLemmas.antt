@@ -6,7 +6,8 @@ use Rattle.time_below.specs.Facts.{Facts}
 use Rattle.time_below.specs.Tree.{byte_literal, nothing, of_component}
 use Rattle.time_fmt.specs.Description.{tree_outcome}
 use Rattle.time_fmt.specs.Outcome.{Outcome, done, join}
-use Rattle.time_plan.proofs.StepLemmas.{join_nothing, step_outcome}
+use Rattle.time_fmt.proofs.WriteLemmas.{join_nothing}
+use Rattle.time_plan.proofs.StepLemmas.{step_outcome}
 use Rattle.time_plan.specs.Literal.{literal_bytes, literal_tree}
 use Rattle.time_plan.specs.Shown.{shown_tree}
 use Rattle.time_plan.specs.Steps.{step_tree}

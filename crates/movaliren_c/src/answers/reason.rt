@@ -2,10 +2,11 @@
 ghost use Rattle.std.specs.Prelude.{◌≡◌, ◌<◌, IfOk};
 ghost use Rattle.movaliren_c.specs.Answer.{answer_number, reason_number, IsReasonFor, Refuses};
 ghost use Rattle.movaliren_c.specs.Value.{flag_at};
+ghost use Rattle.time_fmt.specs.Ends.{refusal_of};
 ghost use Rattle.time_fmt.specs.Outcome.{invalid_component};
 ghost use Rattle.time_known.specs.Accepted.{component_name};
 
-use time_fmt::Format;
+use time_fmt::{Format, Refused};
 use time_known::accepted::OutOfRange;
 
 /// The reason why there is no text. A call returns its number, below zero.
@@ -125,5 +126,14 @@ impl From<OutOfRange> for Reason {
             OutOfRange::OffsetMinute => Reason::FormatOffsetMinute,
             OutOfRange::OffsetSecond => Reason::FormatOffsetSecond,
         }
+    }
+}
+
+/// The reason of what the formatter refuses.
+impl From<Refused> for Reason {
+    ghost from_gives = { λ refused reason. Refuses reason (refusal_of refused) };
+
+    fn from(refused: Refused) -> Reason {
+        reason_of(refused.into())
     }
 }

@@ -18,20 +18,6 @@ pub enum Run {
     Time,
 }
 
-/// Whether one of the first two items begins a date or a time of day, as in most descriptions that
-/// have one.
-pub fn begins_with_run(items: &[Item]) -> bool {
-    match items {
-        [first, second, ..] => is_first_of_run(first) || is_first_of_run(second),
-        _ => false,
-    }
-}
-
-/// Whether an item may begin a date or a time of day.
-fn is_first_of_run(item: &Item) -> bool {
-    item.kind == 13 || item.kind == 14 || item.kind == 24
-}
-
 /// The date or the time of day that the first five items are, if they are one, and the bytes
 /// between its parts.
 pub fn run_of(items: &[Item], texts: &[u8]) -> Option<(Run, (u8, u8))>

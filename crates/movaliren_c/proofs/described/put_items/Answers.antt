@@ -1,54 +1,52 @@
-use Rattle.std.proofs.Common.{refl, arith}
+use Rattle.std.proofs.Common.{ap, refl, arith}
 use Rattle.std.proofs.lemmas.List.{take_rest}
-use Rattle.movaliren_c.specs.Items.{trees_of}
-use Rattle.movaliren_c.proofs.DescribedLemmas.{ended, ended_refused, nothing_so_far, one_more, run_more, stops_here}
+use Rattle.std.proofs.lemmas.Result.{err_from_is_err_and}
+use Rattle.time_fmt.specs.Sink.{Block}
+use Rattle.movaliren_c.specs.Items.{item_tree, trees_of}
+use Rattle.movaliren_c.proofs.DescribedLemmas.{all_put, nothing_so_far, one_more, refused_here, steps_more, stops_here}
 use Rattle.movaliren_c.proofs.described.put_items.Goals as goal
 
-pub loop-left-init : goal.loop-left-init
-loop-left-init g c = grind (arith, nothing_so_far)
+pub loop-state-init : goal.loop-state-init
+loop-state-init g c = grind (arith, nothing_so_far)
 
-pub loop-left-preserved-then-write_run : goal.loop-left-preserved-then-write_run
-loop-left-preserved-then-write_run g c =
-    let run = c.write_run.ensures.ends c.if-write_run.true in
-    run_more {after = g.V.ComponentProvider.agrees c.write_run.new.state c.args.value.now}
-    _ c.loop-left.left.now _ run.run run.first run.second (g.S.Sink.buffer c.args.output.now)
-    (g.S.Sink.buffer c.loop-left.output) (g.S.Sink.buffer c.write_run.new.output) c.loop-left.lost
-    (g.V.ComponentProvider.facts c.args.value.now) (trees_of c.args.texts.now c.args.items.now)
-    (take_rest c.loop-left.left.now 5) c.write_run.ensures.agrees run.begin run.ends c.loop-left.invariant
+-- a refusal in the loop
+pub returns-in_err-write_all-clause-puts : goal.returns-in_err-write_all-clause-puts
+returns-in_err-write_all-clause-puts g c =
+    let p = err_from_is_err_and c.from_residual.result c.from_residual.ensures.1 in
+    rw p.1 (refused_here (item_tree c.args.texts.now) c.loop-state.left.now _ _ _ _ _ _
+    (trees_of c.args.texts.now c.args.items.now) p.0 c.in_err-write_all.ensures.refused p.2 c.loop-state.invariant)
 
-pub returns-in-Some-Err-clause-puts : goal.returns-in-Some-Err-clause-puts
-returns-in-Some-Err-clause-puts g c =
-    let so_far = rw (← (c.write_run.ensures.nothing c.if-write_run.false)) at c.loop-left.invariant in
-    let ends = ended_refused _ (g.V.ComponentProvider.facts c.args.value.now) (g.S.Sink.buffer c.write_run.new.output)
-    (g.S.Sink.buffer c.write_usual.new.output) c.in-Some-Err.field-0 c.in-Some-Err.refused _ c.reason_of.result
-    c.in-Some-Err.field-0-is c.in-Some-Err.ensures.writes
-    (rw c.in-Some-Err.refused-is at c.into.ensures) c.reason_of.ensures in
-    rw c.first_reason.ensures (stops_here _ c.loop-left.left.now _ _ _ _ _ _ _ _ (trees_of c.args.texts.now c.args.items.now) _
-    c.in-len1-up.len_at_least refl ends so_far)
+-- what the loop found is what is left of all items
+pub returns-in_err-write_item-clause-puts : goal.returns-in_err-write_item-clause-puts
+returns-in_err-write_item-clause-puts g c =
+    let found = c.in_ok-write_all.field-0.now in
+    let so_far = steps_more (item_tree c.args.texts.now) c.loop-state.left.now found _ _ _ _ _
+    (trees_of c.args.texts.now c.args.items.now) c.write_all.ensures.agrees c.in_ok-write_all.ensures.written c.loop-state.invariant in
+    let p = err_from_is_err_and c.from_residual-in_err-write_item.result c.from_residual-in_err-write_item.ensures.1 in
+    rw (p.1, p.2) (stops_here _ found _ _ _ _ _ _ _ _ (trees_of c.args.texts.now c.args.items.now) _
+    c.in-len1-up.len_at_least refl c.in_err-write_item.ensures.put so_far)
 
-pub returns-in-Err-clause-puts : goal.returns-in-Err-clause-puts
-returns-in-Err-clause-puts g c =
-    let so_far = rw (← (c.write_run.ensures.nothing c.if-write_run.false)) at c.loop-left.invariant in
-    rw c.first_reason-in-Err.ensures (stops_here _ c.loop-left.left.now _ _ _ _ _ _ _ _
-    (trees_of c.args.texts.now c.args.items.now) _ c.in-len1-up.len_at_least refl
-    (rw (c.take_out-apart.ensures.taken, c.in-None.ensures.writes) at c.in-Err.ensures.put) so_far)
+pub loop-state-preserved : goal.loop-state-preserved
+loop-state-preserved g c =
+    let found = c.in_ok-write_all.field-0.now in
+    let so_far = steps_more (item_tree c.args.texts.now) c.loop-state.left.now found _ _ _ _ _
+    (trees_of c.args.texts.now c.args.items.now) c.write_all.ensures.agrees c.in_ok-write_all.ensures.written c.loop-state.invariant in
+    one_more {after = g.V.ComponentProvider.agrees c.write_item.new.state c.args.value.now}
+    _ found _ _ _ _ _ _ _ _ _ _ (trees_of c.args.texts.now c.args.items.now) c.in-len1-up.len_at_least
+    (take_rest found 1) refl c.in_ok-write_item.ensures.agrees c.in_ok-write_item.ensures.put
+    c.saturating_add-lost.ensures so_far
 
-pub loop-left-preserved-in-Some-Ok : goal.loop-left-preserved-in-Some-Ok
-loop-left-preserved-in-Some-Ok g c =
-    let so_far = rw (← (c.write_run.ensures.nothing c.if-write_run.false)) at c.loop-left.invariant in
-    one_more {after = g.V.ComponentProvider.agrees c.write_usual.new.state c.args.value.now}
-    _ c.loop-left.left.now _ _ _ _ _ _ _ 0 _ _ (trees_of c.args.texts.now c.args.items.now) c.in-len1-up.len_at_least
-    (take_rest c.loop-left.left.now 1) refl c.in-Some-Ok.ensures.agrees
-    (ended _ (g.V.ComponentProvider.facts c.args.value.now) (g.S.Sink.buffer c.write_run.new.output)
-    (g.S.Sink.buffer c.write_usual.new.output) (rw c.in-Some-Ok.field-0-is at c.in-Some-Ok.ensures.writes))
-    (omega (arith, so_far.put.2.small)) so_far
+-- the end of the loop leaves nothing
+pub returns-clause-puts : goal.returns-clause-puts
+returns-clause-puts g c =
+    let found = c.in_ok-write_all.field-0.now in
+    let so_far = steps_more (item_tree c.args.texts.now) c.loop-state.left.now found _ _ _ _ _
+    (trees_of c.args.texts.now c.args.items.now) c.write_all.ensures.agrees c.in_ok-write_all.ensures.written c.loop-state.invariant in
+    all_put _ found _ _ _ _ _ c.in_default.len_below so_far
 
-pub loop-left-preserved : goal.loop-left-preserved
-loop-left-preserved g c =
-    let so_far = rw (← (c.write_run.ensures.nothing c.if-write_run.false)) at c.loop-left.invariant in
-    rw c.put_back.ensures.put
-    (one_more {after = g.V.ComponentProvider.agrees c.write_item-answer.new.state c.args.value.now}
-    _ c.loop-left.left.now _ _ _ _ _ _ _ _ _ _ (trees_of c.args.texts.now c.args.items.now) c.in-len1-up.len_at_least
-    (take_rest c.loop-left.left.now 1) refl c.in-Ok.ensures.agrees
-    (rw (c.take_out-apart.ensures.taken, c.in-None.ensures.writes) at c.in-Ok.ensures.put)
-    c.saturating_add-lost.ensures so_far)
+pub returns-clause-lender : goal.returns-clause-lender
+returns-clause-lender g c =
+    let found = c.in_ok-write_all.field-0.now in
+    let so_far = steps_more (item_tree c.args.texts.now) c.loop-state.left.now found _ _ _ _ _
+    (trees_of c.args.texts.now c.args.items.now) c.write_all.ensures.agrees c.in_ok-write_all.ensures.written c.loop-state.invariant in
+    ap (λ (b : Block). b.lender) so_far.put.2.block

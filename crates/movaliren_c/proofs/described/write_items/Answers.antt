@@ -1,10 +1,12 @@
 use Rattle.std.proofs.Common.{arith}
-use Rattle.movaliren_c.proofs.DescribedLemmas.{put_shown}
+use Rattle.movaliren_c.proofs.DescribedLemmas.{put_shown, refusal_shown}
+use Rattle.movaliren_c.specs.Items.{trees_of}
 use Rattle.time_fmt.proofs.RoomLemmas.{room_written}
 use Rattle.movaliren_c.proofs.described.write_items.Goals as goal
 
-pub returns-in_err-lost : goal.returns-in_err-lost
-returns-in_err-lost g c = grind (arith, room_written, put_shown)
+pub returns-in-Ok : goal.returns-in-Ok
+returns-in-Ok g c = grind (arith, room_written, put_shown)
 
-pub returns : goal.returns
-returns g c = grind (arith, room_written, put_shown)
+pub returns-in-Err : goal.returns-in-Err
+returns-in-Err g c =
+    rw c.first_reason.ensures (refusal_shown (trees_of c.args.texts.now c.args.items.now) _ _ _ _ _ _ c.in-Err.ensures.puts)
