@@ -248,6 +248,11 @@ def kinds_of_header():
     for number, name, choices in kinds():
         shown = [CHOICES[choice] for choice in choices if choice in CHOICES]
         lines += [comment(said[name], shown), f"    MOVALIREN_KIND_{upper(short(name))} = {number},"]
+    between = "with the byte `start` before the {} and the byte `len` before the {}, both below 128"
+    time = f"the hour, the minute and the second, each in two places, {between.format('minute', 'second')}"
+    lines += [comment(time), "    MOVALIREN_KIND_TIME_OF_DAY = 252,"]
+    date = "as MOVALIREN_KIND_YEAR_EXTENDED, MOVALIREN_KIND_MONTH and MOVALIREN_KIND_DAY by zeros"
+    lines += [comment(f"a date {date}, {between.format('month', 'day')}"), "    MOVALIREN_KIND_DATE = 253,"]
     lines += [comment("the byte in the field `byte`"), "    MOVALIREN_KIND_BYTE = 254,"]
     lines += [comment("len bytes of the texts, from start on"), "    MOVALIREN_KIND_TEXT = 255"]
     return "enum movaliren_kind {\n" + "\n".join(lines) + "\n};"

@@ -231,6 +231,13 @@ class Interfaces:
         flags = findall(r"(\d+) => Ok\((true|false)\)", *self.rattle)
         self.same("a flag", [("0", "false"), ("1", "true")] * (len(flags) // 2), flags)
 
+    def other_kinds(self):
+        """The kinds of what is no component and is not cut from the texts."""
+        kinds = self.header_numbers("kind")
+        header = {"byte": kinds["byte"], "date": kinds["date"], "time": kinds["timeofday"]}
+        rattle = findall(r"(\d+) => Ok\(Part::(?:Shown\(Shown::Run\(Run::)?(Byte|Date|Time)\b", *self.rattle)
+        self.same("the kinds of a byte, a date and a time of day", header, {words(name): int(number) for number, name in rattle})
+
     def structs(self):
         for name, fields in interface.structs(*self.rattle).items():
             header = fields_of(r"(\w+) (\w+)(?:\[(\d+)\])?;", f"struct movaliren_{interface.struct_name(name)}", self.c)
@@ -320,7 +327,7 @@ class Interfaces:
     def compared(self, stops=False):
         """All differences, or those of the first check that has one."""
         checks = (
-            self.uses, self.structs, self.usual_flags, self.choices, self.words, self.lengths, self.version,
+            self.uses, self.structs, self.usual_flags, self.choices, self.other_kinds, self.words, self.lengths, self.version,
             self.borders, self.places, self.tests, self.counts,
         )
         for check in checks:

@@ -49,10 +49,14 @@ static movaliren_item made[16];
 static movaliren_parse_error fault;
 static const char brackets[] = "[year]-[month]-[day] [hour]:[minute]:[second]", conversions[] = "%Y-%m-%d %H:%M:%S";
 
-static movaliren_item items[11], names[7];
+// The eleven items of the conversions and the five of their date, as they are read, and as they are built.
+static movaliren_item items[16], date_items[16], built[11], names[7];
+static size_t items_len, date_len;
 static char texts[5], name_texts[8];
-static movaliren_description line = MOVALIREN_BUILDER_INIT(items, texts);
+static movaliren_description line = MOVALIREN_BUILDER_INIT(built, texts);
 static movaliren_description day = MOVALIREN_BUILDER_INIT(names, name_texts);
+
+#define ITEMS items, items_len, conversions, sizeof conversions - 1
 
 static uint64_t next()
 {
@@ -90,10 +94,12 @@ static void fill()
     build(line);
     movaliren_parse_error none;
     log_count = size_t(movaliren_items_parse_strftime(log_form, sizeof log_form - 1, log_items, 16, &none));
+    items_len = size_t(movaliren_items_parse_strftime(conversions, sizeof conversions - 1, items, 16, &none));
+    date_len = size_t(movaliren_items_parse_strftime(conversions, sizeof "%Y-%m-%d" - 1, date_items, 16, &none));
     for (auto &moment : moments) {
         movaliren_items_format_local(log_items, log_count, log_form, sizeof log_form - 1, moment.seconds, 0, 0,
             log_texts[&moment - moments], 26);
-        movaliren_items_format_utc(items, 11, texts, 5, moment.seconds, 0, line_texts[&moment - moments], 19);
+        movaliren_items_format_utc(ITEMS, moment.seconds, 0, line_texts[&moment - moments], 19);
     }
     // Sunday, 22 November 2026
     movaliren_description_add_with(&day, MOVALIREN_KIND_WEEKDAY_LONG, MOVALIREN_PAD_ZERO, 0, 0);
@@ -346,17 +352,18 @@ static const struct {
         MANY(movaliren_iso8601_with_utc_batch(&milliseconds, ALL_UTC, ALL_OUT)) },
     { "iso8601_with_batch:three-decimals", 0, MANY(movaliren_iso8601_with_batch(&milliseconds, ALL_PARTS, ALL_OUT)) },
 
-    { "items_format_utc:11-items", ONE(movaliren_items_format_utc(items, 11, texts, 5, NOW, OUT)), 0 },
+    { "items_format_utc:11-items", ONE(movaliren_items_format_utc(ITEMS, NOW, OUT)), 0 },
     NO_DECIMALS("items_format_utc:11-items", 0, DATE " " CLOCK),
     { "items_format_utc:11-items/snprintf", ONE(by_snprintf(moment, 0, "%d-%02d-%02d " PRINTED_CLOCK, 1)), 0 },
-    { "items_format_local:11-items", ONE(movaliren_items_format_local(items, 11, texts, 5, NOW, EAST, OUT)), 0 },
+    { "items_format_utc:built", ONE(movaliren_items_format_utc(built, 11, texts, 5, NOW, OUT)), 0 },
+    { "items_format_local:11-items", ONE(movaliren_items_format_local(ITEMS, NOW, EAST, OUT)), 0 },
     NO_DECIMALS("items_format_local:11-items", EAST, DATE " " CLOCK),
     { "items_format_local:11-items/snprintf", ONE(by_snprintf(moment, EAST, "%d-%02d-%02d " PRINTED_CLOCK, 1)), 0 },
-    { "items_format:11-items", BY_PARTS(movaliren_items_format(items, 11, texts, 5, &value, OUT)), 0 },
+    { "items_format:11-items", BY_PARTS(movaliren_items_format(ITEMS, &value, OUT)), 0 },
     NO_DECIMALS("items_format:11-items", 0, DATE " " CLOCK),
     { "items_format:11-items/snprintf", ONE(by_snprintf(moment, 0, "%d-%02d-%02d " PRINTED_CLOCK, 1)), 0 },
     { "items_format_date:5-items",
-        BY_PARTS(movaliren_items_format_date(items, 5, texts, 5, value.year, value.month, value.day, OUT)), 0 },
+        BY_PARTS(movaliren_items_format_date(date_items, date_len, conversions, sizeof conversions - 1, value.year, value.month, value.day, OUT)), 0 },
     NO_DECIMALS("items_format_date:5-items", 0, DATE),
     { "items_format_date:5-items/snprintf", ONE(by_snprintf(moment, 0, "%d-%02d-%02d", 1)), 0 },
     { "items_format_utc:names", ONE(movaliren_items_format_utc(names, 7, name_texts, 4, NOW, OUT)), 0 },
@@ -377,8 +384,8 @@ static const struct {
     NO_DECIMALS("format_strftime_utc:11-items", 0, DATE " " CLOCK),
     { "format_strftime_local:11-items", ONE(movaliren_format_strftime_local(conversions, sizeof conversions - 1, NOW, EAST, OUT)), 0 },
     NO_DECIMALS("format_strftime_local:11-items", EAST, DATE " " CLOCK),
-    { "items_format_utc_length:11-items", ONE(movaliren_items_format_utc_length(items, 11, texts, 5, NOW)), 0 },
-    { "items_max_length:11-items", ONE(movaliren_items_max_length(items, 11, texts, 5)), 0 },
+    { "items_format_utc_length:11-items", ONE(movaliren_items_format_utc_length(ITEMS, NOW)), 0 },
+    { "items_max_length:11-items", ONE(movaliren_items_max_length(ITEMS)), 0 },
     { "items_max_length:names", ONE(movaliren_items_max_length(names, 7, name_texts, 4)), 0 },
     { "read_rfc3339", ONE(movaliren_read_rfc3339(READ_TEXT, &read_moment, &read_place)), 0 },
     { "read_rfc3339_utc", ONE(movaliren_read_rfc3339_utc(READ_TEXT, &read_utc, &read_place)), 0 },
@@ -394,7 +401,7 @@ static const struct {
     { "read_iso8601_with_utc", ONE(movaliren_read_iso8601_with_utc(&nanoseconds, ISO_TEXT, &read_utc, &read_place)), 0 },
     { "items_read:nginx", ONE(movaliren_items_read(log_items, log_count, log_form, sizeof log_form - 1, LOG_TEXT, &read_moment, &read_place)), 0 },
     { "items_read:nginx/strptime", ONE(by_strptime(log_texts[&moment - moments], log_form)), 0 },
-    { "items_read_utc:11-items", ONE(movaliren_items_read_utc(items, 11, texts, 5, LINE_TEXT, &read_utc, &read_place)), 0 },
+    { "items_read_utc:11-items", ONE(movaliren_items_read_utc(ITEMS, LINE_TEXT, &read_utc, &read_place)), 0 },
     { "items_read_utc:11-items/strptime", ONE(by_strptime(line_texts[&moment - moments], conversions)), 0 },
     { "building:11-items", ONE((build(line), moment.nanosecond)), 0 },
     { "building:8000-items", ONE(build_long(8000)), 0 },

@@ -551,7 +551,8 @@ struct movaliren_progress movaliren_rfc2822_local_batch(const struct movaliren_u
  *
  * In brackets a component is one item, an escaped byte is one, and so is the text between two of these. The items of an
  * `optional` stand in its place, and of a `first` those of its first list. A conversion of strftime is at most 13 items,
- * as %c is, and the text between two conversions is one. */
+ * as %c is, and the text between two conversions is one. The array has room for so many. A date and a time of day, as
+ * %Y-%m-%d and %H:%M:%S, are then one item each, and not five. */
 
 /* An item: movaliren_items.h says what its numbers mean. */
 struct movaliren_item {
@@ -560,8 +561,8 @@ struct movaliren_item {
     uint8_t flag;    /* 0 or 1 */
     uint8_t digits;  /* of a second: 0 for as many as are needed, or 1 to 9 */
     uint8_t byte;    /* of MOVALIREN_KIND_BYTE; of another kind any number */
-    size_t start;    /* of a text */
-    size_t len;
+    size_t start;    /* of a text; of a date or a time of day the byte before its second part */
+    size_t len;      /* of a text; of a date or a time of day the byte before its third part */
 };
 
 /* Why a text is no description. */

@@ -95,6 +95,17 @@ static const struct {
     { movaliren_description_parse, "\\[[day padding:none]\\] \\[\\\\", "[21] [\\", "[21] [\\", "[21] [\\" },
     { movaliren_description_parse, "[year base:iso_week]-W[week_number]-[weekday repr:monday]", "1997-W47-5",
         "1997-W47-5", "1997-W47-5" },
+    /* a date and a time of day with other bytes, with more behind them, and what is like one */
+    { movaliren_description_parse_strftime, "%H.%M:%S", "09.55:06", "15.55:06", 0 },
+    { movaliren_description_parse_strftime, "%Y/%m\x7f%d", "1997/11\x7f""21", "1997/11\x7f""21", "1997/11\x7f""21" },
+    { movaliren_description_parse_strftime, "%Y-%m-%d%Y", "1997-11-211997", "1997-11-211997", "1997-11-211997" },
+    { movaliren_description_parse_strftime, "%H:%M:%S:%M:%S", "09:55:06:55:06", "15:55:06:55:06", 0 },
+    { movaliren_description_parse_strftime, "%H:%M:%H:%M:%S", "09:55:09:55:06", "15:55:15:55:06", 0 },
+    { movaliren_description_parse_strftime, "%H\xff%M:%S", "09\xff""55:06", "15\xff""55:06", 0 },
+    { movaliren_description_parse_strftime, "%-H:%M:%S %k:%M:%S", "9:55:06  9:55:06", "15:55:06 15:55:06", 0 },
+    { movaliren_description_parse_strftime, "%H: %M:%S", "09: 55:06", "15: 55:06", 0 },
+    { movaliren_description_parse, "[year sign:mandatory]-[month]-[day]", "+1997-11-21", "+1997-11-21", "+1997-11-21" },
+    { movaliren_description_parse, "[year]\\\\[month][optional [-[day]]]", "1997\\11-21", "1997\\11-21", "1997\\11-21" },
     { movaliren_description_parse, "\xe6\x97\xa5 [hour repr:12]", "\xe6\x97\xa5 09", "\xe6\x97\xa5 03", 0 },
     { movaliren_description_parse, "[first [[month]/[first [[day]] [x]]] [[hour]]][optional [ in [year]]][first]", "11/21 in 1997",
         "11/21 in 1997", "11/21 in 1997" },
@@ -234,6 +245,38 @@ static void try_faults(void)
     }
 }
 
+/* A date and a time of day are one item each. */
+static void try_joined(void)
+{
+    struct movaliren_item items[11];
+    char copy_line[512];
+    struct movaliren_description line = MOVALIREN_DESCRIPTION_INIT(items, copy_line);
+    expect_true(movaliren_description_parse_strftime(&line, "%Y-%m/%d %H:%M.%S") == 0, "eleven items", "refused");
+    expect_true(line.items_len == 3, "eleven items", "not joined");
+    expect_true(items[0].kind == MOVALIREN_KIND_DATE && items[0].start == '-' && items[0].len == '/', "a date", "another item");
+    expect_true(items[2].kind == MOVALIREN_KIND_TIME_OF_DAY && items[2].start == ':' && items[2].len == '.', "a time", "another item");
+    expect_true(movaliren_description_has_component(&line), "a date", "no component");
+    expect_true(movaliren_description_max_length(&line) == 13 + 1 + 8, "eleven items", "another width");
+    expect_text(by, &line, &mail, "1997-11/21 09:55.06");
+}
+
+/* Dates of years that need a sign, and of those that the standard range refuses. */
+static void try_years(void)
+{
+    static const struct movaliren_moment late = MOMENT(12345, 1, 2, 0, 0, 0, 0, 0, 0, 0),
+                                         last = MOMENT(-999999, 12, 31, 0, 0, 0, 0, 0, 0, 0),
+                                         before = MOMENT(-44, 3, 15, 0, 0, 0, 0, 0, 0, 0);
+    struct movaliren_item items[5];
+    struct movaliren_description line = MOVALIREN_BORROWER_INIT(items);
+    expect_true(movaliren_description_borrow(&line, "[year]-[month]-[day]") == 0, "a date", "refused");
+    expect_text(by_date, &line, &late, "+12345-01-02");
+    expect_text(by, &line, &last, "-999999-12-31");
+    expect_text(by_date, &line, &before, "-0044-03-15");
+    expect_true(movaliren_description_borrow(&line, "[year range:standard]-[month]-[day]") == 0, "a date", "refused");
+    expect_error(by_date, &line, &late, MOVALIREN_ERROR_OUT_OF_RANGE);
+    expect_text(by_date, &line, &before, "-0044-03-15");
+}
+
 /* A description before its text is read, one of more items than its array has, and what is added to one that was read. */
 static void try_rooms(void)
 {
@@ -255,6 +298,9 @@ static void try_rooms(void)
         } else {
             expect_true(movaliren_description_parse_strftime(&line, "%H:%M:%S") == 0, "five items", "refused");
             expect_text(by, &line, &mail, "09:55:06");
+            for (int i = 0; i < 4; i++)
+                movaliren_description_add_text(&line, "x");
+            expect_text(by, &line, &mail, "09:55:06xxxx");
             movaliren_description_add_text(&line, "x");
             expect_refused(&line, MOVALIREN_ERROR_BUFFER_TOO_SMALL, "a sixth item");
         }
@@ -592,6 +638,8 @@ int main(void)
     try_components();
     try_usual_arrays();
     try_nothing();
+    try_joined();
+    try_years();
     try_rooms();
     try_adding();
     try_many();

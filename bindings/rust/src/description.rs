@@ -142,8 +142,8 @@ pub struct Date {
 
 /// A list of literals and components. It formats a [`Moment`], a [`UtcMoment`], a [`LocalMoment`] and a [`Date`].
 ///
-/// Two descriptions are equal if their items are. [`description!`](crate::description) makes one that is
-/// a constant.
+/// Two descriptions are equal if their items are. A date or a time of day that was read from a text, as by
+/// [`Description::parse`], is one item, and not five. [`description!`](crate::description) makes one that is a constant.
 ///
 /// ```
 /// use movaliren::{Date, Description, Format, Kind, Padding};

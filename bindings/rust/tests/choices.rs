@@ -307,6 +307,35 @@ fn a_description_from_a_text_is_the_one_of_its_items() {
 }
 
 #[test]
+fn a_date_and_a_time_of_a_text_are_those_of_their_parts() {
+    let parts = description![
+        Kind::YearExtended,
+        "-",
+        Kind::Month,
+        "/",
+        Kind::Day,
+        " ",
+        Kind::Hour,
+        ":",
+        Kind::Minute,
+        ".",
+        Kind::Second
+    ];
+    let joined = Description::parse_strftime("%Y-%m/%d %H:%M.%S").unwrap();
+    let first = Moment::new(2026, 11, 22).at(9, 55, 6, 0);
+    assert_eq!(joined.format(&first).unwrap(), "2026-11/22 09:55.06");
+    for moment in [first, Moment::new(-44, 3, 15), Moment::new(12_345, 1, 2)] {
+        assert_eq!(joined.format(&moment), parts.format(&moment));
+        let text = joined.format(&moment).unwrap();
+        assert_eq!(
+            joined.read::<UtcMoment>(text.as_bytes()),
+            parts.read(text.as_bytes())
+        );
+    }
+    assert_eq!(joined.width(), parts.width());
+}
+
+#[test]
 fn a_text_that_is_no_description_has_its_reason_and_byte() {
     for (text, reason, byte, words) in [
         (

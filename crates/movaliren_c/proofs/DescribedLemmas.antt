@@ -1,41 +1,43 @@
 -- Descriptions, item by item.
 use Rattle.std.proofs.Common.{◌≡◌, ◌≤◌, ◌<◌, ◌+◌, ◌-◌, ◌++◌, ℕ, min, List, [], ◌∷◌, length, drop, take, get_or, map}
 use Rattle.std.proofs.Common.{Option, Some, None, IfOk, IfSome, IsSomeAnd, MatchOption, Result, Ok, Err, sym, ap, ◌∙◌, arith, length-append, refl, subst, true, false}
-use Rattle.std.specs.Prelude.{◌==◌, ◌&&◌, Bool, IsTrue, if◌then◌else◌, nat_le, ℤ, pos, int_lt, is_ok, is_some, slice_range, unsigned_abs}
-use Rattle.std.specs.List.{list_all}
+use Rattle.std.specs.Prelude.{◌==◌, ◌&&◌, Bool, IsTrue, if◌then◌else◌, is_ok, nat_le, nat_lt, slice_range}
 use Rattle.std.specs.Result.{result_unwrap_or}
+use Rattle.std.specs.Str.{is_utf8}
+use Rattle.std.specs.List.{list_all}
 use Rattle.std.proofs.Math.Seq.{take-append_seam}
 use Rattle.std.proofs.lemmas.Grind.{common_steps}
-use Rattle.std.proofs.lemmas.List.{append-nil, at_drop_more, at_drop_all, length-drop}
+use Rattle.std.proofs.lemmas.List.{append-nil, at_drop_more}
+use Rattle.std.proofs.lemmas.Str.{IsUtf8-from_ascii, is_utf8-from_IsUtf8}
 use Rattle.movaliren_c.specs.Answer.{IsReasonFor, IsRefusedFor, IsText, Refuses}
-use Rattle.movaliren_c.specs.Items.{EndsItem, EndsRun, IsPut, IsShown, IsWithinWidth, PutsOrLoses, as_one, component_of, described, item_tree, list_of, reason_before, tree_or_nothing}
-use Rattle.movaliren_c.specs.Items.{first_part, run_before, second_part, third_part}
+use Rattle.movaliren_c.specs.Items.{EndsItem, IsPut, IsShown, IsWithinWidth, PutsOrLoses, Shows, as_one, component_of, described, item_tree, list_of, part_tree, parted_tree, reason_before, tree_or_nothing}
 use Rattle.movaliren_c.specs.Value.{with_value}
 use Rattle.movaliren_c.specs.declared.answers.reason.Reason.{Reason}
 use Rattle.movaliren_c.specs.declared.answers.reason.Reason.TheVariants as reason
 use Rattle.movaliren_c.specs.declared.described.item.Item.{Item}
-use Rattle.movaliren_c.specs.declared.described.run.Run.{Run}
-use Rattle.movaliren_c.specs.declared.described.run.Run.TheVariants as run
-use Rattle.time_below.specs.Facts.{Facts, the_date}
+use Rattle.movaliren_c.specs.declared.described.item.Part.{Part}
+use Rattle.movaliren_c.specs.declared.described.item.Part.TheVariants as part
+use Rattle.time_below.specs.Facts.{Facts}
 use Rattle.time_below.specs.Tree.{Tree, trees, all_of, byte_literal, of_component}
 use Rattle.time_below.specs.Width.{component_width, is_guaranteed_text, tree_width, trees_width}
 use Rattle.time_below.specs.declared.format_description.component.Component.{Component}
-use Rattle.time_below.specs.declared.format_description.modifier.Padding.TheVariants as padding
-use Rattle.time_fmt.specs.Description.{component_outcome, tree_outcome, trees_outcome}
+use Rattle.time_fmt.specs.Description.{tree_outcome, trees_outcome}
 use Rattle.time_fmt.specs.Ends.{Ends, refusal_of}
 use Rattle.time_fmt.specs.Guarantee.{AppendsLeaf, AppendsTree, IsTextIf}
-use Rattle.time_fmt.specs.Kind.{kind_outcome, extended_year, standard_year}
 use Rattle.time_fmt.specs.declared.error.Format.{Format}
 use Rattle.time_fmt.specs.declared.refused.Refused.{Refused}
-use Rattle.time_fmt.specs.Outcome.{IsAtTheStart, Names, Outcome, done, join}
-use Rattle.time_fmt.specs.Runs.{date_run, year_text}
+use Rattle.time_fmt.specs.Outcome.{Names, Outcome}
 use Rattle.time_fmt.specs.Sink.{Buffer, Puts}
 use Rattle.time_fmt.specs.Steps.{IsWrittenUpTo}
-use Rattle.time_fmt.proofs.RunLemmas.{date_ends}
-use Rattle.time_fmt.proofs.TextLemmas.{signed_four}
+use Rattle.time_fmt.specs.declared.runs.Run.TheVariants as run
 use Rattle.time_fmt.proofs.Engine.{joined, width_joined}
-use Rattle.time_fmt.proofs.GuaranteeLemmas.{empty_utf8, text_of_component}
+use Rattle.time_fmt.specs.Runs.{year_part, month_part, day_part, hour_part, minute_part, second_part, three_parts}
+use Rattle.time_fmt.proofs.GuaranteeLemmas.{ascii_test, empty_utf8, text_of_component}
+use Rattle.time_fmt.proofs.RunLemmas.{three_are_text}
 use Rattle.time_fmt.proofs.WriteLemmas.{join_done, join_nothing}
+use Rattle.time_plan.specs.Shown.{shown_tree}
+use Rattle.time_plan.specs.declared.shown.Shown.{Shown}
+use Rattle.time_plan.specs.declared.shown.Shown.TheVariants as shown
 use Rattle.movaliren_c.proofs.BatchLemmas.{refused_first}
 
 -- what is left of a list begins with the member at its index
@@ -73,6 +75,13 @@ summed_more f items i d t greatest left next all inside there is summed = grind 
 pub component_fits : (c : Component) → component_width c ≤ 18
 component_fits c = grind (arith, common_steps)
 
+-- nor is a date or a time of day
+pub shown_fits : (s : Shown) → tree_width (shown_tree s) ≤ 18
+shown_fits (shown.Component c) = component_fits c
+shown_fits (shown.Run run.Empty) = omega arith
+shown_fits (shown.Run (run.Date between)) = omega arith
+shown_fits (shown.Run (run.Time between)) = omega arith
+
 -- a text that was put
 pub put_once : (old new : Buffer) (text : List ℕ) → Puts old new (length text) text → PutsOrLoses old new 0 text
 put_once old new text put = grind arith
@@ -108,17 +117,33 @@ component_has : (c : Result Component Reason) (f : Facts) → HasText (with_valu
 component_has (Ok c) f = λ yes. text_of_component c f
 component_has (Err r) f = λ yes. empty_utf8
 
+ascii_text : (b : ℕ) → nat_lt b 128 ≡ true → is_utf8 (b ∷ []) ≡ true
+ascii_text b small = is_utf8-from_IsUtf8 (b ∷ []) (IsUtf8-from_ascii (b ∷ []) (ascii_test (b ∷ []) (rw small refl)))
+
+parted_has : (is_first is_second : Bool) (p q r : Component) (x y : ℕ) (f : Facts) → nat_lt x 128 ≡ is_first
+    → nat_lt y 128 ≡ is_second → HasText (if is_first && is_second then Ok (three_parts p x q y r) else Err reason.BadItem) f
+parted_has true true p q r x y f first second = three_are_text p q r x y f (ascii_text x first) (ascii_text y second)
+parted_has true false p q r x y f first second = λ yes. empty_utf8
+parted_has false is_second p q r x y f first second = λ yes. empty_utf8
+
 item_has : (texts : List ℕ) (i : Item) (f : Facts) → HasText (item_tree texts i) f
 item_has texts i f =
     let is_there = nat_le i.start (length texts) && nat_le i.len (length texts - i.start) in
     let bytes = slice_range texts i.start (i.start + i.len) in
+    let date = parted_tree year_part month_part day_part i in
+    let time = parted_tree hour_part minute_part second_part i in
     let component = with_value (component_of i) (λ c. Ok (of_component c)) in
     let none : HasText (Err reason.BadItem) f = λ yes. empty_utf8 in
     either_has (i.kind == 255) (if is_there then Ok (byte_literal bytes) else Err reason.BadItem)
-    (if i.kind == 254 then Ok (byte_literal (i.byte ∷ [])) else component) f
+    (if i.kind == 254 then Ok (byte_literal (i.byte ∷ [])) else (if i.kind == 253 then date else (if i.kind == 252 then time else component))) f
     (either_has is_there (Ok (byte_literal bytes)) (Err reason.BadItem) f (literal_has bytes f) none)
-    (either_has (i.kind == 254) (Ok (byte_literal (i.byte ∷ []))) component f (literal_has (i.byte ∷ []) f)
-    (component_has (component_of i) f))
+    (either_has (i.kind == 254) (Ok (byte_literal (i.byte ∷ []))) (if i.kind == 253 then date else (if i.kind == 252 then time else component)) f
+    (literal_has (i.byte ∷ []) f)
+    (either_has (i.kind == 253) date (if i.kind == 252 then time else component) f
+    (parted_has (nat_lt i.start 128) (nat_lt i.len 128) year_part month_part day_part i.start i.len f refl refl)
+    (either_has (i.kind == 252) time component f
+    (parted_has (nat_lt i.start 128) (nat_lt i.len 128) hour_part minute_part second_part i.start i.len f refl refl)
+    (component_has (component_of i) f))))
 
 -- what ended is a valid step
 pub leaf_of_item : (texts : List ℕ) (i : Item) (f : Facts) (old new : Buffer) (written : Option (Result Unit Refused))
@@ -236,57 +261,23 @@ steps_more g items left old now new lost f all state up_to so_far =
     (ap (λ is. list_of (map g is)) up_to.whole ∙ listed g up_to.front left up_to.valid) state
     (ended (Ok (all_of (trees next))) f now new up_to.appends.ends) (omega (arith, so_far.put.2.small)) so_far
 
--- a date or a time of day that ended
-pub run_more : {before after : Type 0} {I : Type 0} (g : I → Result Tree Reason) (items behind : List I) (r : Run) (x y : ℕ)
-    (old now new : Buffer) (lost : ℕ) (f : Facts) (all : Result (List Tree) Reason) → behind ≡ drop 5 items → after
-    → list_of (map g items) ≡ with_value (list_of (map g (drop 5 items))) (λ others. Ok (run_before r x y others))
-    → EndsRun r x y f now new
-    → SoFar before old now lost f all (list_of (map g items)) → SoFar after old new lost f all (list_of (map g behind))
-run_more g items behind r x y old now new lost f all is_behind state begin ends so_far =
-    let run = run_before r x y [] in
-    more_put run (list_of (map g items)) (list_of (map g behind)) old now new lost 0 lost f all (rw is_behind begin) state
-    (ended (Ok (all_of (trees run))) f now new ends) (omega (arith, so_far.put.2.small)) so_far
+-- ---- what an item shows, in an array
 
--- ---- a date or a time of day
+-- it is the first bytes of an array that has room for it
+in_array : (o : Outcome) (width count : ℕ) (before after : List ℕ) → Shows o width count before after
+    → width ≤ length before → length before ≡ 18
+    → (o.refusal ≡ None) × (length o.bytes ≤ width) × (take count after ≡ o.bytes)
+in_array o width count before after shows fits many = grind (arith, take-append_seam)
 
--- a year in the standard range has the text of any year
-standard_year_outcome : (year : ℤ) → unsigned_abs year ≤ 9_999
-    → kind_outcome (extended_year padding.Zero false year) ≡ kind_outcome (standard_year padding.Zero false year)
-standard_year_outcome year small = grind (arith, common_steps)
-
-standard_date_outcome : (x y : ℕ) (f : Facts) → is_some f.date ≡ true → unsigned_abs (the_date f).year ≤ 9_999
-    → trees_outcome (trees (run_before run.Date x y [])) f ≡ trees_outcome (trees (run_before run.StandardDate x y [])) f
-standard_date_outcome x y f there small =
-    let month = component_outcome (second_part run.Date) f in
-    let day = component_outcome (third_part run.Date) f in
-    let same : component_outcome (first_part run.Date) f ≡ component_outcome (first_part run.StandardDate) f
-    = rw there (standard_year_outcome (the_date f).year small) in
-    ap (λ year. join year (join (done (x ∷ [])) (join month (join (done (y ∷ [])) (join day (done [])))))) same
-
--- so a date with such a year is its parts
-pub standard_date_ends : {count : ℕ} (r : Run) (x y : ℕ) (f : Facts) (old new : Buffer) → r ≡ run.StandardDate
-    → is_some f.date ≡ true → unsigned_abs (the_date f).year ≤ 9_999 → count ≤ length (year_text (the_date f)) + 6
-    → count ≤ 13 → Puts old new count (date_run x y (the_date f)) → EndsRun r x y f old new
-standard_date_ends r x y f old new is there small beside_year most put =
-    let same = standard_date_outcome x y f there small in
-    let ends : Ends 13 old new (Ok tt) (trees_outcome (trees (run_before run.StandardDate x y [])) f) =
-    subst (λ (o : Outcome). Ends 13 old new (Ok tt) o) same (date_ends x y f old new there most put) in
-    let four = signed_four (int_lt (the_date f).year (pos 0)) (int_lt (pos 9_999) (the_date f).year) padding.Zero
-    (unsigned_abs (the_date f).year) (omega (arith, small)) in
-    subst (λ (r : Run). EndsRun r x y f old new) (sym is) (record {
-      appended = ends.appended;
-      refusal = ends.refusal;
-      grown = ends.grown;
-      block = ends.block;
-      within = omega (arith, put.counted, put.grown, beside_year, four);
-    })
-
--- ---- a component in an array
-
--- a list of one component is the component
-pub in_array : (o : Outcome) (count : ℕ) (old new : List ℕ) → IsAtTheStart old new (Ok count) (join o (done []))
-    → (o.refusal ≡ None) × (take count new ≡ o.bytes) × (length o.bytes ≡ count)
-in_array o count old new put = grind (arith, join_nothing, take-append_seam)
+-- so what was put of these bytes is what the part shows
+pub array_put : (p : Part) (s : Shown) (f : Facts) (old new : Buffer) (lost count : ℕ) (before after : List ℕ)
+    → p ≡ part.Shown s → Shows (tree_outcome (shown_tree s) f) (tree_width (shown_tree s)) count before after
+    → length before ≡ 18 → PutsOrLoses old new lost (take count after) → IsPut (Ok (part_tree p)) f old new (Ok lost)
+array_put p s f old new lost count before after is shows many put =
+    let first = in_array (tree_outcome (shown_tree s) f) (tree_width (shown_tree s)) count before after shows
+    (omega (arith, shown_fits s, many)) many in
+    subst (λ (it : Part). IsPut (Ok (part_tree it)) f old new (Ok lost)) (sym is)
+    (first.0, first.1, subst (λ (bytes : List ℕ). PutsOrLoses old new lost bytes) first.2 put)
 
 -- ---- the end
 
@@ -357,14 +348,6 @@ pub ended_refused : (next : Result Tree Reason) (f : Facts) (now new : Buffer) (
     (refused : Refused) (e : Format) (r : Reason) → answer ≡ Err refused → EndsItem next f now new answer
     → Names e (refusal_of refused) → IsReasonFor r e → IsPut next f now new (Err r)
 ended_refused next f now new answer refused e r h k l p = grind (arith, common_steps)
-
--- a date or a time of day that ended is all that the items are
-pub run_alone : {agrees : Type 0} {I : Type 0} (g : I → Result Tree Reason) (items : List I) (r : Run) (x y : ℕ)
-    (old new : Buffer) (f : Facts) → agrees → length items ≡ 5
-    → list_of (map g items) ≡ with_value (list_of (map g (drop 5 items))) (λ others. Ok (run_before r x y others))
-    → EndsRun r x y f old new → IsPut (as_one (list_of (map g items))) f old new (Ok 0)
-run_alone {agrees = agrees} g items r x y old new f state five begin ends =
-    grind (arith, common_steps, length-drop, at_drop_all, append-nil, run_more, nothing_so_far)
 
 -- where no item is left, all are put or lost
 pub all_put : {agrees : Type 0} {I : Type 0} (g : I → Result Tree Reason) (left : List I) (old now : Buffer) (lost : ℕ)

@@ -1,8 +1,8 @@
 -- Items of a text, in an array and in what they show.
-use Rattle.std.proofs.Common.{◌≡◌, ◌<◌, ◌≤◌, ◌+◌, ◌++◌, ℕ, min, Bool, true, false, List, [], ◌∷◌, length, take, set, Option, None, is_some, Result, Ok, Err, refl, sym, ap, ◌∙◌, subst, arith, ne_eqb}
-use Rattle.std.specs.Prelude.{IsTrue, slice_range, ◌==◌, ◌≢◌}
-use Rattle.std.proofs.lemmas.Bool.{le-leb, leb-true, leb-false}
-use Rattle.std.proofs.lemmas.List.{append-nil, length-append, take_more_set}
+use Rattle.std.proofs.Common.{◌≡◌, ◌<◌, ◌≤◌, ◌+◌, ◌++◌, ℕ, min, Bool, true, false, List, [], ◌∷◌, length, take, drop, set, Option, None, is_some, Result, Ok, Err, refl, sym, ap, ◌∙◌, subst, arith, ne_eqb}
+use Rattle.std.specs.Prelude.{IsTrue, nat_le, slice_range, ◌==◌, ◌≢◌}
+use Rattle.std.proofs.lemmas.Bool.{le-leb, leb-true}
+use Rattle.std.proofs.lemmas.List.{append-nil, length-append, length-take-le, take-append-le, take_more_set}
 use Rattle.movaliren_c.specs.Answer.{IsText}
 use Rattle.movaliren_c.specs.Described.{AreItems, DescribeNothing, Describes, HoldsIn, HoldsItems, HoldsListsIn, IsHeld, IsItem, IsItemOf, Leaves, few_in, fault_at, is_shown, items_in, no_item, shown}
 use Rattle.movaliren_c.specs.Flat.{closed_at, flat, flat_items, hidden_at, or_at, shown_in}
@@ -43,9 +43,11 @@ pub item_is_of : (text : List ℕ) (c : Component) (i : Item) → IsTrue (is_cur
 item_is_of text c i current is =
     let no_text : (i.kind == 255) ≡ false = ne_eqb i.kind 255 (λ h. omega (arith, is.kind)) in
     let no_byte : (i.kind == 254) ≡ false = ne_eqb i.kind 254 (λ h. omega (arith, is.kind)) in
+    let no_date : (i.kind == 253) ≡ false = ne_eqb i.kind 253 (λ h. omega (arith, is.kind)) in
+    let no_time : (i.kind == 252) ≡ false = ne_eqb i.kind 252 (λ h. omega (arith, is.kind)) in
     record {
       tree = of_component (shown (current_component c));
-      there = rw (no_text, no_byte, is.component) refl;
+      there = rw (no_text, no_byte, no_date, no_time, is.component) refl;
       same = λ f. shown_same (current_component c) current f;
     }
 
@@ -167,9 +169,36 @@ counted_leaves text array count hidden all leaves holds = grind (arith, leaves_f
 
 -- ---- what a call leaves
 
-pub left_complete : (text : List ℕ) (d : Result (List Tree) ParseError) (array : List Item) (count : ℕ) (old : ParseError) → IsHeld text d array count
-    → count ≤ length array → length array < 0xffff_ffff_ffff_ffff → Leaves text d (Ok count) array old old
-left_complete text d array count old held le bound = grind (arith, common_steps, describes, leb-false)
+-- the items at the start of an array, and those that they were joined in
+complete : (text : List ℕ) (all : List Tree) (array new front : List Item) (count left : ℕ) (old : ParseError)
+    → HoldsItems text array count all → count ≤ length array → length array < 0xffff_ffff_ffff_ffff
+    → new ≡ front ++ drop count array → length front ≡ count → left ≤ count
+    → ((ts : List Tree) → Describes text (take count array) ts → Describes text (take left front) ts)
+    → Leaves text (Ok all) (Ok left) new old old
+complete text all array new front count left old held le bound is same fewer joined =
+    let many : count ≡ length all = omega (arith, held.counted) in
+    let there : nat_le (length all) (length new) ≡ true = rw is (le-leb (length all) (length (front ++ drop count array))
+    (omega (arith, length-append front (drop count array)))) in
+    let described = joined all (subst (λ (n : ℕ). Describes text (take n array) all) (sym many)
+    (describes text (take (length all) array) all (held.held (omega arith)))) in
+    let first : take left new ≡ take left front = rw is (take-append-le left front (drop count array) (omega arith)) in
+    rw there (
+      (omega arith, subst (λ (items : List Item). Describes text items all) (sym first) described),
+      refl,
+    )
+
+pub left_complete : (text : List ℕ) (d : Result (List Tree) ParseError) (room array new front : List Item) (many count left : ℕ)
+    (old : ParseError) → IsHeld text d room many → array ≡ room → count ≡ many → nat_le many (length room) ≡ true
+    → length room < 0xffff_ffff_ffff_ffff → new ≡ front ++ drop count array → length front ≡ length (take count array)
+    → left ≤ length (take count array)
+    → ((ts : List Tree) → Describes text (take count array) ts → Describes text (take left front) ts)
+    → Leaves text d (Ok left) new old old
+left_complete text d room array new front many count left old held is_room is_many fits bound is same fewer joined =
+    let le : count ≤ length array = rw (is_room, is_many) (leb-true many (length room) fits) in
+    let first : length (take count array) ≡ count = length-take-le count array le in
+    subst (λ (it : Result (List Tree) ParseError). Leaves text it (Ok left) new old old) (sym held.is)
+    (complete text held.all array new front count left old (rw (is_room, is_many) held.held) le (rw is_room bound) is
+    (same ∙ first) (omega (arith, fewer, first)) joined)
 
 -- ---- a text that is formatted at once
 

@@ -2,6 +2,7 @@ pub mod BatchLemmas
 pub mod DescribedLemmas
 pub mod FlatLemmas
 pub mod ItemLemmas
+pub mod JoinLemmas
 pub mod LogLemmas
 pub mod MeaningLemmas
 pub mod NumberLemmas

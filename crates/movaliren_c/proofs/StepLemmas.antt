@@ -1,7 +1,7 @@
 -- The steps of a description.
 use Rattle.std.proofs.Common.{◌≡◌, ◌<◌, ◌+◌, ◌++◌, ℕ, List, [], ◌∷◌, length, take, map, set, Result, Ok, Err, IsOk, IsOkAnd, IfSome, IsSomeAnd, Option, Some, None, true, refl, sym, ap, subst, ◌∙◌, arith}
 use Rattle.std.proofs.lemmas.Bool.{lt-ltb}
-use Rattle.std.proofs.lemmas.List.{map-append, take_more_set}
+use Rattle.std.proofs.lemmas.List.{append-nil, map-append, take_more_set}
 use Rattle.std.proofs.lemmas.Str.{IsUtf8-from_ascii, is_utf8-from_IsUtf8}
 use Rattle.std.specs.Str.{is_utf8}
 use Rattle.movaliren_c.specs.Items.{trees_of}
@@ -15,9 +15,14 @@ use Rattle.time_fmt.proofs.GuaranteeLemmas.{ascii_test}
 use Rattle.time_fmt.proofs.WriteLemmas.{join_assoc, join_nothing}
 use Rattle.time_fmt.specs.Description.{tree_outcome, trees_outcome}
 use Rattle.time_fmt.specs.Outcome.{Outcome, done, join}
-use Rattle.time_plan_read.proofs.StepLemmas.{parts_outcome}
+use Rattle.time_fmt.specs.Runs.{run_tree}
+use Rattle.time_fmt.specs.declared.runs.Run.{Run}
+use Rattle.time_plan_read.proofs.StepLemmas.{component_alone, parts_outcome}
 use Rattle.time_plan.specs.Shown.{shown_tree}
-use Rattle.time_plan_read.specs.Parts.{parts_tree, ref_bytes}
+use Rattle.time_plan.specs.declared.shown.Shown.{Shown}
+use Rattle.time_plan.specs.declared.shown.Shown.TheVariants as shown
+use Rattle.time_plan_read.specs.Lenient.{Spells, lower}
+use Rattle.time_plan_read.specs.Parts.{AreSame, parts_tree, ref_bytes}
 use Rattle.time_plan_read.specs.declared.any_step.StepParts.{StepParts}
 
 map_ok : (whole : Result (List Tree) Reason) (P Q : List Tree → Type 0) → ((ts : List Tree) → P ts → Q ts)
@@ -95,6 +100,37 @@ begins_by_all whole steps begins =
 pub ascii_is_text : (b : ℕ) → b < 128 → is_utf8 (b ∷ []) ≡ true
 ascii_is_text b small =
     is_utf8-from_IsUtf8 (b ∷ []) (IsUtf8-from_ascii (b ∷ []) (ascii_test (b ∷ []) (rw (lt-ltb b 128 small) refl)))
+
+-- ---- what an item shows, with nothing behind it
+
+-- no letters are like nothing
+lower_nothing : (text : List ℕ) → [] ≡ lower text → text ≡ []
+lower_nothing [] same = refl
+lower_nothing (x ∷ text) same = let no : ⊥ = cc in absurd no
+
+-- a text with nothing behind its first piece
+first_alone : (text front rest piece left : List ℕ) → text ≡ front ++ rest → rest ≡ piece ++ left → piece ≡ []
+    → left ≡ [] → text ≡ front
+first_alone text front rest piece left parts behind no_piece no_left = grind (arith, append-nil)
+
+-- a date or a time of day
+run_alone : (r : Run) (p : StepParts) → p.shown ≡ shown.Run r → ref_bytes p.literal ≡ [] → AreSame (run_tree r) (parts_tree p)
+run_alone r p is_shown is_literal = record {
+  outcome = λ f. sym (parts_outcome p f
+      ∙ ap (λ (bytes : List ℕ). join (tree_outcome (shown_tree p.shown) f) (done bytes)) is_literal
+      ∙ alone (tree_outcome (shown_tree p.shown) f)
+      ∙ ap (λ (it : Shown). tree_outcome (shown_tree it) f) is_shown);
+  spelled = λ f text h.
+      let no_letters = lower_nothing h.second.front
+      (subst (λ (bytes : List ℕ). lower bytes ≡ lower h.second.front) is_literal h.second.first) in
+      let is_front = first_alone text h.front h.rest h.second.front h.second.rest h.parts h.second.parts no_letters h.second.second in
+      subst (λ (it : List ℕ). Spells (run_tree r) f it) (sym is_front)
+      (subst (λ (it : Shown). Spells (shown_tree it) f h.front) is_shown h.first);
+}
+
+pub shown_alone : (s : Shown) (p : StepParts) → p.shown ≡ s → ref_bytes p.literal ≡ [] → AreSame (shown_tree s) (parts_tree p)
+shown_alone (shown.Component c) p is_shown is_literal = component_alone c p is_shown is_literal
+shown_alone (shown.Run r) p is_shown is_literal = run_alone r p is_shown is_literal
 
 -- ---- the items one after another
 

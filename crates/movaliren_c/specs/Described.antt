@@ -1,14 +1,14 @@
 -- What calls leave that read a text as a description.
-use Rattle.std.specs.Prelude.{ℕ, ◌≡◌, ◌<◌, ◌≤◌, ◌-◌, ◌++◌, min, Option, Bool, true, false, nat_le, List, [], ◌∷◌, length, take, Result, Ok, Err, if◌then◌else◌}
+use Rattle.std.specs.Prelude.{ℕ, ◌≡◌, ◌<◌, ◌≤◌, ◌-◌, ◌++◌, min, Option, Bool, true, false, nat_le, List, [], ◌∷◌, length, take, Result, Ok, Err, IsOkAnd, if◌then◌else◌}
 use Rattle.movaliren_c.specs.Flat.{first_shown, flat_items, hidden_at, shown_in}
-use Rattle.movaliren_c.specs.Items.{component_of, item_tree, trees_of}
+use Rattle.movaliren_c.specs.Items.{component_of, item_tree, parted_tree, trees_of}
 use Rattle.movaliren_c.specs.declared.described.item.Item.{Item}
 use Rattle.movaliren_c.specs.declared.answers.reason.Reason.{Reason}
 use Rattle.movaliren_c.specs.declared.answers.reason.Reason.TheVariants as reason
 use Rattle.movaliren_c.specs.declared.described.syntax.ParseError.{ParseError}
 use Rattle.time_below.specs.Conversion.{is_current}
 use Rattle.time_below.specs.Facts.{Facts}
-use Rattle.time_below.specs.Tree.{Tree, trees}
+use Rattle.time_below.specs.Tree.{Tree, trees, all_of, of_component}
 use Rattle.time_below.specs.declared.format_description.component.Component.{Component}
 use Rattle.time_below.specs.declared.format_description.component.Component.TheVariants as component
 use Rattle.time_describe.specs.Reading as reading
@@ -40,7 +40,7 @@ is_shown c = is_current c
 
 -- an item of this component
 pub record IsItemOf (c : Component) (i : Item) : Type 0 where
-  pub kind : i.kind < 254
+  pub kind : i.kind < 252
   pub component : component_of i ≡ Ok (shown c)
 
 -- the item shows what the tree does, of any value
@@ -77,6 +77,31 @@ pub record IsHeld (text : List ℕ) (described : Result (List Tree) ParseError) 
   pub all : List Tree
   pub is : described ≡ Ok all
   pub held : HoldsItems text array count all
+
+-- ---- dates and times of day
+
+-- an item of a kind with zeros before its number, no sign and no decimals
+pub record IsUsual (i : Item) (kind : ℕ) : Type 0 where
+  pub kind_is : i.kind ≡ kind
+  pub padding_is : i.padding ≡ 0
+  pub flag_is : i.flag ≡ 0
+  pub digits_is : i.digits ≡ 0
+
+-- three items are the components of an item of this kind, with a byte between each two
+pub record AreParts (first second third : Item) (kind : ℕ) : Type 0 where
+  pub p : Component
+  pub q : Component
+  pub r : Component
+  pub first_is : (text : List ℕ) → item_tree text first ≡ Ok (of_component p)
+  pub second_is : (text : List ℕ) → item_tree text second ≡ Ok (of_component q)
+  pub third_is : (text : List ℕ) → item_tree text third ≡ Ok (of_component r)
+  pub joined : (text : List ℕ) (i : Item) → i.kind ≡ kind → item_tree text i ≡ parted_tree p q r i
+
+-- one item shows what these do, of any value
+pub record Joins (text : List ℕ) (items : List Item) (i : Item) : Type 0 where
+  pub shown : List Tree
+  pub there : trees_of text items ≡ Ok shown
+  pub one : IsItem text i (all_of (trees shown))
 
 -- ---- faults, as C sees them
 
@@ -146,13 +171,13 @@ DescribeNothing [] = Unit {0}
 DescribeNothing (i ∷ is) = (text : List ℕ) → item_tree text i ≡ Err reason.BadItem
 
 abbrev pub LeavesItems : Bool → List ℕ → List Tree → Result ℕ Reason → List Item → ParseError → ParseError → Type 0
-LeavesItems true text all answer items old new = (answer ≡ Ok (length all)) × Describes text (take (length all) items) all
-    × (new ≡ old)
+LeavesItems true text all answer items old new =
+    IsOkAnd answer (λ count. (count ≤ length all) × Describes text (take count items) all) × (new ≡ old)
 LeavesItems false text all answer items old new = (answer ≡ Err reason.ManyItems) × DescribeNothing items
     × (new ≡ many (min (length all) 0xffff_ffff_ffff_ffff))
 
--- The items of the text are at the start of an array that has room for them, and the fault is unchanged. Or the array
--- describes nothing, and the fault says why.
+-- Items that give what those of the text do are at the start of an array that has room for each of them, and the fault
+-- is unchanged. Or the array describes nothing, and the fault says why.
 abbrev pub Leaves : List ℕ → Result (List Tree) ParseError → Result ℕ Reason → List Item → ParseError → ParseError → Type 0
 Leaves text (Ok all) answer items old new = LeavesItems (nat_le (length all) (length items)) text all answer items old new
 Leaves text (Err f) answer items old new = (answer ≡ Err reason.BadDescription) × DescribeNothing items × (new ≡ f)

@@ -1,6 +1,6 @@
 -- What a description that crosses as data means: a tree for each item, or the reason why there is
 -- none.
-use Rattle.std.specs.Prelude.{ℕ, ◌≡◌, ◌≢◌, ◌<◌, ◌≤◌, ◌++◌, min, ◌+◌, ◌-◌, Bool, true, false, ◌==◌, ◌&&◌, nat_le, nat_lt, List, [], ◌∷◌, map, length, drop, None}
+use Rattle.std.specs.Prelude.{ℕ, ◌≡◌, ◌≢◌, ◌<◌, ◌≤◌, ◌++◌, min, ◌+◌, ◌-◌, Bool, true, ◌==◌, ◌&&◌, nat_le, nat_lt, List, [], ◌∷◌, map, length, drop, None}
 use Rattle.std.specs.Prelude.{slice_range, Result, Ok, Err, IfOk, IsOkAnd, if◌then◌else◌}
 use Rattle.movaliren_c.specs.Answer.{IsRefusedFor, IsText, gives}
 use Rattle.movaliren_c.specs.Value.{flag_at, numbered, with_value}
@@ -9,8 +9,6 @@ use Rattle.movaliren_c.specs.declared.described.item.Part.{Part}
 use Rattle.movaliren_c.specs.declared.described.item.Part.TheVariants as part
 use Rattle.movaliren_c.specs.declared.answers.reason.Reason.{Reason}
 use Rattle.movaliren_c.specs.declared.answers.reason.Reason.TheVariants as reason
-use Rattle.movaliren_c.specs.declared.described.run.Run.{Run}
-use Rattle.movaliren_c.specs.declared.described.run.Run.TheVariants as run
 use Rattle.time_below.specs.Facts.{Facts}
 use Rattle.time_below.specs.Tree.{Tree, trees, all_of, byte_literal, nothing, of_component}
 use Rattle.time_below.specs.Width.{tree_width, trees_width}
@@ -23,8 +21,11 @@ use Rattle.time_below.specs.declared.format_description.modifier.SubsecondDigits
 use Rattle.time_fmt.specs.Description.{tree_outcome, trees_outcome}
 use Rattle.time_fmt.specs.Ends.{Ends}
 use Rattle.time_fmt.specs.Outcome.{Outcome}
+use Rattle.time_fmt.specs.Runs.{year_part, month_part, day_part, hour_part, minute_part, second_part, three_parts}
 use Rattle.time_fmt.specs.Sink.{Buffer, Puts}
 use Rattle.time_fmt.specs.declared.refused.Refused.{Refused}
+use Rattle.time_fmt.specs.declared.separators.Separators.{Separators}
+use Rattle.time_plan.specs.Shown.{shown_tree}
 
 abbrev pub padding_at : ℕ → Result Padding Reason
 padding_at n = numbered 0 (padding.Zero ∷ padding.Space ∷ padding.None ∷ []) reason.BadItem n
@@ -95,8 +96,19 @@ component_of i =
     with_value (digits_at i.digits) (λ d.
     component_at i.kind p f d)))
 
--- the bytes of the texts that an item of kind 255 names, the byte that stands in one of kind 254, or a component; kind 0
--- is none of these
+-- three components and a byte of ASCII between each two, which an item has in the fields of a text
+abbrev pub parted_tree : Component → Component → Component → Item → Result Tree Reason
+parted_tree p q r i =
+    if nat_lt i.start 128 && nat_lt i.len 128
+    then Ok (three_parts p i.start q i.len r)
+    else Err reason.BadItem
+
+-- the same tree by the bytes, or the reason why they are none
+abbrev pub parted_by : Component → Component → Component → Result Separators Reason → Result Tree Reason
+parted_by p q r between = with_value between (λ b. Ok (three_parts p b.first q b.second r))
+
+-- the bytes of the texts that an item of kind 255 names, the byte that stands in one of kind 254, the date of one of kind
+-- 253, the time of day of one of kind 252, or a component; kind 0 is none of these
 abbrev pub item_tree : List ℕ → Item → Result Tree Reason
 item_tree texts i =
     if i.kind == 255
@@ -104,7 +116,9 @@ item_tree texts i =
     then Ok (byte_literal (slice_range texts i.start (i.start + i.len)))
     else Err reason.BadItem)
     else (if i.kind == 254 then Ok (byte_literal (i.byte ∷ []))
-    else with_value (component_of i) (λ c. Ok (of_component c)))
+    else (if i.kind == 253 then parted_tree year_part month_part day_part i
+    else (if i.kind == 252 then parted_tree hour_part minute_part second_part i
+    else with_value (component_of i) (λ c. Ok (of_component c)))))
 
 -- all values in order, or the first reason
 abbrev pub list_of : {A : Type 0} → List (Result A Reason) → Result (List A) Reason
@@ -125,7 +139,7 @@ tree_or_nothing (Err invalid) = nothing
 abbrev pub part_tree : Part → Tree
 part_tree (part.Text bytes) = byte_literal bytes.now
 part_tree (part.Byte b) = byte_literal (b ∷ [])
-part_tree (part.Component c) = of_component c
+part_tree (part.Shown shown) = shown_tree shown
 
 abbrev pub tree_of : Result Part Reason → Result Tree Reason
 tree_of part = with_value part (λ part. Ok (part_tree part))
@@ -153,45 +167,6 @@ pub record IsDescribed {V : Type 0} (texts : List ℕ) (items : List Item) (valu
   pub text : IsText (described (trees_of texts items) value facts) answer before after
   pub within : IfOk value (λ _. IfOk (trees_of texts items) (λ ts. IsWithinWidth (trees_width (trees ts)) (length before)
       answer))
-
--- ---- dates and times of day
-
--- the parts of a date and of a time of day
-abbrev pub first_part : Run → Component
-first_part run.Date =
-    component.CalendarYearFullExtendedRange (record { padding = padding.Zero; sign_is_mandatory = false })
-first_part run.StandardDate =
-    component.CalendarYearFullStandardRange (record { padding = padding.Zero; sign_is_mandatory = false })
-first_part run.Time = component.Hour24 (record { padding = padding.Zero })
-
-abbrev pub second_part : Run → Component
-second_part run.Time = component.Minute (record { padding = padding.Zero })
-second_part _ = component.MonthNumerical (record { padding = padding.Zero })
-
-abbrev pub third_part : Run → Component
-third_part run.Time = component.Second (record { padding = padding.Zero })
-third_part _ = component.Day (record { padding = padding.Zero })
-
--- these parts with a byte between each two, and what is behind them
-abbrev pub run_before : Run → ℕ → ℕ → List Tree → List Tree
-run_before r x y behind =
-    of_component (first_part r) ∷ byte_literal (x ∷ []) ∷ of_component (second_part r) ∷ byte_literal (y ∷ []) ∷
-    of_component (third_part r) ∷ behind
-
--- these parts ended
-abbrev pub EndsRun : Run → ℕ → ℕ → Facts → Buffer → Buffer → Type 0
-EndsRun r x y f old new =
-    Ends (trees_width (trees (run_before r x y []))) old new (Ok tt) (trees_outcome (trees (run_before r x y [])) f)
-
--- the date or the time of day that the first five items are ended
-pub record EndsFirst (texts : List ℕ) (items : List Item) (f : Facts) (old new : Buffer) : Type 0 where
-  pub run : Run
-  pub first : ℕ
-  pub second : ℕ
-  pub five : 5 ≤ length items
-  pub begin : trees_of texts items
-      ≡ with_value (trees_of texts (drop 5 items)) (λ behind. Ok (run_before run first second behind))
-  pub ends : EndsRun run first second f old new
 
 -- ---- a text that may not fit
 

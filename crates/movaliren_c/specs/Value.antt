@@ -10,6 +10,14 @@ use Rattle.time_below.specs.Moment.{OffsetDateAndTime, seconds_before}
 use Rattle.time_below.specs.Offset.{Offset}
 use Rattle.time_below.specs.TimeOfDay.{TimeOfDay}
 
+-- the time of day of the parts
+abbrev pub time_of_parts : Moment → TimeOfDay
+time_of_parts m = record { hour = m.hour; minute = m.minute; second = m.second; nanosecond = m.nanosecond }
+
+-- the offset of the parts
+abbrev pub offset_of_parts : Moment → Offset
+offset_of_parts m = record { hours = m.offset_hours; minutes = m.offset_minutes; seconds = m.offset_seconds }
+
 -- the rest, if the test holds
 abbrev pub checked : {A : Type 0} → Bool → Reason → Result A Reason → Result A Reason
 checked test r rest = if test then rest else Err r

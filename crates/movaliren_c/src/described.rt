@@ -2,13 +2,12 @@
 //!
 //! Without `inline(always)` the compiler leaves calls of the functions that have it. `cold` and
 //! `inline(never)` keep long or rare bodies out of their callers.
-ghost use Rattle.std.specs.Prelude.{◌≡◌, ◌≤◌, ◌<◌, ◌+◌, ◌∷◌, IfNone, IfOk, IfSome, IsFalse, IsTrue};
-ghost use Rattle.std.specs.Prelude.{MatchOption, Ok, [], false, is_ok, length, slice_range, true};
-ghost use Rattle.movaliren_c.specs.Answer.{Answers};
-ghost use Rattle.movaliren_c.specs.Items.{EndsFirst, EndsItem, EndsRun, IsDescribed, IsPut};
-ghost use Rattle.movaliren_c.specs.Items.{IsShown, PutsOrLoses, answer_before, as_one, item_tree};
-ghost use Rattle.movaliren_c.specs.Items.{part_tree, reason_before, tree_or_nothing, trees_of};
-ghost use Rattle.movaliren_c.specs.Items.{width_answer};
+ghost use Rattle.std.specs.Prelude.{◌≡◌, ◌≤◌, ◌<◌, ◌+◌, ◌^◌, ◌∷◌, ℕ, IfOk, IfSome, List, MatchOption};
+ghost use Rattle.std.specs.Prelude.{MatchResult, Ok, [], false, is_ok, length, slice_range, true};
+ghost use Rattle.movaliren_c.specs.Answer.{Answers, IsRefusedFor};
+ghost use Rattle.movaliren_c.specs.Items.{EndsItem, IsDescribed, IsPut, IsShown, PutsOrLoses};
+ghost use Rattle.movaliren_c.specs.Items.{Shows, answer_before, as_one, item_tree, part_tree};
+ghost use Rattle.movaliren_c.specs.Items.{reason_before, tree_or_nothing, trees_of, width_answer};
 ghost use Rattle.movaliren_c.specs.Utc.{local_value};
 ghost use Rattle.movaliren_c.specs.Value.{date_value, moment_value, timestamp_value};
 ghost use Rattle.time_below.specs.Facts.{Facts, facts_of_date, facts_of_offset_date_time};
@@ -17,30 +16,30 @@ ghost use Rattle.time_below.specs.Width.{component_width, tree_width};
 ghost use Rattle.time_fmt.specs.Description.{component_outcome, tree_outcome};
 ghost use Rattle.time_fmt.specs.Ends.{Ends};
 ghost use Rattle.time_fmt.specs.Sink.{Fits, Puts, Ready};
+ghost use Rattle.time_plan.specs.Shown.{shown_tree};
 
 mod describe;
 pub mod item;
 mod item_room;
+mod join;
 mod length;
-mod local_parts;
 pub mod made_item;
-pub mod run;
 mod syntax;
 
 use crate::answers::reason::{Reason, answer_number, reason_of};
 use crate::answers::room::copy_text;
-use crate::described::item::{Item, Part, part_of, text_of};
-use crate::described::local_parts::{FirstState, local_parts_at, local_parts_of};
-use crate::described::run::{Run, head_of, run_of};
-use crate::values::moment::{Moment, date_value, timestamp_value};
+use crate::described::item::{Item, Part, head_of, part_of, separators_of, text_of};
+use crate::values::moment::{Moment, date_value, moment_value, timestamp_value};
+use crate::values::source::local_value;
+use std::default::Default;
 use std::marker::Brand;
 use time_below::format_description::modifier::Padding;
 use time_below::format_description::{component_width, modifier};
 use time_fmt::writers::write_bytes;
 use time_fmt::{
-    Before, Modifier, Refused, RoomSink, Sink, WriteStep, end_component, write_all, write_date,
-    write_into_room, write_part, write_time,
+    Before, Modifier, Refused, RoomSink, Run, Sink, WriteStep, write_all, write_part, write_run,
 };
+use time_plan::{Shown, end_shown};
 use time_provide::ComponentProvider;
 
 /// The greatest maximum length or length that is returned. No buffer is so long.
@@ -49,7 +48,7 @@ pub const GREATEST_WIDTH: usize = 0x7fff_ffff_ffff_ffff;
 /// The bytes of the array that a text is written to at first, from which a short one is copied.
 pub const SHORT: usize = 128;
 
-// The most bytes of a component.
+// The most bytes of a component, a date or a time of day.
 const LONGEST: usize = 18;
 
 /// Writes a component with these choices.
@@ -77,7 +76,7 @@ pub extern "C" fn movaliren_items_format(
     ensures { Answers result (λ answer. IsDescribed texts.now items.now
         (moment_value moment.now) facts_of_offset_date_time answer buffer.old buffer.new) }
 {
-    answer_number(write_described(items, texts, local_parts_of(moment), buffer))
+    answer_number(write_described(items, texts, moment_value(moment), buffer))
 }
 
 /// The text of a moment in UTC.
@@ -109,7 +108,7 @@ pub extern "C" fn movaliren_items_format_local(
     ensures { Answers result (λ answer. IsDescribed texts.now items.now
         (local_value seconds nanosecond offset) facts_of_offset_date_time answer buffer.old buffer.new) }
 {
-    let value = local_parts_at(seconds, nanosecond, offset);
+    let value = local_value(seconds, nanosecond, offset);
     answer_number(write_described(items, texts, value, buffer))
 }
 
@@ -137,12 +136,11 @@ pub extern "C" fn movaliren_items_max_length(items: &[Item], texts: &[u8]) -> is
     answer_number(width(items, texts))
 }
 
-/// Writes the text of the value by the description, if there are both. A date or a time of day
-/// alone is written straight to a buffer that has room for the longest such text. Any other text is
-/// written to an array first, so that the buffer is as it was where there is no text. A longer text
-/// is written again, once it is known that it is complete and fits.
+/// Writes the text of the value by the description, if there are both. It is written to an array
+/// first, so that the buffer is as it was where there is no text. A longer text is written again,
+/// once it is known that it is complete and fits.
 #[inline(always)]
-pub fn write_described<V: FirstState>(
+pub fn write_described<V: ComponentProvider<State: Drop> + Drop>(
     items: &[Item],
     texts: &[u8],
     value: Result<V, Reason>,
@@ -155,14 +153,6 @@ pub fn write_described<V: FirstState>(
         Ok(value) => value,
         Err(reason) => return Err(first_reason(items, texts, reason)),
     };
-    let alone = if items.len() == 5 {
-        write_alone::<Brand, V>(items, texts, &value, room)
-    } else {
-        None
-    };
-    if let Some(count) = alone {
-        return Ok(count);
-    }
     let mut line = [0u8; SHORT];
     match write_items::<Brand, V>(items, texts, &value, &mut line) {
         Ok(count) if count <= SHORT => copy_text(&line[..count], room),
@@ -184,37 +174,11 @@ pub fn first_reason(items: &[Item], texts: &[u8], reason: Reason) -> Reason
     }
 }
 
-/// Writes a date or a time of day to the start of a buffer, if five items are one, the value has it
-/// and the longest fits. Returns the number of bytes, if it was written. Nothing of it is refused,
-/// so that it needs no array.
-#[inline(never)]
-fn write_alone<B: Before, V: FirstState>(
-    items: &[Item],
-    texts: &[u8],
-    value: &V,
-    room: &mut [u8],
-) -> Option<usize>
-    requires before { room.old ≡ B.before }
-    requires five { length items.now ≡ 5 }
-    ensures shown { IfSome result (λ count. IsShown (trees_of texts.now items.now) (V.facts value.now) (Ok count)
-        room.old room.new) }
-    ensures fits { IfSome result (λ count. count ≤ length room.old) }
-    ensures nothing { IfNone result (room.new ≡ room.old) }
-{
-    let mut output = RoomSink::<B>::new(room);
-    let mut state = value.first_state();
-    if write_run(items, texts, &mut output, value, &mut state) {
-        Some(output.len())
-    } else {
-        None
-    }
-}
-
 /// Writes the text of the items to the start of a buffer, or as much of it as fits, as
 /// `write_items` does, for a text that is longer than the array.
 #[cold]
 #[inline(never)]
-pub fn write_long<B: Before, V: FirstState>(
+pub fn write_long<B: Before, V: ComponentProvider<State: Drop>>(
     items: &[Item],
     texts: &[u8],
     value: &V,
@@ -229,7 +193,7 @@ pub fn write_long<B: Before, V: FirstState>(
 /// Writes the text of the items to the start of a buffer, or as much of it as fits. Returns the
 /// number of bytes of the whole text, up to the greatest `usize`.
 #[inline(never)]
-fn write_items<B: Before, V: FirstState>(
+fn write_items<B: Before, V: ComponentProvider<State: Drop>>(
     items: &[Item],
     texts: &[u8],
     value: &V,
@@ -248,7 +212,7 @@ fn write_items<B: Before, V: FirstState>(
 /// Writes the texts of the items into a sink, but for those that do not fit. Returns their number
 /// of bytes, up to the greatest `usize`. An item before which the loop stops is written by a call.
 /// A reason is that of the first item that is invalid or refused.
-fn put_items<S: Sink, V: FirstState>(
+fn put_items<S: Sink, V: ComponentProvider<State: Drop>>(
     items: &[Item],
     texts: &[u8],
     output: &mut S,
@@ -258,7 +222,7 @@ fn put_items<S: Sink, V: FirstState>(
         (S.buffer output.old) (S.buffer output.new) (answer_before all result) }
     ensures lender { IfOk result (λ _. (S.buffer output.new).block.lender ≡ (S.buffer output.old).block.lender) }
 {
-    let mut state = value.first_state();
+    let mut state = V::State::default();
     let mut lost = 0usize;
     let mut left = items;
     while let [item, behind @ ..] = write_all(left, texts, output, value, &mut state)? {
@@ -297,67 +261,6 @@ impl<'a> WriteStep<&'a [u8]> for Item {
         _state: &mut V::State,
     ) -> Option<Result<(), Refused>> {
         None
-    }
-}
-
-/// Writes the date or the time of day at the front of the items, if there is one, the value has it
-/// and its text fits. Returns whether it was written.
-#[inline(always)]
-fn write_run<S: Sink, V: ComponentProvider>(
-    items: &[Item],
-    texts: &[u8],
-    output: &mut S,
-    value: &V,
-    state: &mut V::State,
-) -> bool
-    requires agrees { V.agrees state.old value.now }
-    ensures ends { IsTrue result → EndsFirst texts.now items.now (V.facts value.now)
-        (S.buffer output.old) (S.buffer output.new) }
-    ensures nothing { IsFalse result → S.buffer output.new ≡ S.buffer output.old }
-    ensures agrees { V.agrees state.new value.now }
-{
-    match run_of(items, texts) {
-        Some((run, between)) => write_parts(run, between, output, value, state),
-        None => false,
-    }
-}
-
-/// Writes a date or a time of day, if the value has it and its text fits. Returns whether it was
-/// written.
-#[inline(always)]
-fn write_parts<S: Sink, V: ComponentProvider>(
-    run: Run,
-    between: (u8, u8),
-    output: &mut S,
-    value: &V,
-    state: &mut V::State,
-) -> bool
-    requires agrees { V.agrees state.old value.now }
-    ensures ends { IsTrue result → EndsRun run between.0 between.1 (V.facts value.now)
-        (S.buffer output.old) (S.buffer output.new) }
-    ensures nothing { IsFalse result → S.buffer output.new ≡ S.buffer output.old }
-    ensures agrees { V.agrees state.new value.now }
-{
-    if output.room() < LONGEST {
-        return false;
-    }
-    match run {
-        Run::Date if V::SUPPLIES_DATE => {
-            write_date(between, output, value, state);
-            true
-        }
-        Run::StandardDate if V::SUPPLIES_DATE => {
-            let is_in_range = value.calendar_year(state).get().unsigned_abs() <= 9_999;
-            if is_in_range {
-                write_date(between, output, value, state);
-            }
-            is_in_range
-        }
-        Run::Time if V::SUPPLIES_TIME => {
-            write_time(between, output, value, state);
-            true
-        }
-        _ => false,
     }
 }
 
@@ -402,6 +305,36 @@ fn write_usual<S: Sink, V: ComponentProvider>(
         25 => usual!(Minute: padding; output, value, state),
         27 => usual!(Second: padding; output, value, state),
         30 => usual!(OffsetMinute: padding; output, value, state),
+        _ => write_usual_run(head, item, output, value, state),
+    }
+}
+
+/// Writes a date or a time of day. Of any other item writes nothing, and returns `None`.
+#[inline(always)]
+fn write_usual_run<S: Sink, V: ComponentProvider>(
+    head: u64,
+    item: &Item,
+    output: &mut S,
+    value: &V,
+    state: &mut V::State,
+) -> Option<Result<(), Refused>>
+    requires head { head < 2 ^ 32 → item.now.kind ≡ head }
+    requires room { Fits (S.buffer output.old) 13 }
+    requires agrees { V.agrees state.old value.now }
+    ensures writes { MatchOption result (S.buffer output.new ≡ S.buffer output.old)
+        (λ answer. (texts : List ℕ) → EndsItem (item_tree texts item.now) (V.facts value.now)
+        (S.buffer output.old) (S.buffer output.new) answer) }
+    ensures agrees { V.agrees state.new value.now }
+{
+    match head {
+        253 => {
+            let between = separators_of(item).ok()?;
+            Some(write_run(&Run::Date(between), output, value, state))
+        }
+        252 => {
+            let between = separators_of(item).ok()?;
+            Some(write_run(&Run::Time(between), output, value, state))
+        }
         _ => None,
     }
 }
@@ -502,7 +435,7 @@ fn write_item<S: Sink, V: ComponentProvider>(
 }
 
 /// Writes any part if its text fits, and returns the number of bytes that are lost if it does not.
-#[tactic(auto, using(crate::proofs::DescribedLemmas::component_fits))]
+#[tactic(auto, using(crate::proofs::DescribedLemmas::shown_fits))]
 fn write_any<S: Sink, V: ComponentProvider>(
     part: Part<'_>,
     output: &mut S,
@@ -514,21 +447,43 @@ fn write_any<S: Sink, V: ComponentProvider>(
         (S.buffer output.old) (S.buffer output.new) result }
     ensures agrees { V.agrees state.new value.now }
 {
-    let component = match part {
+    let shown = match part {
         Part::Text(text) => return Ok(write_text(output, text)),
         Part::Byte(byte) => return Ok(write_text(output, &[byte])),
-        Part::Component(component) => component,
+        Part::Shown(shown) => shown,
     };
     if LONGEST <= output.room() {
-        return match end_component(component, output, value, state) {
+        return match end_shown(&shown, output, value, state) {
             Ok(()) => Ok(0),
             Err(refused) => Err(reason_of(refused.into())),
         };
     }
     let mut array = [0u8; LONGEST];
-    match write_into_room(&[part], &mut array, value, state) {
-        Ok(count) => Ok(write_text(output, &array[..count])),
-        Err(error) => Err(reason_of(error)),
+    let count = write_shown::<Brand, V>(&shown, &mut array, value, state)?;
+    Ok(write_text(output, &array[..count]))
+}
+
+/// Writes what an item shows to the start of a buffer with room for it, and returns the number of
+/// bytes.
+fn write_shown<B: Before, V: ComponentProvider>(
+    shown: &Shown,
+    room: &mut [u8],
+    value: &V,
+    state: &mut V::State,
+) -> Result<usize, Reason>
+    requires before { room.old ≡ B.before }
+    requires fits { tree_width (shown_tree shown.now) ≤ length room.old }
+    requires agrees { V.agrees state.old value.now }
+    ensures shows { MatchResult result
+        (λ count. Shows (tree_outcome (shown_tree shown.now) (V.facts value.now))
+        (tree_width (shown_tree shown.now)) count room.old room.new)
+        (λ reason. IsRefusedFor reason (tree_outcome (shown_tree shown.now) (V.facts value.now))) }
+    ensures agrees { V.agrees state.new value.now }
+{
+    let mut output = RoomSink::<B>::new(room);
+    match end_shown(shown, &mut output, value, state) {
+        Ok(()) => Ok(output.len()),
+        Err(refused) => Err(reason_of(refused.into())),
     }
 }
 
@@ -562,6 +517,6 @@ fn part_width(part: Part<'_>) -> usize
     match part {
         Part::Text(text) => text.len(),
         Part::Byte(_) => 1,
-        Part::Component(component) => component_width(&component),
+        Part::Shown(shown) => shown.width(),
     }
 }

@@ -46,7 +46,7 @@ time_ends x y f old new there most put = grind (arith, whole_text, append-nil)
 -- ---- texts
 
 -- three components are a text where the bytes between them are
-three_are_text : (p q r : Component) (first second : ℕ) (f : Facts) → is_utf8 (first ∷ []) ≡ true → is_utf8 (second ∷ []) ≡ true
+pub three_are_text : (p q r : Component) (first second : ℕ) (f : Facts) → is_utf8 (first ∷ []) ≡ true → is_utf8 (second ∷ []) ≡ true
     → IsTextIf (is_guaranteed_text (three_parts p first q second r)) (tree_outcome (three_parts p first q second r) f)
 three_are_text p q r first second f is_first is_second =
     let third = more (of_component r) end in

@@ -37,19 +37,24 @@ fn moments() -> Vec<UtcMoment> {
     (0..VALUES).map(|_| moment()).collect()
 }
 
-/// `[year]-[month]-[day]`.
+/// `%Y-%m-%d`.
 fn five() -> Description {
+    Description::parse_strftime("%Y-%m-%d").unwrap_or_default()
+}
+
+/// `%Y-%m-%d %H:%M:%S`.
+fn eleven() -> Description {
+    Description::parse_strftime("%Y-%m-%d %H:%M:%S").unwrap_or_default()
+}
+
+/// The same, built item by item.
+fn built() -> Description {
     Description::new()
-        .component(Kind::Year)
+        .component(Kind::YearExtended)
         .literal("-")
         .component(Kind::Month)
         .literal("-")
         .component(Kind::Day)
-}
-
-/// `[year]-[month]-[day] [hour]:[minute]:[second]`.
-fn eleven() -> Description {
-    five()
         .literal(" ")
         .component(Kind::Hour)
         .literal(":")

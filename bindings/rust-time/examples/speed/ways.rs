@@ -1,7 +1,7 @@
 //! The ways to a text by their names.
 use crate::{
-    batch, batch_of_parts, each, eleven, five, items_of_chrono, long, measured, names, of_date,
-    of_one_second, of_parts, of_time, of_time_east, ours, ours_east, reading, reading_by,
+    batch, batch_of_parts, built, each, eleven, five, items_of_chrono, long, measured, names,
+    of_date, of_one_second, of_parts, of_time, of_time_east, ours, ours_east, reading, reading_by,
     reading_mail, reading_texts_by, rfc2822_of_chrono, rfc3339_of_chrono, server, Call, Ways, EAST,
     VALUES,
 };
@@ -231,6 +231,7 @@ fn descriptions() -> Ways {
     let names_of_chrono = || items_of_chrono("%A, %d %B %Y");
     vec![
         ("items_format_utc:11-items", ours(eleven())),
+        ("items_format_utc:built", ours(built())),
         ("items_format_utc:11-items/time", of_time(ELEVEN_OF_TIME)),
         ("items_format_utc:11-items/chrono", eleven_of_chrono()),
         ("items_format_local:11-items", ours_east(eleven())),
@@ -252,7 +253,7 @@ fn descriptions() -> Ways {
         ("items_format_date:names", of_date(names())),
         ("items_format_date:names/time", of_time(NAMES_OF_TIME)),
         ("items_format_date:names/chrono", names_of_chrono()),
-        ("building:11-items", each(|_, _| drop(eleven()))),
+        ("building:11-items", each(|_, _| drop(built()))),
         ("building:8000-items", each(|_, _| drop(long(8_000)))),
         ("building:16000-items", each(|_, _| drop(long(16_000)))),
     ]
@@ -326,7 +327,7 @@ fn readings() -> Ways {
 
 /// The other calls of the Rust crate, each of which ends in one function of the library.
 fn other_calls() -> Ways {
-    let (built, counted) = (eleven(), eleven());
+    let (read, counted) = (eleven(), eleven());
     let line = RefCell::new(String::new());
     let in_string = move |moment: &UtcMoment| {
         let mut line = line.borrow_mut();
@@ -380,10 +381,7 @@ fn other_calls() -> Ways {
             "items_format_utc_length:11-items",
             measured(move |moment| counted.length(moment).unwrap_or(0)),
         ),
-        (
-            "items_max_length:11-items",
-            measured(move |_| built.width()),
-        ),
+        ("items_max_length:11-items", measured(move |_| read.width())),
     ]
 }
 

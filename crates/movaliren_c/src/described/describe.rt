@@ -12,12 +12,14 @@ ghost use Rattle.time_below.specs.Facts.{facts_of_offset_date_time, facts_of_tim
 use crate::answers::reason::{Reason, answer_number};
 use crate::described::item::Item;
 use crate::described::item_room::ItemRoom;
-use crate::described::local_parts::{FirstState, local_parts_at};
+use crate::described::join::join;
 use crate::described::made_item::NO_ITEM;
 use crate::described::syntax::{Numbered, ParseError, put_items};
 use crate::described::write_described;
 use crate::values::moment::timestamp_value;
+use crate::values::source::local_value;
 use time_describe::{Brackets, Strftime, Syntax};
+use time_provide::ComponentProvider;
 
 /// The most items of a text that is formatted in one call.
 const FEW: usize = 64;
@@ -66,7 +68,7 @@ pub extern "C" fn movaliren_format_brackets_local(
     ensures { Answers result (λ answer. IsText (described (few (bracket_items text.now))
         (local_value seconds nanosecond offset) facts_of_offset_date_time) answer buffer.old buffer.new) }
 {
-    let value = local_parts_at(seconds, nanosecond, offset);
+    let value = local_value(seconds, nanosecond, offset);
     answer_number(write_text::<Brackets, _>(text, value, buffer))
 }
 
@@ -110,12 +112,12 @@ pub extern "C" fn movaliren_format_strftime_local(
     ensures { Answers result (λ answer. IsText (described (few (strftime_items text.now))
         (local_value seconds nanosecond offset) facts_of_offset_date_time) answer buffer.old buffer.new) }
 {
-    let value = local_parts_at(seconds, nanosecond, offset);
+    let value = local_value(seconds, nanosecond, offset);
     answer_number(write_text::<Strftime, _>(text, value, buffer))
 }
 
-/// Reads the items of a text into an array. If there are none, or they do not fit, the first item
-/// of the array is none.
+/// Reads the items of a text into an array, where each date and each time of day is one item then.
+/// If there are none, or they do not fit, the first item of the array is none.
 fn describe<S: Syntax<Reason: Numbered>>(
     text: &[u8],
     items: &mut [Item],
@@ -128,7 +130,10 @@ fn describe<S: Syntax<Reason: Numbered>>(
 {
     let mut room = ItemRoom::new(items);
     match put_items::<S>(&mut room, text) {
-        Ok(()) if room.is_complete() => Ok(room.count()),
+        Ok(()) if room.is_complete() => {
+            let count = room.count();
+            Ok(join(&mut items[..count], text))
+        }
         Ok(()) => {
             *fault = ParseError::many(room.count());
             room.clear();
@@ -144,7 +149,7 @@ fn describe<S: Syntax<Reason: Numbered>>(
 
 /// Writes the text of the value by the description that another text is.
 #[tactic(auto, using(crate::proofs::ItemLemmas::text_shown, crate::proofs::ItemLemmas::text_faulty, std::proofs::lemmas::Grind::common_steps))]
-fn write_text<S: Syntax<Reason: Numbered>, V: FirstState>(
+fn write_text<S: Syntax<Reason: Numbered>, V: ComponentProvider<State: Drop> + Drop>(
     text: &[u8],
     value: Result<V, Reason>,
     room: &mut [u8],
@@ -167,7 +172,7 @@ fn write_text<S: Syntax<Reason: Numbered>, V: FirstState>(
 #[cold]
 #[inline(never)]
 #[tactic(auto, using(crate::proofs::ItemLemmas::text_shown, crate::proofs::ItemLemmas::text_refused, std::proofs::lemmas::Grind::common_steps))]
-fn write_many<S: Syntax<Reason: Numbered>, V: FirstState>(
+fn write_many<S: Syntax<Reason: Numbered>, V: ComponentProvider<State: Drop> + Drop>(
     text: &[u8],
     value: Result<V, Reason>,
     room: &mut [u8],

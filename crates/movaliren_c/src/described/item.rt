@@ -1,21 +1,23 @@
 //! The items of a description, as C passes them.
 //!
 //! Without `inline(always)` the compiler leaves calls of the functions that have it.
-ghost use Rattle.std.specs.Prelude.{◌≡◌, Err, IfNone, IfSome, Ok};
+ghost use Rattle.std.specs.Prelude.{◌≡◌, ◌<◌, ◌^◌, ◌∷◌, [], Err, IfNone, IfSome, Ok};
 ghost use Rattle.movaliren_c.specs.declared.answers.reason.Reason.TheVariants.{BadItem};
 ghost use Rattle.time_below.specs.Tree.{byte_literal};
+ghost use Rattle.time_below.specs.declared.format_description.component.Component.{Component};
 ghost use Rattle.movaliren_c.specs.Items.{padding_at, digits_at, date_component, year_component};
 ghost use Rattle.movaliren_c.specs.Items.{time_component, component_at, component_of, item_tree};
-ghost use Rattle.movaliren_c.specs.Items.{part_tree, tree_of};
+ghost use Rattle.movaliren_c.specs.Items.{parted_by, parted_tree, tree_of};
 
 use crate::answers::reason::{Reason, flag_at};
-use std::slice;
 use time_below::format_description::modifier::{Padding, SubsecondDigits};
-use time_below::format_description::{Component, Layer, Node, modifier};
+use time_below::format_description::{Component, modifier};
+use time_plan::{Run, Separators, Shown};
 
 /// An item of a description: kind 255 is `len` bytes of the texts from `start` on, kind 254 the
-/// byte in
-/// `byte`, any other a component with its choices.
+/// byte in `byte`, kind 253 a date and kind 252 a time of day, any other a component with its
+/// choices. A date or a time of day has the byte `start` before its second part and `len` before
+/// its third.
 #[repr(C)]
 #[derive(Clone, Copy)]
 pub struct Item {
@@ -33,21 +35,7 @@ pub struct Item {
 pub enum Part<'a> {
     Text(&'a [u8]),
     Byte(u8),
-    Component(Component),
-}
-
-impl Node for Part<'_> {
-    ghost tree = { part_tree };
-
-    ghost size = { λ _. 1 };
-
-    fn layer(&self) -> Layer<'_, Self> {
-        match self {
-            Part::Text(bytes) => Layer::Bytes(bytes),
-            Part::Byte(byte) => Layer::Bytes(slice::from_ref(byte)),
-            Part::Component(component) => Layer::Component(*component),
-        }
-    }
+    Shown(Shown),
 }
 
 /// A component with choices of these names.
@@ -198,19 +186,57 @@ pub fn text_of<'a>(item: &Item, texts: &'a [u8]) -> Option<&'a [u8]>
     Some(&texts[item.start..end])
 }
 
+/// The byte that an item is, if it is a text of one.
+pub fn byte_of(item: &Item, texts: &[u8]) -> Option<u8>
+    ensures { IfSome result (λ byte. item_tree texts.now item.now ≡ Ok (byte_literal (byte ∷ []))) }
+{
+    match item.kind {
+        255 if item.len == 1 && item.start < texts.len() => Some(texts[item.start]),
+        254 => Some(item.byte),
+        _ => None,
+    }
+}
+
+/// The kind of an item, and above it its choices and its byte. The compiler reads the five as one
+/// number.
+pub fn head_of(item: &Item) -> u64
+    ensures kind { result < 2 ^ 32 → item.now.kind ≡ result }
+    ensures padding { result < 2 ^ 32 → item.now.padding ≡ 0 }
+    ensures flag { result < 2 ^ 32 → item.now.flag ≡ 0 }
+    ensures digits { result < 2 ^ 32 → item.now.digits ≡ 0 }
+{
+    let choices = item.padding as u64 + item.flag as u64 * 0x100 + item.digits as u64 * 0x1_0000;
+    let whole = choices + item.byte as u64 * 0x100_0000;
+    item.kind as u64 + whole * 0x1_0000_0000
+}
+
+/// The bytes between the parts of a date or of a time of day, which are ASCII.
+#[tactic(auto, using(crate::proofs::StepLemmas::ascii_is_text))]
+pub fn separators_of(item: &Item) -> Result<Separators, Reason>
+    ensures { (p q r : Component) → parted_by p q r result ≡ parted_tree p q r item.now }
+{
+    if item.start >= 128 || item.len >= 128 {
+        return Err(Reason::BadItem);
+    }
+    Ok(Separators {
+        first: item.start as u8,
+        second: item.len as u8,
+    })
+}
+
 /// The part that the item says.
 #[inline(always)]
 pub fn part_of<'a>(item: &Item, texts: &'a [u8]) -> Result<Part<'a>, Reason>
     ensures { tree_of result ≡ item_tree texts.now item.now }
 {
-    if item.kind == 255 {
-        return match text_of(item, texts) {
+    match item.kind {
+        255 => match text_of(item, texts) {
             Some(text) => Ok(Part::Text(text)),
             None => Err(Reason::BadItem),
-        };
+        },
+        254 => Ok(Part::Byte(item.byte)),
+        253 => Ok(Part::Shown(Shown::Run(Run::Date(separators_of(item)?)))),
+        252 => Ok(Part::Shown(Shown::Run(Run::Time(separators_of(item)?)))),
+        _ => Ok(Part::Shown(Shown::Component(component_of(item)?))),
     }
-    if item.kind == 254 {
-        return Ok(Part::Byte(item.byte));
-    }
-    Ok(Part::Component(component_of(item)?))
 }

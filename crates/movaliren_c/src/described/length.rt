@@ -10,10 +10,11 @@ ghost use Rattle.time_below.specs.Facts.{facts_of_timestamp};
 
 use crate::answers::reason::{Reason, answer_number};
 use crate::described::item::Item;
-use crate::described::local_parts::{FirstState, local_parts_at, local_parts_of};
 use crate::described::{GREATEST_WIDTH, SHORT, first_reason, write_long};
-use crate::values::moment::{Moment, date_value, timestamp_value};
+use crate::values::moment::{Moment, date_value, moment_value, timestamp_value};
+use crate::values::source::local_value;
 use std::marker::Brand;
+use time_provide::ComponentProvider;
 
 /// The number of bytes of the text of a local date and time with its offset.
 #[unsafe(no_mangle)]
@@ -25,7 +26,7 @@ pub extern "C" fn movaliren_items_format_length(
     ensures { Answers result (λ answer. IsLength (described (trees_of texts.now items.now)
         (moment_value moment.now) facts_of_offset_date_time) answer) }
 {
-    answer_number(text_length(items, texts, local_parts_of(moment)))
+    answer_number(text_length(items, texts, moment_value(moment)))
 }
 
 /// The number of bytes of the text of a moment in UTC.
@@ -54,7 +55,7 @@ pub extern "C" fn movaliren_items_format_local_length(
     ensures { Answers result (λ answer. IsLength (described (trees_of texts.now items.now)
         (local_value seconds nanosecond offset) facts_of_offset_date_time) answer) }
 {
-    answer_number(text_length(items, texts, local_parts_at(seconds, nanosecond, offset)))
+    answer_number(text_length(items, texts, local_value(seconds, nanosecond, offset)))
 }
 
 /// The number of bytes of the text of a date.
@@ -74,7 +75,7 @@ pub extern "C" fn movaliren_items_format_date_length(
 
 /// The number of bytes of the text of the value by the description, up to the greatest `isize`, if
 /// there are both.
-fn text_length<V: FirstState>(
+fn text_length<V: ComponentProvider<State: Drop> + Drop>(
     items: &[Item],
     texts: &[u8],
     value: Result<V, Reason>,

@@ -1,8 +1,8 @@
 //! The items of components and literals.
 //!
 //! Without `inline(always)` the compiler leaves calls of the functions that have it.
-ghost use Rattle.std.specs.Prelude.{◌≡◌, ◌≤◌, ◌+◌, ◌∷◌, [], ℕ, List, MatchOption, Ok, false};
-ghost use Rattle.std.specs.Prelude.{length, slice_range};
+ghost use Rattle.std.specs.Prelude.{◌≡◌, ◌≤◌, ◌<◌, ◌+◌, ◌∷◌, [], ℕ, IfSome, List, MatchOption, Ok};
+ghost use Rattle.std.specs.Prelude.{false, length, slice_range};
 ghost use Rattle.movaliren_c.specs.Described.{IsItem, IsItemOf, is_shown};
 ghost use Rattle.movaliren_c.specs.Items.{component_at, component_of, digits_at, padding_at};
 ghost use Rattle.time_below.specs.Tree.{of_component};
@@ -164,4 +164,21 @@ pub fn text_item(_text: &[u8], start: usize, len: usize) -> Item
         len,
         ..NO_ITEM
     }
+}
+
+/// The date or the time of day of this kind with these bytes between its parts, if they are ASCII.
+pub fn run_item(kind: u32, first: u8, second: u8) -> Option<Item>
+    ensures kind { IfSome result (λ item. item.kind ≡ kind) }
+    ensures first { IfSome result (λ item. (item.start ≡ first) × (first < 128)) }
+    ensures second { IfSome result (λ item. (item.len ≡ second) × (second < 128)) }
+{
+    if !first.is_ascii() || !second.is_ascii() {
+        return None;
+    }
+    Some(Item {
+        kind,
+        start: usize::from(first),
+        len: usize::from(second),
+        ..NO_ITEM
+    })
 }

@@ -13,10 +13,9 @@ ghost use Rattle.time_plan.specs.Shown.{shown_tree};
 ghost use Rattle.time_plan_read.specs.Parts.{parts_tree, ref_bytes};
 
 use crate::answers::reason::Reason;
-use crate::described::item::{Item, Part, part_of, text_of};
-use crate::described::run::{Run, byte_of, run_of};
+use crate::described::item::{Item, Part, byte_of, part_of, text_of};
 use crate::described::width;
-use time_plan::{Run as ShownRun, Separators, Shown};
+use time_plan::{Run, Shown};
 use time_plan_read::{LiteralRef, StepParts};
 
 /// The most steps that are kept.
@@ -25,7 +24,7 @@ pub const KEPT: usize = 16;
 /// A step of no text.
 pub fn no_step<'a>() -> StepParts<'a> {
     StepParts {
-        shown: Shown::Run(ShownRun::Empty),
+        shown: Shown::Run(Run::Empty),
         literal: LiteralRef::Byte(0),
     }
 }
@@ -36,7 +35,7 @@ fn literal_step(literal: LiteralRef<'_>) -> StepParts<'_>
     ensures { (f : Facts) → tree_outcome (parts_tree result) f ≡ done (ref_bytes literal.entry) }
 {
     StepParts {
-        shown: Shown::Run(ShownRun::Empty),
+        shown: Shown::Run(Run::Empty),
         literal,
     }
 }
@@ -74,34 +73,6 @@ fn with_literal<'a>(shown: Shown, items: &'a [Item], texts: &'a [u8]) -> (StepPa
     (StepParts { shown, literal }, behind)
 }
 
-/// These bytes between three parts, if each is a text.
-#[tactic(auto, using(crate::proofs::StepLemmas::ascii_is_text))]
-fn between_of(first: u8, second: u8) -> Option<Separators>
-    ensures first { IfSome result (λ between. between.first ≡ first) }
-    ensures second { IfSome result (λ between. between.second ≡ second) }
-{
-    if first.is_ascii() && second.is_ascii() {
-        Some(Separators { first, second })
-    } else {
-        None
-    }
-}
-
-/// The date or the time of day that the first five items are, if a step shows it.
-fn run_first(items: &[Item], texts: &[u8]) -> Option<Shown>
-    ensures begins { IfSome result (λ shown. Begins (trees_of texts.now items.now)
-        (tree_outcome (shown_tree shown)) (trees_of texts.now (drop 5 items.now))) }
-    ensures five { IfSome result (λ _. 5 ≤ length items.now) }
-{
-    let (run, (first, second)) = run_of(items, texts)?;
-    let between = between_of(first, second)?;
-    match run {
-        Run::Date => Some(Shown::Run(ShownRun::Date(between))),
-        Run::Time => Some(Shown::Run(ShownRun::Time(between))),
-        Run::StandardDate => None,
-    }
-}
-
 /// The step that the items begin with, and the items behind it.
 fn step_first<'a>(items: &'a [Item], texts: &'a [u8]) -> Result<(StepParts<'a>, &'a [Item]), Reason>
     requires { 1 ≤ length items.now }
@@ -110,13 +81,8 @@ fn step_first<'a>(items: &'a [Item], texts: &'a [u8]) -> Result<(StepParts<'a>, 
     ensures behind { IfOk result (λ found. length found.1.now < length items.now) }
     ensures reason { IfErr result (λ reason. trees_of texts.now items.now ≡ Err reason) }
 {
-    if let Some(shown) = run_first(items, texts) {
-        return Ok(with_literal(shown, &items[5..], texts));
-    }
     match part_of(&items[0], texts)? {
-        Part::Component(component) => {
-            Ok(with_literal(Shown::Component(component), &items[1..], texts))
-        }
+        Part::Shown(shown) => Ok(with_literal(shown, &items[1..], texts)),
         Part::Byte(byte) => Ok((literal_step(LiteralRef::Byte(byte)), &items[1..])),
         Part::Text(bytes) => Ok((literal_step(LiteralRef::Bytes(bytes)), &items[1..])),
     }

@@ -3,10 +3,10 @@
 //! Without `inline(always)` the compiler leaves calls of the functions that have it. `cold` and
 //! `inline(never)` keep long or rare bodies out of their callers.
 ghost use Rattle.std.specs.Prelude.{◌≡◌, ◌≤◌, IsTrue, unsigned_abs};
-ghost use Rattle.movaliren_c.specs.Known.{offset_of_parts, time_of_parts};
 ghost use Rattle.movaliren_c.specs.Utc.{utc_value};
 ghost use Rattle.movaliren_c.specs.Value.{date_value, is_alike, is_offset_part, moment_value};
-ghost use Rattle.movaliren_c.specs.Value.{offset_value, time_value, timestamp_value};
+ghost use Rattle.movaliren_c.specs.Value.{offset_of_parts, offset_value, time_of_parts, time_value};
+ghost use Rattle.movaliren_c.specs.Value.{timestamp_value};
 ghost use Rattle.time_below.specs.Moment.{utc_date_and_time};
 ghost use Rattle.time_below.specs.Offset.{HasNoOtherSign, IsOffset};
 

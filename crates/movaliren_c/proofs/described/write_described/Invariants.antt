@@ -1,9 +1,6 @@
 use Rattle.movaliren_c.proofs.described.write_described.Given as goal
 
 -- what the array holds, and what the buffer does
-abbrev pub ghosts-write_alone : goal.ghosts-write_alone
-ghosts-write_alone g a = record { before = a.room.now }
-
 abbrev pub ghosts-write_items : goal.ghosts-write_items
 ghosts-write_items g a = record { before = a.room.now }
 
