@@ -1,6 +1,7 @@
 //! ISO 8601-1:2019, by its default configuration and by any other.
 //!
-//! `inline(never)` keeps long or rare bodies out of their callers.
+//! `inline(never)` keeps a long body out of its callers. Without `inline(always)` the compiler
+//! leaves calls of the function that has it.
 ghost use Rattle.std.specs.Prelude.{◌≡◌, ◌≢◌, ◌≤◌, IfErr, IfOk, Ok, length};
 ghost use Rattle.movaliren_c.specs.Answer.{IsAnswer, IsRefusedFor, IsText, IsWritten, gives};
 ghost use Rattle.movaliren_c.specs.Batch.{IsBatch};
@@ -277,7 +278,7 @@ impl<S: Source> Iso8601By<S> {
 
 /// Writes the text of the value to an array first, part by part, since one may be refused after
 /// others.
-#[inline(never)]
+#[inline(always)]
 fn write_parts(config: &Config, value: &OffsetDateTime, room: &mut [u8]) -> Result<usize, Reason>
     ensures { IsWritten result (iso8601_of config.now value.now) room.old room.new }
 {

@@ -87,27 +87,15 @@ pub(super) fn write_date_by<V: ComponentProvider>(
     let year = ru16::within(number.unsigned_abs() as u16);
     let mut taken = take_out(output);
     let begin = taken.len();
+    format_four_digits_pad_zero(&mut taken, year);
     if has_dash {
-        put_short(&mut taken, year, &date.rest, true);
+        put_rest(&mut taken, &date.rest, true);
     } else {
-        put_short(&mut taken, year, &date.rest, false);
+        put_rest(&mut taken, &date.rest, false);
     }
     let count = taken.len() - begin;
     put_back(output, taken);
     Ok(count)
-}
-
-// Puts four digits of the year, and what follows it.
-#[inline(always)]
-#[tactic(auto, using(crate::proofs::LengthLemmas::joined_lengths))]
-fn put_short<S: Sink>(output: &mut S, year: ru16<0, 9_999>, rest: &RestOfDate, has_dash: bool)
-    requires room { Fits (S.buffer output.old) (4 + rest_width (length (dash has_dash)) rest.now) }
-    ensures puts { PutsUpTo (4 + rest_width (length (dash has_dash)) rest.now)
-        (S.buffer output.old) (S.buffer output.new)
-        (zero_padded 4 year ++ rest_text (dash has_dash) rest.now) }
-{
-    format_four_digits_pad_zero(output, year);
-    put_rest(output, rest, has_dash);
 }
 
 // Puts the value's date.
@@ -137,6 +125,7 @@ pub(super) fn put_date<S: Sink, V: ComponentProvider>(
 }
 
 // Puts the sign and six digits of the year, or four digits of one that has no more.
+#[inline(always)]
 #[tactic(auto, using(crate::proofs::LengthLemmas::sign_lengths))]
 fn put_year<S: Sink>(output: &mut S, year: Year, is_six_digits: bool) -> Result<(), OutOfRange>
     requires room { Fits (S.buffer output.old) (year_width is_six_digits) }

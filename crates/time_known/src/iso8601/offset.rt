@@ -1,4 +1,6 @@
 //! The offset from UTC of a text of ISO 8601-1:2019, sections 5.3.3 and 5.3.4.
+//!
+//! Without `inline(always)` the compiler leaves a call of the function that has it.
 ghost use Rattle.std.specs.Prelude.{IsTrue};
 ghost use Rattle.time_below.specs.Facts.{the_offset};
 ghost use Rattle.time_fmt.specs.Outcome.{AppendsUpTo};
@@ -49,6 +51,7 @@ pub fn format_offset<V: ComponentProvider>(
 
 // Puts `Z` for UTC where there is a time, else the sign, the hours and the minutes. Where the
 // configuration has no minutes, they are refused unless zero.
+#[inline(always)]
 #[tactic(auto, using(crate::proofs::LengthLemmas::joined_lengths))]
 pub(super) fn put_offset<S: Sink>(
     output: &mut S,

@@ -112,6 +112,29 @@ pub fn put_parts<S: Sink, V: ComponentProvider>(
     ensures real { OnOk result (IsRealWhole config.now (V.facts value.now)) }
     ensures agrees { V.agrees state.new value.now }
 {
+    let mut taken = output.take_out();
+    let answer = put_each(&mut taken, config, value, state);
+    output.put_back(taken);
+    answer
+}
+
+// Puts the parts into a sink that is taken out.
+fn put_each<S: Sink, V: ComponentProvider>(
+    output: &mut S,
+    config: &Config,
+    value: &V,
+    state: &mut V::State,
+) -> Result<(), OutOfRange>
+    requires some { config.now.formatted_components ≢ FormattedComponents.None }
+    requires supplied { SuppliesParts config.now V.SUPPLIES_DATE V.SUPPLIES_TIME V.SUPPLIES_OFFSET }
+    requires room { Fits (S.buffer output.old) (iso8601_width config.now) }
+    requires agrees { V.agrees state.old value.now }
+    ensures puts { PutsOutcome (iso8601_width config.now) (S.buffer output.old)
+        (S.buffer output.new) result
+        (iso8601_outcome config.now (V.facts value.now)) }
+    ensures real { OnOk result (IsRealWhole config.now (V.facts value.now)) }
+    ensures agrees { V.agrees state.new value.now }
+{
     // Asked within the branch, a refusal would cost other texts up to three instructions.
     let date = if config.has_date() {
         put_date(output, config, value, state)
@@ -154,8 +177,7 @@ pub(super) fn write_parts<V: ComponentProvider>(
     }
 }
 
-// Appends the parts that are formatted, one after another, by any configuration. It is copied
-// first, so that no byte that is written may change it.
+// Appends the parts that are formatted, one after another, by any configuration.
 fn write_each<V: ComponentProvider>(
     config: &Config,
     output: &mut Vec<u8>,
@@ -173,10 +195,9 @@ fn write_each<V: ComponentProvider>(
     if config.formats_nothing() {
         return Err(Format::InsufficientTypeInformation);
     }
-    let config = *config;
     let mut taken = take_out(output);
     let begin = taken.len();
-    let answer = put_parts(&mut taken, &config, value, state);
+    let answer = put_each(&mut taken, config, value, state);
     let count = taken.len() - begin;
     put_back(output, taken);
     answer?;

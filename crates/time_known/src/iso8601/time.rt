@@ -18,7 +18,7 @@ ghost use Rattle.time_known.specs.WellKnown.{clock_text};
 
 use crate::fields::time_of;
 use crate::iso8601::config::{Config, DecimalSign, TimePrecision};
-use crate::iso8601::usual_text::put_fraction_by;
+use crate::iso8601::usual_text;
 use crate::put::put_clock;
 use time_below::Time;
 use time_digits::{ru8, ru32};
@@ -58,8 +58,19 @@ pub fn format_time<V: ComponentProvider>(
     Ok(count)
 }
 
-// Puts the letter, where there is one, and the units.
+// Puts the time into a sink that is taken out, so that its length stays in a register.
 pub(super) fn put_time<S: Sink>(output: &mut S, config: &Config, time: Time)
+    requires room { Fits (S.buffer output.old) (iso_time_width config.now) }
+    ensures puts { PutsUpTo (iso_time_width config.now) (S.buffer output.old)
+        (S.buffer output.new) (iso_time_text config.now time) }
+{
+    let mut taken = output.take_out();
+    put_letter_and_units(&mut taken, config, time);
+    output.put_back(taken);
+}
+
+// Puts the letter, where there is one, and the units.
+fn put_letter_and_units<S: Sink>(output: &mut S, config: &Config, time: Time)
     requires room { Fits (S.buffer output.old) (iso_time_width config.now) }
     ensures puts { PutsUpTo (iso_time_width config.now) (S.buffer output.old)
         (S.buffer output.new) (iso_time_text config.now time) }
@@ -105,6 +116,7 @@ fn put_units<S: Sink>(output: &mut S, config: &Config, time: Time)
 
 // Puts the hour, the minute and the second, the separator between them, and decimals of the second.
 #[inline(always)]
+#[tactic(auto, using(crate::proofs::iso8601::LengthLemmas::decimal_lengths))]
 pub(super) fn put_to_second<S: Sink>(
     output: &mut S,
     time: Time,
@@ -120,7 +132,10 @@ pub(super) fn put_to_second<S: Sink>(
         ++ decimal_part sign digits time.nanosecond NANOSECONDS_PER_SECOND) }
 {
     put_clock(output, time, colon);
-    put_fraction_by(output, sign, digits, ru32::within(time.as_hms_nano().3));
+    if let Some(digits) = digits {
+        write(output, sign.text());
+        usual_text::put_decimals(output, ru32::within(time.as_hms_nano().3), digits);
+    }
 }
 
 // What the whole hours leave out of the time.

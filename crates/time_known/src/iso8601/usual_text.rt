@@ -12,7 +12,7 @@ ghost use Rattle.time_provide.specs.Real.{AreReal};
 ghost use Rattle.time_known.specs.Accepted.{AppendsAllOrNone};
 ghost use Rattle.time_known.specs.Fields.{shown};
 ghost use Rattle.time_known.specs.Groups.{AreAllSupplied};
-ghost use Rattle.time_known.specs.Iso8601.{decimal_part, iso8601_outcome};
+ghost use Rattle.time_known.specs.Iso8601.{iso8601_outcome};
 ghost use Rattle.time_known.specs.Iso8601Width.{decimal_part_width, iso8601_width};
 ghost use Rattle.time_known.specs.Sink.{PutsUpTo};
 ghost use Rattle.time_known.specs.Stamps.{stamp_length};
@@ -130,13 +130,10 @@ impl Text for StampText {
 
     #[inline(always)]
     fn put_into<S: Sink>(&self, output: &mut S) {
-        let usual = Usual {
-            has_separators: true,
-            decimal_digits: Some(ru8::within(9)),
-            decimal_sign: DecimalSign::Point,
-        };
+        let nine = Some(ru8::within(9));
         put_date(output, &self.fields, "-");
-        put_usual_time(output, &usual, self.fields.time, ":");
+        write(output, "T");
+        put_to_second(output, self.fields.time, ":", DecimalSign::Point, nine);
         write(output, "Z");
     }
 }
@@ -161,49 +158,15 @@ fn put_usual<S: Sink>(output: &mut S, usual: &Usual, fields: &Fields, dash: &str
         ++ offset_text colon.now fields.now.offset) }
 {
     put_date(output, fields, dash);
-    put_usual_time(output, usual, fields.time, colon);
-    put_offset(output, fields.offset, colon);
-}
-
-// Puts the time, and decimals of its second.
-#[inline(always)]
-fn put_usual_time<S: Sink>(output: &mut S, usual: &Usual, time: Time, separator: &str)
-    requires room { Fits
-        (S.buffer output.old)
-        (7 + 2 * length separator.now + decimal_part_width usual.now.decimal_digits) }
-    ensures puts { PutsUpTo
-        (7 + 2 * length separator.now + decimal_part_width usual.now.decimal_digits)
-        (S.buffer output.old) (S.buffer output.new)
-        (usual_time_text separator.now usual.now.decimal_sign usual.now.decimal_digits time) }
-{
     write(output, "T");
     put_to_second(
         output,
-        time,
-        separator,
+        fields.time,
+        colon,
         usual.decimal_sign,
         usual.decimal_digits,
     );
-}
-
-// Puts the decimal sign and the decimals of the second, if any are wanted.
-#[inline(always)]
-#[tactic(auto, using(crate::proofs::iso8601::LengthLemmas::decimal_lengths))]
-pub(super) fn put_fraction_by<S: Sink>(
-    output: &mut S,
-    sign: DecimalSign,
-    digits: Option<ru8<1, 255>>,
-    nanosecond: Nanoseconds,
-)
-    requires room { Fits (S.buffer output.old) (decimal_part_width digits) }
-    ensures puts { PutsUpTo (decimal_part_width digits)
-        (S.buffer output.old) (S.buffer output.new)
-        (decimal_part sign digits nanosecond NANOSECONDS_PER_SECOND) }
-{
-    if let Some(digits) = digits {
-        write(output, sign.text());
-        put_decimals(output, nanosecond, digits);
-    }
+    put_offset(output, fields.offset, colon);
 }
 
 /// Puts this many decimals of the second.
