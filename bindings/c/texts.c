@@ -406,7 +406,7 @@ static const struct {
     { movaliren_description_parse_strftime, MANY_DAYS, "1994-11-06T08:49:37" MANY_SIXTHS " 06", MOVALIREN_ERROR_UNDETERMINED, 0,
         784111777, 0, 0, 0 },
     { movaliren_description_parse_strftime, MANY_DAYS, "1994-11-06T08:49:37" MANY_SIXTHS " 07", MOVALIREN_ERROR_UNDETERMINED,
-        MOVALIREN_ERROR_NOT_READ, 0, 0, 0, "byte 8: the value is written otherwise from here on" },
+        MOVALIREN_ERROR_NOT_READ, 0, 0, 0, "byte 0: the value is written otherwise from here on" },
     { movaliren_description_parse_strftime, "%Y-%m-%d", "1994-11-06", MOVALIREN_ERROR_UNDETERMINED,
         MOVALIREN_ERROR_UNDETERMINED, 0, 0, 0, 0 },
     { movaliren_description_parse_strftime, "%d/%b/%Y:%H:%M:%S %z", "10/Okt/2000:13:55:36 -0700",

@@ -517,6 +517,7 @@ fn part_width(part: Part<'_>) -> usize
     match part {
         Part::Text(text) => text.len(),
         Part::Byte(_) => 1,
-        Part::Shown(shown) => shown.width(),
+        Part::Shown(Shown::Component(component)) => component_width(&component),
+        Part::Shown(Shown::Run(run)) => run.width(),
     }
 }
