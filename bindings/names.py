@@ -235,7 +235,7 @@ class Interfaces:
         """The kinds of what is no component and is not cut from the texts."""
         kinds = self.header_numbers("kind")
         header = {"byte": kinds["byte"], "date": kinds["date"], "time": kinds["timeofday"]}
-        rattle = findall(r"(\d+) => Ok\(Part::(?:Shown\(Shown::Run\(Run::)?(Byte|Date|Time)\b", *self.rattle)
+        rattle = findall(r"(\d+) => Ok\(Part::(?:Run\(Run::)?(Byte|Date|Time)\b", *self.rattle)
         self.same("the kinds of a byte, a date and a time of day", header, {words(name): int(number) for number, name in rattle})
 
     def structs(self):

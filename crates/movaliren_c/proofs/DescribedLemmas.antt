@@ -10,13 +10,11 @@ use Rattle.std.proofs.lemmas.Grind.{common_steps}
 use Rattle.std.proofs.lemmas.List.{append-nil, at_drop_more}
 use Rattle.std.proofs.lemmas.Str.{IsUtf8-from_ascii, is_utf8-from_IsUtf8}
 use Rattle.movaliren_c.specs.Answer.{IsReasonFor, IsRefusedFor, IsText, Refuses}
-use Rattle.movaliren_c.specs.Items.{EndsItem, IsPut, IsShown, IsWithinWidth, PutsOrLoses, Shows, as_one, component_of, described, item_tree, list_of, part_tree, parted_tree, reason_before, tree_or_nothing}
+use Rattle.movaliren_c.specs.Items.{EndsItem, IsPut, IsShown, IsWithinWidth, PutsOrLoses, Shows, as_one, component_of, described, item_tree, list_of, parted_tree, reason_before, tree_or_nothing}
 use Rattle.movaliren_c.specs.Value.{with_value}
 use Rattle.movaliren_c.specs.declared.answers.reason.Reason.{Reason}
 use Rattle.movaliren_c.specs.declared.answers.reason.Reason.TheVariants as reason
 use Rattle.movaliren_c.specs.declared.described.item.Item.{Item}
-use Rattle.movaliren_c.specs.declared.described.item.Part.{Part}
-use Rattle.movaliren_c.specs.declared.described.item.Part.TheVariants as part
 use Rattle.time_below.specs.Facts.{Facts}
 use Rattle.time_below.specs.Tree.{Tree, trees, all_of, byte_literal, of_component}
 use Rattle.time_below.specs.Width.{component_width, is_guaranteed_text, tree_width, trees_width}
@@ -269,14 +267,13 @@ in_array : (o : Outcome) (width count : ℕ) (before after : List ℕ) → Shows
     → (o.refusal ≡ None) × (length o.bytes ≤ width) × (take count after ≡ o.bytes)
 in_array o width count before after shows fits many = grind (arith, take-append_seam)
 
--- so what was put of these bytes is what the part shows
-pub array_put : (p : Part) (s : Shown) (f : Facts) (old new : Buffer) (lost count : ℕ) (before after : List ℕ)
-    → p ≡ part.Shown s → Shows (tree_outcome (shown_tree s) f) (tree_width (shown_tree s)) count before after
-    → length before ≡ 18 → PutsOrLoses old new lost (take count after) → IsPut (Ok (part_tree p)) f old new (Ok lost)
-array_put p s f old new lost count before after is shows many put =
+-- so what was put of these bytes is what the item shows
+pub array_put : (s : Shown) (f : Facts) (old new : Buffer) (lost count : ℕ) (before after : List ℕ)
+    → Shows (tree_outcome (shown_tree s) f) (tree_width (shown_tree s)) count before after → length before ≡ 18
+    → PutsOrLoses old new lost (take count after) → IsPut (Ok (shown_tree s)) f old new (Ok lost)
+array_put s f old new lost count before after shows many put =
     let first = in_array (tree_outcome (shown_tree s) f) (tree_width (shown_tree s)) count before after shows
     (omega (arith, shown_fits s, many)) many in
-    subst (λ (it : Part). IsPut (Ok (part_tree it)) f old new (Ok lost)) (sym is)
     (first.0, first.1, subst (λ (bytes : List ℕ). PutsOrLoses old new lost bytes) first.2 put)
 
 -- ---- the end

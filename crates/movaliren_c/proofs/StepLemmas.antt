@@ -17,7 +17,7 @@ use Rattle.time_fmt.specs.Description.{tree_outcome, trees_outcome}
 use Rattle.time_fmt.specs.Outcome.{Outcome, done, join}
 use Rattle.time_fmt.specs.Runs.{run_tree}
 use Rattle.time_fmt.specs.declared.runs.Run.{Run}
-use Rattle.time_plan_read.proofs.StepLemmas.{component_alone, parts_outcome}
+use Rattle.time_plan_read.proofs.StepLemmas.{parts_outcome}
 use Rattle.time_plan.specs.Shown.{shown_tree}
 use Rattle.time_plan.specs.declared.shown.Shown.{Shown}
 use Rattle.time_plan.specs.declared.shown.Shown.TheVariants as shown
@@ -114,7 +114,7 @@ first_alone : (text front rest piece left : List ℕ) → text ≡ front ++ rest
 first_alone text front rest piece left parts behind no_piece no_left = grind (arith, append-nil)
 
 -- a date or a time of day
-run_alone : (r : Run) (p : StepParts) → p.shown ≡ shown.Run r → ref_bytes p.literal ≡ [] → AreSame (run_tree r) (parts_tree p)
+pub run_alone : (r : Run) (p : StepParts) → p.shown ≡ shown.Run r → ref_bytes p.literal ≡ [] → AreSame (run_tree r) (parts_tree p)
 run_alone r p is_shown is_literal = record {
   outcome = λ f. sym (parts_outcome p f
       ∙ ap (λ (bytes : List ℕ). join (tree_outcome (shown_tree p.shown) f) (done bytes)) is_literal
@@ -127,10 +127,6 @@ run_alone r p is_shown is_literal = record {
       subst (λ (it : List ℕ). Spells (run_tree r) f it) (sym is_front)
       (subst (λ (it : Shown). Spells (shown_tree it) f h.front) is_shown h.first);
 }
-
-pub shown_alone : (s : Shown) (p : StepParts) → p.shown ≡ s → ref_bytes p.literal ≡ [] → AreSame (shown_tree s) (parts_tree p)
-shown_alone (shown.Component c) p is_shown is_literal = component_alone c p is_shown is_literal
-shown_alone (shown.Run r) p is_shown is_literal = run_alone r p is_shown is_literal
 
 -- ---- the items one after another
 

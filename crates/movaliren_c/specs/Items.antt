@@ -21,11 +21,10 @@ use Rattle.time_below.specs.declared.format_description.modifier.SubsecondDigits
 use Rattle.time_fmt.specs.Description.{tree_outcome, trees_outcome}
 use Rattle.time_fmt.specs.Ends.{Ends}
 use Rattle.time_fmt.specs.Outcome.{Outcome}
-use Rattle.time_fmt.specs.Runs.{year_part, month_part, day_part, hour_part, minute_part, second_part, three_parts}
+use Rattle.time_fmt.specs.Runs.{year_part, month_part, day_part, hour_part, minute_part, run_tree, second_part, three_parts}
 use Rattle.time_fmt.specs.Sink.{Buffer, Puts}
 use Rattle.time_fmt.specs.declared.refused.Refused.{Refused}
 use Rattle.time_fmt.specs.declared.separators.Separators.{Separators}
-use Rattle.time_plan.specs.Shown.{shown_tree}
 
 abbrev pub padding_at : ℕ → Result Padding Reason
 padding_at n = numbered 0 (padding.Zero ∷ padding.Space ∷ padding.None ∷ []) reason.BadItem n
@@ -139,7 +138,8 @@ tree_or_nothing (Err invalid) = nothing
 abbrev pub part_tree : Part → Tree
 part_tree (part.Text bytes) = byte_literal bytes.now
 part_tree (part.Byte b) = byte_literal (b ∷ [])
-part_tree (part.Shown shown) = shown_tree shown
+part_tree (part.Component c) = of_component c
+part_tree (part.Run r) = run_tree r
 
 abbrev pub tree_of : Result Part Reason → Result Tree Reason
 tree_of part = with_value part (λ part. Ok (part_tree part))

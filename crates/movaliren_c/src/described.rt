@@ -435,7 +435,6 @@ fn write_item<S: Sink, V: ComponentProvider>(
 }
 
 /// Writes any part if its text fits, and returns the number of bytes that are lost if it does not.
-#[tactic(auto, using(crate::proofs::DescribedLemmas::shown_fits))]
 fn write_any<S: Sink, V: ComponentProvider>(
     part: Part<'_>,
     output: &mut S,
@@ -447,11 +446,30 @@ fn write_any<S: Sink, V: ComponentProvider>(
         (S.buffer output.old) (S.buffer output.new) result }
     ensures agrees { V.agrees state.new value.now }
 {
-    let shown = match part {
-        Part::Text(text) => return Ok(write_text(output, text)),
-        Part::Byte(byte) => return Ok(write_text(output, &[byte])),
-        Part::Shown(shown) => shown,
-    };
+    match part {
+        Part::Text(text) => Ok(write_text(output, text)),
+        Part::Byte(byte) => Ok(write_text(output, &[byte])),
+        Part::Component(component) => {
+            write_whole(Shown::Component(component), output, value, state)
+        }
+        Part::Run(run) => write_whole(Shown::Run(run), output, value, state),
+    }
+}
+
+/// Writes a component, a date or a time of day if its text fits, and returns the number of bytes
+/// that are lost if it does not.
+#[tactic(auto, using(crate::proofs::DescribedLemmas::shown_fits))]
+fn write_whole<S: Sink, V: ComponentProvider>(
+    shown: Shown,
+    output: &mut S,
+    value: &V,
+    state: &mut V::State,
+) -> Result<usize, Reason>
+    requires agrees { V.agrees state.old value.now }
+    ensures put { IsPut (Ok (shown_tree shown)) (V.facts value.now)
+        (S.buffer output.old) (S.buffer output.new) result }
+    ensures agrees { V.agrees state.new value.now }
+{
     if LONGEST <= output.room() {
         return match end_shown(&shown, output, value, state) {
             Ok(()) => Ok(0),
@@ -517,7 +535,7 @@ fn part_width(part: Part<'_>) -> usize
     match part {
         Part::Text(text) => text.len(),
         Part::Byte(_) => 1,
-        Part::Shown(Shown::Component(component)) => component_width(&component),
-        Part::Shown(Shown::Run(run)) => run.width(),
+        Part::Component(component) => component_width(&component),
+        Part::Run(run) => run.width(),
     }
 }

@@ -12,7 +12,7 @@ ghost use Rattle.movaliren_c.specs.Items.{parted_by, parted_tree, tree_of};
 use crate::answers::reason::{Reason, flag_at};
 use time_below::format_description::modifier::{Padding, SubsecondDigits};
 use time_below::format_description::{Component, modifier};
-use time_plan::{Run, Separators, Shown};
+use time_plan::{Run, Separators};
 
 /// An item of a description: kind 255 is `len` bytes of the texts from `start` on, kind 254 the
 /// byte in `byte`, kind 253 a date and kind 252 a time of day, any other a component with its
@@ -35,7 +35,8 @@ pub struct Item {
 pub enum Part<'a> {
     Text(&'a [u8]),
     Byte(u8),
-    Shown(Shown),
+    Component(Component),
+    Run(Run),
 }
 
 /// A component with choices of these names.
@@ -235,8 +236,8 @@ pub fn part_of<'a>(item: &Item, texts: &'a [u8]) -> Result<Part<'a>, Reason>
             None => Err(Reason::BadItem),
         },
         254 => Ok(Part::Byte(item.byte)),
-        253 => Ok(Part::Shown(Shown::Run(Run::Date(separators_of(item)?)))),
-        252 => Ok(Part::Shown(Shown::Run(Run::Time(separators_of(item)?)))),
-        _ => Ok(Part::Shown(Shown::Component(component_of(item)?))),
+        253 => Ok(Part::Run(Run::Date(separators_of(item)?))),
+        252 => Ok(Part::Run(Run::Time(separators_of(item)?))),
+        _ => Ok(Part::Component(component_of(item)?)),
     }
 }

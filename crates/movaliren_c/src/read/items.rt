@@ -37,12 +37,13 @@ pub enum Unread {
 impl ReadStep for Item {
     ghost tree_of = { read_tree };
 
-    #[tactic(auto, using(crate::proofs::StepLemmas::shown_alone, time_plan_read::proofs::StepLemmas::literal_alone, time_plan_read::proofs::StepLemmas::nothing_alone))]
+    #[tactic(auto, using(time_plan_read::proofs::StepLemmas::component_alone, crate::proofs::StepLemmas::run_alone, time_plan_read::proofs::StepLemmas::literal_alone, time_plan_read::proofs::StepLemmas::nothing_alone))]
     fn parts<'a>(&'a self, texts: &'a [u8]) -> StepParts<'a> {
         let empty = Shown::Run(Run::Empty);
         let none = LiteralRef::Bytes([].as_slice());
         let (shown, literal) = match part_of(self, texts) {
-            Ok(Part::Shown(shown)) => (shown, none),
+            Ok(Part::Component(component)) => (Shown::Component(component), none),
+            Ok(Part::Run(run)) => (Shown::Run(run), none),
             Ok(Part::Byte(byte)) => (empty, LiteralRef::Byte(byte)),
             Ok(Part::Text(bytes)) => (empty, LiteralRef::Bytes(bytes)),
             Err(_) => (empty, none),

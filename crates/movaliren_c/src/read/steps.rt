@@ -82,7 +82,10 @@ fn step_first<'a>(items: &'a [Item], texts: &'a [u8]) -> Result<(StepParts<'a>, 
     ensures reason { IfErr result (λ reason. trees_of texts.now items.now ≡ Err reason) }
 {
     match part_of(&items[0], texts)? {
-        Part::Shown(shown) => Ok(with_literal(shown, &items[1..], texts)),
+        Part::Component(component) => {
+            Ok(with_literal(Shown::Component(component), &items[1..], texts))
+        }
+        Part::Run(run) => Ok(with_literal(Shown::Run(run), &items[1..], texts)),
         Part::Byte(byte) => Ok((literal_step(LiteralRef::Byte(byte)), &items[1..])),
         Part::Text(bytes) => Ok((literal_step(LiteralRef::Bytes(bytes)), &items[1..])),
     }

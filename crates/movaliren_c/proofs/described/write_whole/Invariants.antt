@@ -1,4 +1,4 @@
-use Rattle.movaliren_c.proofs.described.write_any.Given as goal
+use Rattle.movaliren_c.proofs.described.write_whole.Given as goal
 
 -- what the array holds
 abbrev pub ghosts-write_shown : goal.ghosts-write_shown
