@@ -88,8 +88,10 @@ impl<T: Node> WriteStep<()> for T {
         Some(Ok(()))
     }
 
-    /// Writes a component that is not deprecated.
-    #[inline(always)]
+    /// Writes a component that is not deprecated. It is a cold call: as part of the loop, its many
+    /// arms would leave no registers to the sink.
+    #[cold]
+    #[inline(never)]
     fn write_seldom<S: Sink, V: ComponentProvider>(
         &self,
         _beside: (),
