@@ -3,7 +3,6 @@ use Rattle.std.proofs.Common.{◌≡◌, ◌<◌, ◌≤◌, ◌+◌, ◌-◌, �
 use Rattle.std.proofs.lemmas.Bool.{lt-ltb}
 use Rattle.std.proofs.lemmas.Grind.{common_steps}
 use Rattle.std.proofs.lemmas.List.{append-nil, drop-drop, drop-set-lt, drop_all, drop_more, length-drop, length-set, map-append, take-append-drop, take_all, take_more_set}
-use Rattle.movaliren_c.proofs.FlatLemmas.{joined}
 use Rattle.movaliren_c.proofs.MeaningLemmas.{same_value, value_of_given}
 use Rattle.movaliren_c.specs.Described.{AreParts, Describes, IsUsual, Joins}
 use Rattle.movaliren_c.specs.Items.{component_of, date_component, item_tree, list_of, time_component, trees_of, year_component}
@@ -12,6 +11,7 @@ use Rattle.movaliren_c.specs.declared.answers.reason.Reason.{Reason}
 use Rattle.movaliren_c.specs.declared.described.item.Item.{Item}
 use Rattle.time_below.specs.Facts.{Facts}
 use Rattle.time_below.specs.Tree.{Tree, trees, byte_literal, of_component}
+use Rattle.time_fmt.proofs.Engine.{joined}
 use Rattle.time_fmt.specs.Description.{tree_outcome, trees_outcome}
 use Rattle.time_fmt.specs.Outcome.{Outcome, join}
 use Rattle.time_fmt.specs.Runs.{year_part, month_part, day_part, hour_part, minute_part, second_part, three_parts}

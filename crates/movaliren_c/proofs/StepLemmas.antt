@@ -118,7 +118,7 @@ pub run_alone : (r : Run) (p : StepParts) → p.shown ≡ shown.Run r → ref_by
 run_alone r p is_shown is_literal = record {
   outcome = λ f. sym (parts_outcome p f
       ∙ ap (λ (bytes : List ℕ). join (tree_outcome (shown_tree p.shown) f) (done bytes)) is_literal
-      ∙ alone (tree_outcome (shown_tree p.shown) f)
+      ∙ join_nothing (tree_outcome (shown_tree p.shown) f)
       ∙ ap (λ (it : Shown). tree_outcome (shown_tree it) f) is_shown);
   spelled = λ f text h.
       let no_letters = lower_nothing h.second.front
