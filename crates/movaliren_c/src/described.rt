@@ -418,8 +418,29 @@ fn write_fitting<S: Sink>(output: &mut S, text: &[u8])
 }
 
 /// Writes any item if its text fits, and returns the number of bytes that are lost if it does not.
-#[inline(never)]
+/// The sink is taken out for the call, so that the loop's does not lie in memory.
+#[inline(always)]
 fn write_item<S: Sink, V: ComponentProvider>(
+    item: &Item,
+    texts: &[u8],
+    output: &mut S,
+    value: &V,
+    state: &mut V::State,
+) -> Result<usize, Reason>
+    requires agrees { V.agrees state.old value.now }
+    ensures put { IsPut (item_tree texts.now item.now) (V.facts value.now)
+        (S.buffer output.old) (S.buffer output.new) result }
+    ensures agrees { V.agrees state.new value.now }
+{
+    let mut taken = output.take_out();
+    let answer = write_taken_out(item, texts, &mut taken, value, state);
+    output.put_back(taken);
+    answer
+}
+
+/// Writes any item to a sink that was taken out.
+#[inline(never)]
+fn write_taken_out<S: Sink, V: ComponentProvider>(
     item: &Item,
     texts: &[u8],
     output: &mut S,
