@@ -44,20 +44,20 @@ PLAIN = "no number is here, {1}, so this passes\n"
 # What is asked for, what a line is, the most instructions that it should cost, and the limit: what it cost when the
 # limit was set, and a twentieth more.
 ROWS = [
-    ("`unix`, RFC 3339", ["unix"], LINE, 300, 303),
+    ("`unix`, RFC 3339", ["unix"], LINE, 300, 298),
     ("`unix --offset +05:30`", ["unix", "--offset", "+05:30"], LINE, None, 353),
     ("`unix --zone Europe/Berlin`", ["unix", "--zone", "Europe/Berlin"], LINE, None, 369),
-    ("`unix rfc2822`", ["unix", "rfc2822"], LINE, None, 393),
+    ("`unix rfc2822`", ["unix", "rfc2822"], LINE, None, 367),
     ("`unix iso8601`", ["unix", "iso8601"], LINE, None, 562),
-    ("`unix '%Y-%m-%d %H:%M:%S'`", ["unix", "%Y-%m-%d %H:%M:%S"], LINE, 520, 435),
+    ("`unix '%Y-%m-%d %H:%M:%S'`", ["unix", "%Y-%m-%d %H:%M:%S"], LINE, 520, 421),
     ("`unix '[year]-[month]-[day] [hour]:[minute]:[second]'`",
-     ["unix", "[year]-[month]-[day] [hour]:[minute]:[second]"], LINE, 520, 435),
-    ("`unix`, the number inside", ["unix"], AUDIT, 500, 481),
-    ("`unix`, no number", ["unix", "-q"], PLAIN, None, 200),
+     ["unix", "[year]-[month]-[day] [hour]:[minute]:[second]"], LINE, 520, 421),
+    ("`unix`, the number inside", ["unix"], AUDIT, 500, 472),
+    ("`unix`, no number", ["unix", "-q"], PLAIN, None, 199),
     ("`unix --json --after '\"ts\":'`", ["unix", "--json", "--after", '"ts":'], JSON, 500, 1062),
     ("`unix --all`", ["unix", "--all"], RANGE, None, 918),
-    ("`read '%H:%M:%S'`", ["read", "%H:%M:%S"], DOCKER, 600, 643),
-    ("`read --zone Europe/Berlin`", ["read", "--zone", "Europe/Berlin"], DOCKER, 600, 656),
+    ("`read '%H:%M:%S'`", ["read", "%H:%M:%S"], DOCKER, 600, 590),
+    ("`read --zone Europe/Berlin`", ["read", "--zone", "Europe/Berlin"], DOCKER, 600, 614),
     ("`read --from clf`", ["read", "--from", "clf"], Access, 900, 1687),
     ("`now`", ["now"], PLAIN, 120, 120),
 ]
