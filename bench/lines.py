@@ -53,7 +53,7 @@ ROWS = [
     ("`unix '[year]-[month]-[day] [hour]:[minute]:[second]'`",
      ["unix", "[year]-[month]-[day] [hour]:[minute]:[second]"], LINE, 520, 421),
     ("`unix`, the number inside", ["unix"], AUDIT, 500, 472),
-    ("`unix`, no number", ["unix", "-q"], PLAIN, None, 199),
+    ("`unix`, no number", ["unix", "-q"], PLAIN, None, 200),
     ("`unix --json --after '\"ts\":'`", ["unix", "--json", "--after", '"ts":'], JSON, 500, 1062),
     ("`unix --all`", ["unix", "--all"], RANGE, None, 918),
     ("`read '%H:%M:%S'`", ["read", "%H:%M:%S"], DOCKER, 600, 590),
