@@ -59,14 +59,14 @@ def said_of_tables():
     fewest = all(drawn["Movaliren", row] < count for (name, row), count in drawn.items() if count and not name.startswith("Movaliren"))
     return [
         (f"takes {min(counts)} to {max(counts)} instructions", max(dearer) < 0),
-        ("three tenths to two thirds of what", .29 < min(of_crate) and max(of_crate) < .67),
+        ("three to seven tenths of what", .29 < min(of_crate) and max(of_crate) < .71),
         ("less than nine tenths of what {fmt} takes", max(of_fmt) < .9),
-        ("about a quarter to a half of that", .24 < min(of_list) and max(of_list) < .53),
+        ("about a fifth to a half of that", .2 < min(of_list) and max(of_list) < .53),
         ("pays from the third text on", gain < made < 3 * gain),
         ("less than a tenth of what `gmtime_r`, `strftime` and `snprintf` take together", max(utc["C"], utc["Rust"]) < utc[C] / 10),
         ("less than a quarter of what `gmtime_r` and {fmt} take", max(utc["C"], utc["Rust"]) < utc["`gmtime_r`, {fmt}"] / 4),
         (f"it takes {usual['RFC 3339, nine digits'][CRATE]} for a date and time that is there already", True),
-        ("take two fifths to a half of what RFC 3339 takes", .4 < min(same) and max(same) < .5),
+        ("take a third to a half of what RFC 3339 takes", .33 < min(same) and max(same) < .5),
         ("A line of another second takes more than RFC 3339 alone", min(other) > 1),
         (f"takes {lines['`unix`, RFC 3339']['Instructions']} instructions a line, and a million lines "
          f"{million['`movaliren` `unix`, RFC 3339']['User and system, ms']} ms", True),
