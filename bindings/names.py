@@ -4,8 +4,7 @@
 Numbers of choices, and the usual ones; the greatest lengths of texts; fields of structs, in order, with their types; the words of
 a number that is no reason; what could have come in a text; and the version. Also whether the header declares each name that it, the C
 programs and the documents use, whether the rows call each function, and whether `bindings/counts` counts each
-function from C and from Rust, under its name, and each method of the formats. From Rust one function counts for those that are called by
-the same lines. Prints each difference, and ends with status 1 if there
+function from C and from Rust, under its name, and each method of the formats. Prints each difference, and ends with status 1 if there
 is one.
 
     names.py --drifts      makes one change at a time in the names, numbers, texts and types, and ends with status 1 if
@@ -303,16 +302,8 @@ class Interfaces:
         # `stamp` takes a moment in UTC alone, as its type says.
         calls = {f"{name}:{method}" for name in functions for method in [*methods, name, name.removesuffix("_utc")]}
         self.same("a row of Rust alone", set(), rust - names - calls)
-        from_rust = set(map(self.function, rust))
-        for alike in self.called_alike():
-            from_rust |= alike if alike & from_rust else set()
-        self.same("what bindings/counts does not count from Rust", set(), functions - OF_C_ALONE - from_rust)
+        self.same("what bindings/counts does not count from Rust", set(), functions - OF_C_ALONE - set(map(self.function, rust)))
         self.same("a method that is not counted", set(), set(methods) - set(findall(r"\.(\w+)\(", self.speed)))
-
-    def called_alike(self):
-        """The functions that the Rust crate calls by the same lines, those of a macro: one text, and many."""
-        for rows in findall(r"^\w*calls\w*! \{\n(.*?)^\}", *self.rust):
-            yield from map(set, zip(*(re.findall(r"movaliren_(\w+)", row) for row in rows.splitlines())))
 
     @staticmethod
     def function(row):

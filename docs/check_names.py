@@ -3,7 +3,7 @@
 
 Each name in code that docs/PROVED.md, the sections on what is proved of the crates' pages, docs/DEFINITIONS.md, docs/DECISIONS.md and docs/TRUST.md have is one of the sources: a clause, a
 function, a type, a field, a module, a definition of `specs/` or a file. So is each name of what stands before the caller in a page CALLING.md. A name in brackets of such a section is one of its crate, or of a crate that it stands on.
-docs/ARCHITECTURE.md names each file of a crate's `src/` by its module, but where docs/RATTLE.md or docs/DEFINITIONS.md has the type of that name, and no module or file that is not there. Each file, folder, definition and
+docs/ARCHITECTURE.md names each file of a crate's `src/` by its module, and no module or file that is not there. Each file, folder, definition and
 lemma that a step or a row of CONTRIBUTING.md names stands in a crate that the step names, or in bindings/, docs/ or tools/. A crate's
 README.md says of what it stands on what crates.txt does, and that of movaliren_c names the structs of the interface. Names in code
 of the pages for C, Rust, Python and Go are those of the sources in bindings/. Links between pages
@@ -115,21 +115,14 @@ def modules(crate):
     return {path.stem for path in source.glob("*.rt")} - UNNAMED, {path.stem for path in source.rglob("*.rt")}
 
 
-def files_of_types():
-    """The modules of types that a page on values or on definitions has, as `plain_date_time` of `PlainDateTime`."""
-    codes = CODE.findall("".join((TOP / page).read_text() for page in ("docs/RATTLE.md", "docs/DEFINITIONS.md")))
-    return {re.sub(r"(?<=[a-z0-9])(?=[A-Z])", "_", code).lower() for code in codes if re.fullmatch(r"[A-Z]\w+", code)}
-
-
 def unknown_in_architecture(page):
     """The modules that a crate's list names and the crate has not, or the other way round."""
-    of_types = files_of_types()
     wrong = [f"docs/ARCHITECTURE.md names {path}, which is not there" for path in re.findall(r"\b(\w+/src(?:/\w+)*(?:\.rt)?)", page)
              if not (TOP / "crates" / path.removeprefix("crates/")).exists()]
     for name, part in re.findall(r"^\*\*`(\w+)`\*\*(.*?)(?=^\*\*|^`bindings|\Z)", page, re.M | re.S):
         told = {word for code in CODE.findall(part) for word in NAME.findall(code)}
         first, every = modules(name)
-        wrong += [f"{name} has a module {it}, and docs/ARCHITECTURE.md does not name it" for it in sorted(first - told - of_types)]
+        wrong += [f"{name} has a module {it}, and docs/ARCHITECTURE.md does not name it" for it in sorted(first - told)]
         listed = {word for line in re.findall(r"^- (.*?): ", part, re.M) for word in re.findall(r"`(\w+)`", line)}
         wrong += [f"docs/ARCHITECTURE.md names {it}, and {name} has no such module"
                   for it in sorted(listed - every)]
