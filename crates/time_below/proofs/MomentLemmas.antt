@@ -170,6 +170,15 @@ held_near_second s h = omega (arith, ints)
 pub held_second : (s : ℤ) → IsTimestampSecond s → held s ≡ s
 held_second s h = omega (arith, ints)
 
+-- so is a second of a day
+pub held_in_day : (s : ℤ) (n : ℕ) → IsTimestampSecond s → n < day_seconds → held (held s +ℤ to_z w64 n) ≡ s +ℤ pos n
+held_in_day s n h l = omega (arith, ints)
+
+-- a second between the first and the last of a day
+pub second_in_day : (s : ℤ) (n : ℕ) → IsTimestampSecond s → IsTimestampSecond (s +ℤ pos 86_399) → n < day_seconds
+    → IsTimestampSecond (s +ℤ pos n)
+second_in_day s n h k l = (omega (arith, ints), omega (arith, ints))
+
 -- the seconds by clocks, less how far they are ahead
 less_offset : (all s e : ℤ) → all ≡ s +ℤ e → all -ℤ e ≡ s
 less_offset all s e h = omega (arith, ints)

@@ -116,21 +116,6 @@ one_sided : (o : Offset) → IsOffset o → IsOneSided o.hours o.minutes o.secon
 unfolding IsOneSided
 one_sided o real = grind (arith, for_each_sign, IsOneSided, ints, by_lt_z)
 
-parts_of_sum : (h m s h' m' s' : ℤ) → AreOffsetParts h m s → AreOffsetParts h' m' s' → IsOneSided h m s → IsOneSided h' m' s'
-    → pos 3600 *ℤ h +ℤ pos 60 *ℤ m +ℤ s ≡ pos 3600 *ℤ h' +ℤ pos 60 *ℤ m' +ℤ s'
-    → (h ≡ h') × (m ≡ m') × (s ≡ s')
-unfolding IsOneSided
-parts_of_sum h m s h' m' s' a b (inl p) (inl q) e = (omega (arith, ints), omega (arith, ints), omega (arith, ints))
-parts_of_sum h m s h' m' s' a b (inl p) (inr q) e = (omega (arith, ints), omega (arith, ints), omega (arith, ints))
-parts_of_sum h m s h' m' s' a b (inr p) (inl q) e = (omega (arith, ints), omega (arith, ints), omega (arith, ints))
-parts_of_sum h m s h' m' s' a b (inr p) (inr q) e = (omega (arith, ints), omega (arith, ints), omega (arith, ints))
-
--- no other offset has as many seconds
-pub one_offset_of_seconds : (o p : Offset) → IsOffset o → IsOffset p → offset_seconds o ≡ offset_seconds p → o ≡ p
-one_offset_of_seconds o p a b e =
-    let same = parts_of_sum o.hours o.minutes o.seconds p.hours p.minutes p.seconds a.0 b.0 (one_sided o a) (one_sided p b) e in
-    same_parts p.hours p.minutes p.seconds o.hours o.minutes o.seconds same.0 same.1 same.2
-
 -- an offset with fewer hours has fewer seconds
 fewer_hours : (h m s h' m' s' : ℤ) → AreOffsetParts h m s → AreOffsetParts h' m' s' → IsOneSided h m s → IsOneSided h' m' s'
     → h <ℤ h' → (pos 3600 *ℤ h +ℤ pos 60 *ℤ m +ℤ s) <ℤ (pos 3600 *ℤ h' +ℤ pos 60 *ℤ m' +ℤ s')
@@ -163,6 +148,33 @@ ranks_of_parts o p a b Equal Greater z h m s = fewer_minutes _ _ _ _ _ _ b.0 a.0
 ranks_of_parts o p a b Equal Equal Less h m s = omega (arith, ints)
 ranks_of_parts o p a b Equal Equal Equal h m s = omega (arith, ints)
 ranks_of_parts o p a b Equal Equal Greater h m s = omega (arith, ints)
+
+-- what is less is not equal
+less_is_not_equal : (y z : ℤ) → y <ℤ z → y ≡ z → ⊥
+less_is_not_equal y z h e = omega (arith, ints)
+
+-- offsets of as many seconds have the same parts, since the first that differ would decide
+parts_of_equal : (o p : Offset) → IsOffset o → IsOffset p → offset_seconds o ≡ offset_seconds p → (x y z : Ordering)
+    → MatchOrdering x (o.hours <ℤ p.hours) (o.hours ≡ p.hours) (p.hours <ℤ o.hours)
+    → MatchOrdering y (o.minutes <ℤ p.minutes) (o.minutes ≡ p.minutes) (p.minutes <ℤ o.minutes)
+    → MatchOrdering z (o.seconds <ℤ p.seconds) (o.seconds ≡ p.seconds) (p.seconds <ℤ o.seconds) → o ≡ p
+parts_of_equal o p a b e Less y z h m s = absurd (less_is_not_equal _ _ (ranks_of_parts o p a b Less y z h m s) e)
+parts_of_equal o p a b e Greater y z h m s = absurd (less_is_not_equal _ _ (ranks_of_parts o p a b Greater y z h m s) (sym e))
+parts_of_equal o p a b e Equal Less z h m s = absurd (less_is_not_equal _ _ (ranks_of_parts o p a b Equal Less z h m s) e)
+parts_of_equal o p a b e Equal Greater z h m s =
+    absurd (less_is_not_equal _ _ (ranks_of_parts o p a b Equal Greater z h m s) (sym e))
+parts_of_equal o p a b e Equal Equal Less h m s =
+    absurd (less_is_not_equal _ _ (ranks_of_parts o p a b Equal Equal Less h m s) e)
+parts_of_equal o p a b e Equal Equal Greater h m s =
+    absurd (less_is_not_equal _ _ (ranks_of_parts o p a b Equal Equal Greater h m s) (sym e))
+parts_of_equal o p a b e Equal Equal Equal h m s =
+    same_parts p.hours p.minutes p.seconds o.hours o.minutes o.seconds h m s
+
+-- no other offset has as many seconds
+pub one_offset_of_seconds : (o p : Offset) → IsOffset o → IsOffset p → offset_seconds o ≡ offset_seconds p → o ≡ p
+one_offset_of_seconds o p a b e =
+    parts_of_equal o p a b e _ _ _ (int_ranks o.hours p.hours) (int_ranks o.minutes p.minutes)
+    (int_ranks o.seconds p.seconds)
 
 -- parts in order compare as the seconds
 pub parts_compare : (o p : Offset) → IsOffset o → IsOffset p
