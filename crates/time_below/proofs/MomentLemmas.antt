@@ -1,6 +1,6 @@
 -- The UTC date and time of a moment, and its milliseconds.
 use Rattle.std.proofs.Common.{◌≡◌, ℕ, ◌+◌, ◌*◌, ◌/◌, ◌%◌, ◌<◌, refl, ap, ◌∙◌, arith, ℤ, pos, ◌+ℤ◌, ◌-ℤ◌, ◌*ℤ◌}
-use Rattle.std.proofs.Common.{◌^◌, unsigned_abs, rules, w64, to_z, of_z}
+use Rattle.std.proofs.Common.{◌^◌, unsigned_abs, rules, w32, w64, to_z, of_z}
 use Rattle.std.proofs.lemmas.Int.{ints}
 use Rattle.std.specs.Int.{int_div_euclid}
 use Rattle.time_below.specs.Calendar.{OrdinalDate, IsDate, IsDayNumber, day_number, date_at, days_before, days_in_all}
@@ -11,6 +11,7 @@ use Rattle.time_below.specs.Moment.{IsNearTimestampSecond, unix_seconds, local_u
 use Rattle.time_below.specs.Moment.{utc_date_and_time, second_of_day, day_seconds, unix_day, seconds_before, moved}
 use Rattle.time_below.specs.Moment.{local_at, local_moment, nanoseconds}
 use Rattle.time_below.proofs.CalendarLemmas.{utc_day, second_from_start}
+use Rattle.time_below.proofs.OffsetLemmas.{held_word}
 use Rattle.time_below.proofs.YearLemmas.{IsDayNumber-day_number, IsDate-date_at, date_at-day_number, day_number_back}
 use Rattle.time_below.proofs.YearLemmas.{days_from_start, days_before_end, is_day_number}
 use Rattle.std.proofs.lemmas.Grind.{common_steps}
@@ -169,6 +170,17 @@ held_near_second s h = omega (arith, ints)
 
 pub held_second : (s : ℤ) → IsTimestampSecond s → held s ≡ s
 held_second s h = omega (arith, ints)
+
+-- so is a second by clocks at an offset
+pub held_by_clocks : (s o : ℤ) → IsNearTimestampSecond s → unsigned_abs o < 93_600
+    → held (held s +ℤ held (to_z w32 (of_z w32 o))) ≡ s +ℤ o
+held_by_clocks s o h k =
+    rw (held_near_second s h, held_word o (omega arith), held_small o (omega arith))
+    (held_small (s +ℤ o) (omega (arith, ints)))
+
+-- it is small
+pub clocks_within : (s o : ℤ) → IsNearTimestampSecond s → unsigned_abs o < 93_600 → unsigned_abs (s +ℤ o) < 2 ^ 62
+clocks_within s o h k = omega (arith, ints)
 
 -- so is a second of a day
 pub held_in_day : (s : ℤ) (n : ℕ) → IsTimestampSecond s → n < day_seconds → held (held s +ℤ to_z w64 n) ≡ s +ℤ pos n

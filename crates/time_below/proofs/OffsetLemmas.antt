@@ -1,5 +1,6 @@
 -- The signs of an offset's parts.
 use Rattle.std.proofs.Common.{◌≡◌, ◌∙◌, ℕ, ◌+◌, ◌/◌, ◌<◌, ◌≤◌, ◌⊎◌, inl, inr, Bool, true, false, refl}
+use Rattle.std.proofs.Common.{◌*◌, ◌^◌, w8, w32, to_z, of_z}
 use Rattle.std.proofs.Common.{ap, sym, arith, Ordering, Less, Equal, Greater, ℤ, pos, negsuc, neg_ℤ, ◌+ℤ◌, ◌*ℤ◌, ◌<ℤ◌, ◌≤ℤ◌, unsigned_abs}
 use Rattle.std.specs.Cmp.{int_cmp_is, int_ranks}
 use Rattle.std.specs.Bool.{Decides}
@@ -214,3 +215,39 @@ minutes_of_parts h m s a (inr p) = grind (arith, common_steps, nat_tests, ints)
 pub minutes_of_seconds : (o : Offset) → IsOffset o → int_div (offset_seconds o) (pos 60) ≡ offset_minutes o
 minutes_of_seconds o real =
     sixtieth (offset_seconds o) ∙ minutes_of_parts o.hours o.minutes o.seconds real.0 (one_sided o real)
+
+-- ---- numbers as the code holds them
+
+-- a small number is held as it is
+pub held_byte : (z : ℤ) → unsigned_abs z < 128 → to_z w8 (of_z w8 z) ≡ z
+held_byte z h = omega (arith, ints)
+
+pub held_word : (z : ℤ) → unsigned_abs z < 2 ^ 31 → to_z w32 (of_z w32 z) ≡ z
+held_word z h = omega (arith, ints)
+
+-- so are sixty to each whole and a part
+pub held_sixtieths : (whole part : ℤ) → unsigned_abs whole < 1560 → unsigned_abs part ≤ 128
+    → to_z w32 (of_z w32 (to_z w32 (of_z w32 (to_z w32 (of_z w32 whole) *ℤ pos 60)) +ℤ to_z w32 (of_z w32 part)))
+    ≡ pos 60 *ℤ whole +ℤ part
+held_sixtieths whole part w p =
+    rw (held_word whole (omega arith), held_word (whole *ℤ pos 60) (omega (arith, ints)), held_word part (omega arith))
+    (held_word (whole *ℤ pos 60 +ℤ part) (omega (arith, ints)) ∙ omega (arith, ints))
+
+-- they are no more than the sizes of both
+pub sixtieths_within : (whole part : ℤ)
+    → unsigned_abs (pos 60 *ℤ whole +ℤ part) ≤ 60 * unsigned_abs whole + unsigned_abs part
+sixtieths_within whole part = omega (arith, ints)
+
+-- the hours and minutes of an offset are less than 26 hours, and so are all its parts
+pub minutes_within : (h m r : ℤ) → unsigned_abs h ≤ 25 → unsigned_abs m ≤ 59 → r ≡ pos 60 *ℤ h +ℤ m
+    → unsigned_abs r < 1560
+minutes_within h m r a b e = omega (arith, ints)
+
+pub seconds_within : (r s t : ℤ) → unsigned_abs r < 1560 → unsigned_abs s ≤ 59 → t ≡ pos 60 *ℤ r +ℤ s
+    → unsigned_abs t < 93_600
+seconds_within r s t a b e = omega (arith, ints)
+
+-- the seconds of the parts of an offset
+pub seconds_of_parts : (h m s r t : ℤ) → r ≡ pos 60 *ℤ h +ℤ m → t ≡ pos 60 *ℤ r +ℤ s
+    → t ≡ pos 3600 *ℤ h +ℤ pos 60 *ℤ m +ℤ s
+seconds_of_parts h m s r t e f = omega (arith, ints)
