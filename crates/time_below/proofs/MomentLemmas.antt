@@ -3,6 +3,7 @@ use Rattle.std.proofs.Common.{◌≡◌, ℕ, ◌+◌, ◌*◌, ◌/◌, ◌%◌
 use Rattle.std.proofs.Common.{◌^◌, unsigned_abs, rules, w32, w64, to_z, of_z}
 use Rattle.std.proofs.lemmas.Int.{ints}
 use Rattle.std.specs.Int.{int_div_euclid}
+use Rattle.std.specs.Prelude.{int_div, ◌≤◌, ◌≤ℤ◌, ◌<ℤ◌}
 use Rattle.time_below.specs.Calendar.{OrdinalDate, IsDate, IsDayNumber, day_number, date_at, days_before, days_in_all}
 use Rattle.time_below.specs.TimeOfDay.{TimeOfDay, IsTimeOfDay, seconds_from_midnight, time_at}
 use Rattle.time_below.specs.Offset.{Offset, AreOffsetParts, IsOffset, offset_seconds}
@@ -182,6 +183,19 @@ held_by_clocks s o h k =
 pub clocks_within : (s o : ℤ) → IsNearTimestampSecond s → unsigned_abs o < 93_600 → unsigned_abs (s +ℤ o) < 2 ^ 62
 clocks_within s o h k = omega (arith, ints)
 
+-- so are a thousand to each second and no more than a second
+pub held_thousands : (s : ℤ) (k : ℕ) → IsNearTimestampSecond s → k ≤ 1000
+    → held (held (held s *ℤ pos 1000) +ℤ to_z w64 k) ≡ s *ℤ pos 1000 +ℤ pos k
+held_thousands s k h l =
+    let small : to_z w64 k ≡ pos k = omega (arith, ints) in
+    rw (held_near_second s h, held_small (s *ℤ pos 1000) (omega (arith, ints)), small)
+    (held_small (s *ℤ pos 1000 +ℤ pos k) (omega (arith, ints)))
+
+-- they have at most 17 digits
+pub thousands_within : (s : ℤ) (k : ℕ) → IsNearTimestampSecond s → k ≤ 1000
+    → unsigned_abs (s *ℤ pos 1000 +ℤ pos k) < 100_000_000_000_000_000
+thousands_within s k h l = omega (arith, ints)
+
 -- so is a second of a day
 pub held_in_day : (s : ℤ) (n : ℕ) → IsTimestampSecond s → n < day_seconds → held (held s +ℤ to_z w64 n) ≡ s +ℤ pos n
 held_in_day s n h l = omega (arith, ints)
@@ -244,6 +258,15 @@ one_moment_of_nanoseconds m n h l e =
 pub nanoseconds_split : (z : ℤ) (n : ℕ) → z +ℤ pos (1_000_000_000 * seconds_before) ≡ pos n
     → pos 1_000_000_000 *ℤ (pos (n / 1_000_000_000) -ℤ pos seconds_before) +ℤ pos (n % 1_000_000_000) ≡ z
 nanoseconds_split z n e = omega (arith, ints)
+
+-- a quotient that is rounded toward zero, from 1970 on and before
+pub rounded_down : (s : ℤ) (n : ℕ) → pos 0 ≤ℤ s
+    → s *ℤ pos 1000 +ℤ pos (n / 1_000_000) ≡ int_div (pos 1_000_000_000 *ℤ s +ℤ pos n) (pos 1_000_000)
+rounded_down s n h = grind (arith, common_steps, ints)
+
+pub rounded_up : (s : ℤ) (n : ℕ) → s <ℤ pos 0 → n < 1_000_000_000
+    → s *ℤ pos 1000 +ℤ pos ((n + 999_999) / 1_000_000) ≡ int_div (pos 1_000_000_000 *ℤ s +ℤ pos n) (pos 1_000_000)
+rounded_up s n h l = grind (arith, common_steps, ints)
 
 -- what the laws of moments say
 pub ruleset laws_of_moments = (unix_seconds-utc, only_utc, local_unix_seconds-local_at, only_local_at)

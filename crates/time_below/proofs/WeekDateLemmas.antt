@@ -8,7 +8,7 @@ use Rattle.std.specs.Int.{int_rem_euclid, int_div_euclid}
 use Rattle.time_below.specs.Calendar.{IsDayNumber, day_number, days_before, days_in_all, weekday_of, days_in_year}
 use Rattle.time_below.specs.Calendar.{is_leap_year}
 use Rattle.time_below.specs.WeekDate.{weeks_in_year, first_monday, week_day_number}
-use Rattle.time_below.proofs.CalendarLemmas.{days_of_years}
+use Rattle.time_below.proofs.CalendarLemmas.{days_of_years, weekday_from_start}
 use Rattle.time_below.proofs.DayLemmas.{date_after, is_numbered, is_before_end}
 use Rattle.time_below.proofs.WeekCountLemmas.{days_of_name_counted, sevenths_after}
 
@@ -51,6 +51,14 @@ pub weeks_of_other_years : (y : ℤ) → ¬ (first_day y ≡ 3) → ¬ (first_da
 weeks_of_other_years y thursday wednesday = grind (arith, common_steps, nat_tests, weeks_by_first_day)
 
 pub ruleset weeks_of_years = (weeks_by_first_day, weeks_of_other_years)
+
+-- the days from the start to the first Monday, by those to 4 January
+pub first_monday_from_start : (y : ℤ) (n : ℕ) → pos n ≡ day_number (record { year = y; ordinal = 4 }) +ℤ pos days_before
+    → pos (n - n % 7) ≡ first_monday y +ℤ pos days_before
+unfolding first_monday
+first_monday_from_start y n e =
+    let rest = weekday_from_start (day_number (record { year = y; ordinal = 4 })) n e in
+    omega (arith, ints, e, rest)
 
 -- the days from the start to a weekday of a week, by those to the first Monday
 pub week_day_from_start : (y : ℤ) (week weekday first found : ℕ) → pos first ≡ first_monday y +ℤ pos days_before

@@ -15,7 +15,6 @@ use crate::util;
 use crate::weekday::Weekday;
 
 // The days from -999999-01-01 to the Monday of week 1 of the year.
-#[tactic(auto, using(crate::proofs::CalendarLemmas::weekday_from_start), unfolding(crate::specs::WeekDate::first_monday))]
 fn first_monday(year: i32) -> u32
     requires { IsYear year }
     ensures value { pos result ≡ first_monday year +ℤ pos days_before }
