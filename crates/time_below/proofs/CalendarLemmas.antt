@@ -1,6 +1,6 @@
 -- The calendar on numbers that are not negative: years and days are counted from -999999-01-01.
 use Rattle.std.proofs.Common.{◌≡◌, ℕ, ◌+◌, ◌-◌, ◌*◌, ◌/◌, ◌%◌, ◌<◌, ◌≤◌, refl, ap, arith, ℤ}
-use Rattle.std.proofs.Common.{pos, ◌+ℤ◌, ◌-ℤ◌, unsigned_abs, to_z-of_z}
+use Rattle.std.proofs.Common.{pos, ◌+ℤ◌, ◌-ℤ◌, unsigned_abs}
 use Rattle.std.proofs.lemmas.Int.{ints}
 use Rattle.std.specs.Int.{int_div_euclid, int_rem_euclid}
 use Rattle.time_below.specs.Calendar.{OrdinalDate, day_number, days_in_year, weekday_of, date_at, thursday_of}
@@ -59,8 +59,6 @@ date_at_from_start n = date_at_shifted (pos n -ℤ pos days_before) n (omega (ar
 pub thursday_from_start : (d : OrdinalDate) (n : ℕ) → pos n ≡ day_number d +ℤ pos days_before
     → date_at (pos (n - n % 7 + 3) -ℤ pos days_before) ≡ thursday_of d
 thursday_from_start d n e = grind (arith, common_steps, ints, weekday_from_start)
-
-pub ruleset thursday_facts = (thursday_from_start, to_z-of_z)
 
 -- the UTC day of a second is that of the whole days from the start
 pub utc_day : (s : ℤ) (n : ℕ) → s +ℤ pos seconds_before ≡ pos n

@@ -1,8 +1,9 @@
 -- The UTC date and time of a moment, and its milliseconds.
 use Rattle.std.proofs.Common.{◌≡◌, ℕ, ◌+◌, ◌*◌, ◌/◌, ◌%◌, ◌<◌, refl, ap, ◌∙◌, arith, ℤ, pos, ◌+ℤ◌, ◌-ℤ◌, ◌*ℤ◌}
-use Rattle.std.proofs.Common.{◌^◌, unsigned_abs, rules, w64, to_z, of_z}
+use Rattle.std.proofs.Common.{◌^◌, unsigned_abs, rules, w32, w64, to_z, of_z}
 use Rattle.std.proofs.lemmas.Int.{ints}
 use Rattle.std.specs.Int.{int_div_euclid}
+use Rattle.std.specs.Prelude.{int_div, ◌≤◌, ◌≤ℤ◌, ◌<ℤ◌}
 use Rattle.time_below.specs.Calendar.{OrdinalDate, IsDate, IsDayNumber, day_number, date_at, days_before, days_in_all}
 use Rattle.time_below.specs.TimeOfDay.{TimeOfDay, IsTimeOfDay, seconds_from_midnight, time_at}
 use Rattle.time_below.specs.Offset.{Offset, AreOffsetParts, IsOffset, offset_seconds}
@@ -11,6 +12,7 @@ use Rattle.time_below.specs.Moment.{IsNearTimestampSecond, unix_seconds, local_u
 use Rattle.time_below.specs.Moment.{utc_date_and_time, second_of_day, day_seconds, unix_day, seconds_before, moved}
 use Rattle.time_below.specs.Moment.{local_at, local_moment, nanoseconds}
 use Rattle.time_below.proofs.CalendarLemmas.{utc_day, second_from_start}
+use Rattle.time_below.proofs.OffsetLemmas.{held_word}
 use Rattle.time_below.proofs.YearLemmas.{IsDayNumber-day_number, IsDate-date_at, date_at-day_number, day_number_back}
 use Rattle.time_below.proofs.YearLemmas.{days_from_start, days_before_end, is_day_number}
 use Rattle.std.proofs.lemmas.Grind.{common_steps}
@@ -170,6 +172,39 @@ held_near_second s h = omega (arith, ints)
 pub held_second : (s : ℤ) → IsTimestampSecond s → held s ≡ s
 held_second s h = omega (arith, ints)
 
+-- so is a second by clocks at an offset
+pub held_by_clocks : (s o : ℤ) → IsNearTimestampSecond s → unsigned_abs o < 93_600
+    → held (held s +ℤ held (to_z w32 (of_z w32 o))) ≡ s +ℤ o
+held_by_clocks s o h k =
+    rw (held_near_second s h, held_word o (omega arith), held_small o (omega arith))
+    (held_small (s +ℤ o) (omega (arith, ints)))
+
+-- it is small
+pub clocks_within : (s o : ℤ) → IsNearTimestampSecond s → unsigned_abs o < 93_600 → unsigned_abs (s +ℤ o) < 2 ^ 62
+clocks_within s o h k = omega (arith, ints)
+
+-- so are a thousand to each second and no more than a second
+pub held_thousands : (s : ℤ) (k : ℕ) → IsNearTimestampSecond s → k ≤ 1000
+    → held (held (held s *ℤ pos 1000) +ℤ to_z w64 k) ≡ s *ℤ pos 1000 +ℤ pos k
+held_thousands s k h l =
+    let small : to_z w64 k ≡ pos k = omega (arith, ints) in
+    rw (held_near_second s h, held_small (s *ℤ pos 1000) (omega (arith, ints)), small)
+    (held_small (s *ℤ pos 1000 +ℤ pos k) (omega (arith, ints)))
+
+-- they have at most 17 digits
+pub thousands_within : (s : ℤ) (k : ℕ) → IsNearTimestampSecond s → k ≤ 1000
+    → unsigned_abs (s *ℤ pos 1000 +ℤ pos k) < 100_000_000_000_000_000
+thousands_within s k h l = omega (arith, ints)
+
+-- so is a second of a day
+pub held_in_day : (s : ℤ) (n : ℕ) → IsTimestampSecond s → n < day_seconds → held (held s +ℤ to_z w64 n) ≡ s +ℤ pos n
+held_in_day s n h l = omega (arith, ints)
+
+-- a second between the first and the last of a day
+pub second_in_day : (s : ℤ) (n : ℕ) → IsTimestampSecond s → IsTimestampSecond (s +ℤ pos 86_399) → n < day_seconds
+    → IsTimestampSecond (s +ℤ pos n)
+second_in_day s n h k l = (omega (arith, ints), omega (arith, ints))
+
 -- the seconds by clocks, less how far they are ahead
 less_offset : (all s e : ℤ) → all ≡ s +ℤ e → all -ℤ e ≡ s
 less_offset all s e h = omega (arith, ints)
@@ -223,6 +258,15 @@ one_moment_of_nanoseconds m n h l e =
 pub nanoseconds_split : (z : ℤ) (n : ℕ) → z +ℤ pos (1_000_000_000 * seconds_before) ≡ pos n
     → pos 1_000_000_000 *ℤ (pos (n / 1_000_000_000) -ℤ pos seconds_before) +ℤ pos (n % 1_000_000_000) ≡ z
 nanoseconds_split z n e = omega (arith, ints)
+
+-- a quotient that is rounded toward zero, from 1970 on and before
+pub rounded_down : (s : ℤ) (n : ℕ) → pos 0 ≤ℤ s
+    → s *ℤ pos 1000 +ℤ pos (n / 1_000_000) ≡ int_div (pos 1_000_000_000 *ℤ s +ℤ pos n) (pos 1_000_000)
+rounded_down s n h = grind (arith, common_steps, ints)
+
+pub rounded_up : (s : ℤ) (n : ℕ) → s <ℤ pos 0 → n < 1_000_000_000
+    → s *ℤ pos 1000 +ℤ pos ((n + 999_999) / 1_000_000) ≡ int_div (pos 1_000_000_000 *ℤ s +ℤ pos n) (pos 1_000_000)
+rounded_up s n h l = grind (arith, common_steps, ints)
 
 -- what the laws of moments say
 pub ruleset laws_of_moments = (unix_seconds-utc, only_utc, local_unix_seconds-local_at, only_local_at)

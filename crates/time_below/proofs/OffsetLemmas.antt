@@ -1,5 +1,6 @@
 -- The signs of an offset's parts.
 use Rattle.std.proofs.Common.{◌≡◌, ◌∙◌, ℕ, ◌+◌, ◌/◌, ◌<◌, ◌≤◌, ◌⊎◌, inl, inr, Bool, true, false, refl}
+use Rattle.std.proofs.Common.{◌*◌, ◌^◌, w8, w32, to_z, of_z}
 use Rattle.std.proofs.Common.{ap, sym, arith, Ordering, Less, Equal, Greater, ℤ, pos, negsuc, neg_ℤ, ◌+ℤ◌, ◌*ℤ◌, ◌<ℤ◌, ◌≤ℤ◌, unsigned_abs}
 use Rattle.std.specs.Cmp.{int_cmp_is, int_ranks}
 use Rattle.std.specs.Bool.{Decides}
@@ -116,21 +117,6 @@ one_sided : (o : Offset) → IsOffset o → IsOneSided o.hours o.minutes o.secon
 unfolding IsOneSided
 one_sided o real = grind (arith, for_each_sign, IsOneSided, ints, by_lt_z)
 
-parts_of_sum : (h m s h' m' s' : ℤ) → AreOffsetParts h m s → AreOffsetParts h' m' s' → IsOneSided h m s → IsOneSided h' m' s'
-    → pos 3600 *ℤ h +ℤ pos 60 *ℤ m +ℤ s ≡ pos 3600 *ℤ h' +ℤ pos 60 *ℤ m' +ℤ s'
-    → (h ≡ h') × (m ≡ m') × (s ≡ s')
-unfolding IsOneSided
-parts_of_sum h m s h' m' s' a b (inl p) (inl q) e = (omega (arith, ints), omega (arith, ints), omega (arith, ints))
-parts_of_sum h m s h' m' s' a b (inl p) (inr q) e = (omega (arith, ints), omega (arith, ints), omega (arith, ints))
-parts_of_sum h m s h' m' s' a b (inr p) (inl q) e = (omega (arith, ints), omega (arith, ints), omega (arith, ints))
-parts_of_sum h m s h' m' s' a b (inr p) (inr q) e = (omega (arith, ints), omega (arith, ints), omega (arith, ints))
-
--- no other offset has as many seconds
-pub one_offset_of_seconds : (o p : Offset) → IsOffset o → IsOffset p → offset_seconds o ≡ offset_seconds p → o ≡ p
-one_offset_of_seconds o p a b e =
-    let same = parts_of_sum o.hours o.minutes o.seconds p.hours p.minutes p.seconds a.0 b.0 (one_sided o a) (one_sided p b) e in
-    same_parts p.hours p.minutes p.seconds o.hours o.minutes o.seconds same.0 same.1 same.2
-
 -- an offset with fewer hours has fewer seconds
 fewer_hours : (h m s h' m' s' : ℤ) → AreOffsetParts h m s → AreOffsetParts h' m' s' → IsOneSided h m s → IsOneSided h' m' s'
     → h <ℤ h' → (pos 3600 *ℤ h +ℤ pos 60 *ℤ m +ℤ s) <ℤ (pos 3600 *ℤ h' +ℤ pos 60 *ℤ m' +ℤ s')
@@ -163,6 +149,33 @@ ranks_of_parts o p a b Equal Greater z h m s = fewer_minutes _ _ _ _ _ _ b.0 a.0
 ranks_of_parts o p a b Equal Equal Less h m s = omega (arith, ints)
 ranks_of_parts o p a b Equal Equal Equal h m s = omega (arith, ints)
 ranks_of_parts o p a b Equal Equal Greater h m s = omega (arith, ints)
+
+-- what is less is not equal
+less_is_not_equal : (y z : ℤ) → y <ℤ z → y ≡ z → ⊥
+less_is_not_equal y z h e = omega (arith, ints)
+
+-- offsets of as many seconds have the same parts, since the first that differ would decide
+parts_of_equal : (o p : Offset) → IsOffset o → IsOffset p → offset_seconds o ≡ offset_seconds p → (x y z : Ordering)
+    → MatchOrdering x (o.hours <ℤ p.hours) (o.hours ≡ p.hours) (p.hours <ℤ o.hours)
+    → MatchOrdering y (o.minutes <ℤ p.minutes) (o.minutes ≡ p.minutes) (p.minutes <ℤ o.minutes)
+    → MatchOrdering z (o.seconds <ℤ p.seconds) (o.seconds ≡ p.seconds) (p.seconds <ℤ o.seconds) → o ≡ p
+parts_of_equal o p a b e Less y z h m s = absurd (less_is_not_equal _ _ (ranks_of_parts o p a b Less y z h m s) e)
+parts_of_equal o p a b e Greater y z h m s = absurd (less_is_not_equal _ _ (ranks_of_parts o p a b Greater y z h m s) (sym e))
+parts_of_equal o p a b e Equal Less z h m s = absurd (less_is_not_equal _ _ (ranks_of_parts o p a b Equal Less z h m s) e)
+parts_of_equal o p a b e Equal Greater z h m s =
+    absurd (less_is_not_equal _ _ (ranks_of_parts o p a b Equal Greater z h m s) (sym e))
+parts_of_equal o p a b e Equal Equal Less h m s =
+    absurd (less_is_not_equal _ _ (ranks_of_parts o p a b Equal Equal Less h m s) e)
+parts_of_equal o p a b e Equal Equal Greater h m s =
+    absurd (less_is_not_equal _ _ (ranks_of_parts o p a b Equal Equal Greater h m s) (sym e))
+parts_of_equal o p a b e Equal Equal Equal h m s =
+    same_parts p.hours p.minutes p.seconds o.hours o.minutes o.seconds h m s
+
+-- no other offset has as many seconds
+pub one_offset_of_seconds : (o p : Offset) → IsOffset o → IsOffset p → offset_seconds o ≡ offset_seconds p → o ≡ p
+one_offset_of_seconds o p a b e =
+    parts_of_equal o p a b e _ _ _ (int_ranks o.hours p.hours) (int_ranks o.minutes p.minutes)
+    (int_ranks o.seconds p.seconds)
 
 -- parts in order compare as the seconds
 pub parts_compare : (o p : Offset) → IsOffset o → IsOffset p
@@ -202,3 +215,39 @@ minutes_of_parts h m s a (inr p) = grind (arith, common_steps, nat_tests, ints)
 pub minutes_of_seconds : (o : Offset) → IsOffset o → int_div (offset_seconds o) (pos 60) ≡ offset_minutes o
 minutes_of_seconds o real =
     sixtieth (offset_seconds o) ∙ minutes_of_parts o.hours o.minutes o.seconds real.0 (one_sided o real)
+
+-- ---- numbers as the code holds them
+
+-- a small number is held as it is
+pub held_byte : (z : ℤ) → unsigned_abs z < 128 → to_z w8 (of_z w8 z) ≡ z
+held_byte z h = omega (arith, ints)
+
+pub held_word : (z : ℤ) → unsigned_abs z < 2 ^ 31 → to_z w32 (of_z w32 z) ≡ z
+held_word z h = omega (arith, ints)
+
+-- so are sixty to each whole and a part
+pub held_sixtieths : (whole part : ℤ) → unsigned_abs whole < 1560 → unsigned_abs part ≤ 128
+    → to_z w32 (of_z w32 (to_z w32 (of_z w32 (to_z w32 (of_z w32 whole) *ℤ pos 60)) +ℤ to_z w32 (of_z w32 part)))
+    ≡ pos 60 *ℤ whole +ℤ part
+held_sixtieths whole part w p =
+    rw (held_word whole (omega arith), held_word (whole *ℤ pos 60) (omega (arith, ints)), held_word part (omega arith))
+    (held_word (whole *ℤ pos 60 +ℤ part) (omega (arith, ints)) ∙ omega (arith, ints))
+
+-- they are no more than the sizes of both
+pub sixtieths_within : (whole part : ℤ)
+    → unsigned_abs (pos 60 *ℤ whole +ℤ part) ≤ 60 * unsigned_abs whole + unsigned_abs part
+sixtieths_within whole part = omega (arith, ints)
+
+-- the hours and minutes of an offset are less than 26 hours, and so are all its parts
+pub minutes_within : (h m r : ℤ) → unsigned_abs h ≤ 25 → unsigned_abs m ≤ 59 → r ≡ pos 60 *ℤ h +ℤ m
+    → unsigned_abs r < 1560
+minutes_within h m r a b e = omega (arith, ints)
+
+pub seconds_within : (r s t : ℤ) → unsigned_abs r < 1560 → unsigned_abs s ≤ 59 → t ≡ pos 60 *ℤ r +ℤ s
+    → unsigned_abs t < 93_600
+seconds_within r s t a b e = omega (arith, ints)
+
+-- the seconds of the parts of an offset
+pub seconds_of_parts : (h m s r t : ℤ) → r ≡ pos 60 *ℤ h +ℤ m → t ≡ pos 60 *ℤ r +ℤ s
+    → t ≡ pos 3600 *ℤ h +ℤ pos 60 *ℤ m +ℤ s
+seconds_of_parts h m s r t e f = omega (arith, ints)

@@ -5,10 +5,10 @@ use Rattle.std.proofs.lemmas.Bool.Decides.{nat_tests}
 use Rattle.std.proofs.lemmas.Grind.{common_steps}
 use Rattle.std.proofs.lemmas.Int.{ints}
 use Rattle.std.specs.Int.{int_rem_euclid, int_div_euclid}
-use Rattle.time_below.specs.Calendar.{day_number, days_before, weekday_of, days_in_year}
+use Rattle.time_below.specs.Calendar.{IsDayNumber, day_number, days_before, days_in_all, weekday_of, days_in_year}
 use Rattle.time_below.specs.Calendar.{is_leap_year}
 use Rattle.time_below.specs.WeekDate.{weeks_in_year, first_monday, week_day_number}
-use Rattle.time_below.proofs.CalendarLemmas.{days_of_years}
+use Rattle.time_below.proofs.CalendarLemmas.{days_of_years, weekday_from_start}
 use Rattle.time_below.proofs.DayLemmas.{date_after, is_numbered, is_before_end}
 use Rattle.time_below.proofs.WeekCountLemmas.{days_of_name_counted, sevenths_after}
 
@@ -33,6 +33,7 @@ thursday_at_place y k = grind (arith, nat_tests, weekday_in_400)
 
 -- the Thursdays of a year
 weeks_counted : (y : ℤ) → weeks_in_year y ≡ sevenths_after (days_of_years (years_past y) + 4) (days_in_year y)
+unfolding weeks_in_year
 weeks_counted y =
     days_of_name_counted 3 y (days_of_years (years_past y) + 4) (thursday_at_place y) (days_in_year y)
 
@@ -51,9 +52,30 @@ weeks_of_other_years y thursday wednesday = grind (arith, common_steps, nat_test
 
 pub ruleset weeks_of_years = (weeks_by_first_day, weeks_of_other_years)
 
+-- the days from the start to the first Monday, by those to 4 January
+pub first_monday_from_start : (y : ℤ) (n : ℕ) → pos n ≡ day_number (record { year = y; ordinal = 4 }) +ℤ pos days_before
+    → pos (n - n % 7) ≡ first_monday y +ℤ pos days_before
+unfolding first_monday
+first_monday_from_start y n e =
+    let rest = weekday_from_start (day_number (record { year = y; ordinal = 4 })) n e in
+    omega (arith, ints, e, rest)
+
 -- the days from the start to a weekday of a week, by those to the first Monday
 pub week_day_from_start : (y : ℤ) (week weekday first found : ℕ) → pos first ≡ first_monday y +ℤ pos days_before
     → found ≡ weekday → pos (first + (7 * (week - 1) + found)) ≡ week_day_number y week weekday +ℤ pos days_before
+unfolding week_day_number
 week_day_from_start y week weekday first found e same = omega (arith, ints)
 
-pub ruleset week_days = (week_day_from_start, date_after, is_numbered, is_before_end, to_z-of_z)
+-- a weekday of a week before the end has a day number of the calendar
+pub is_week_day_numbered : (y : ℤ) (week weekday first found : ℕ) → pos first ≡ first_monday y +ℤ pos days_before
+    → found ≡ weekday → first + (7 * (week - 1) + found) < days_in_all → IsDayNumber (week_day_number y week weekday)
+is_week_day_numbered y week weekday first found e same h =
+    is_numbered _ _ (week_day_from_start y week weekday first found e same) h
+
+-- no other one has
+pub is_week_day_before_end : (y : ℤ) (week weekday first found : ℕ) → pos first ≡ first_monday y +ℤ pos days_before
+    → found ≡ weekday → IsDayNumber (week_day_number y week weekday) → first + (7 * (week - 1) + found) < days_in_all
+is_week_day_before_end y week weekday first found e same h =
+    is_before_end _ _ (week_day_from_start y week weekday first found e same) h
+
+pub ruleset week_days = (week_day_from_start, date_after, is_week_day_numbered, is_week_day_before_end, to_z-of_z)

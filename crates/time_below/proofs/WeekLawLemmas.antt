@@ -34,6 +34,7 @@ thursday_at y m k e = grind (arith, nat_tests, day_number_from_start, weekday_fr
 -- the Thursdays of a year
 thursdays : (y : ℤ) (m : ℕ) → y +ℤ pos greatest_year ≡ pos m
     → weeks_in_year y ≡ sevenths_after (days_of_years m + 4) (days_in_year y)
+unfolding weeks_in_year
 thursdays y m e = days_of_name_counted 3 y (days_of_years m + 4) (λ k. thursday_at y m k e) (days_in_year y)
 
 -- the Thursday of a week of the year lies in the year
@@ -92,6 +93,7 @@ pub week_date_parts : (y : ℤ) (week weekday : ℕ) → IsYear y → IsInRange 
     → (iso_year_of (date_at (week_day_number y week weekday)) ≡ y)
     × (iso_week_of (date_at (week_day_number y week weekday)) ≡ week)
     × (weekday_of (date_at (week_day_number y week weekday)) ≡ weekday)
+unfolding week_day_number
 week_date_parts y week weekday year weeks below h =
     let z = week_day_number y week weekday in
     let m = unsigned_abs (y +ℤ pos greatest_year) in

@@ -26,7 +26,6 @@ impl From<Timestamp> for UtcDateTime {
     ghost from_gives = { λ moment shown. shown ≡ utc_date_and_time moment };
 
     /// The date and time in UTC.
-    #[tactic(auto, using(crate::proofs::MomentLemmas::laws_of_moments))]
     fn from(moment: Timestamp) -> UtcDateTime
         ensures value { result ≡ utc_date_and_time moment }
         ensures moment { moment_of result ≡ moment }

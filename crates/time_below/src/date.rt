@@ -9,7 +9,7 @@ ghost use Rattle.time_below.specs.Calendar.{thursday_of, iso_year_of, iso_week_o
 ghost use Rattle.time_below.specs.Calendar.{monday_based_week_of, sunday_based_week_of};
 ghost use Rattle.time_below.specs.ComponentRange.{range_refusal, conditional_range};
 ghost use Rattle.time_below.specs.ComponentRange.{unconditional_range};
-ghost use Rattle.time_below.specs.Moment.{day_seconds, unix_day};
+ghost use Rattle.time_below.specs.Moment.{IsTimestampSecond, day_seconds, unix_day};
 ghost use Rattle.time_below.specs.Month.{month_number};
 ghost use Rattle.time_below.specs.Weekday.{days_from_monday};
 
@@ -130,7 +130,6 @@ impl Date {
     }
 
     // The date this many days after -999999-01-01.
-    #[tactic(auto, using(crate::proofs::CalendarLemmas::date_at_from_start))]
     pub(crate) fn from_days(days: u32) -> Date
         requires { days < ALL_DAYS }
         ensures { result ≡ date_at (pos days -ℤ pos DAYS_BEFORE) }
@@ -143,13 +142,20 @@ impl Date {
         }
     }
 
+    // The years from -999,999 to that of the date.
+    fn years_from_start(self) -> u32
+        ensures value { self.year +ℤ pos greatest_year ≡ pos result }
+        ensures range { result < 1_999_999 }
+    {
+        (self.year + GREATEST_YEAR) as u32
+    }
+
     // The days from -999999-01-01 to the date.
-    #[tactic(auto, using(crate::proofs::CalendarLemmas::day_number_from_start))]
     fn days_from_start(self) -> u32
         ensures value { pos result ≡ day_number self +ℤ pos DAYS_BEFORE }
         ensures range { result < ALL_DAYS }
     {
-        let years = (self.year + GREATEST_YEAR) as u32;
+        let years = self.years_from_start();
         365 * years + years / 4 - years / 100 + years / 400 + self.ordinal as u32 - 1
     }
 
@@ -159,10 +165,11 @@ impl Date {
         ordinal: 1,
     };
 
-    // The seconds from 1970-01-01 to the start of the day.
+    // The seconds from 1970-01-01 to the start of the day, whose last second is 86,399 later.
     pub(crate) fn unix_midnight(self) -> i64
         ensures value { result ≡ (day_number self -ℤ pos unix_day) *ℤ pos day_seconds }
-        ensures range { unsigned_abs result < 2 ^ 62 }
+        ensures start { IsTimestampSecond result }
+        ensures end { IsTimestampSecond (result +ℤ pos 86_399) }
     {
         (self.days_from_start() as i64 - DAYS_TO_1970) * DAY_SECONDS as i64
     }
@@ -227,12 +234,11 @@ impl Date {
     // A number whose rest by seven is the weekday: a year of 365 days is 52 weeks and a day. A
     // hundred years earlier leap days are a quarter of the years, less three quarters of the
     // centuries, and no day is left over.
-    #[tactic(auto, using(crate::proofs::CalendarLemmas::weekday_by_years))]
     fn place_in_weeks(self) -> u32
         ensures value { result % 7 ≡ weekday_of self }
         ensures range { result < 3_000_000 }
     {
-        let years = (self.year + GREATEST_YEAR) as u32 + 100;
+        let years = self.years_from_start() + 100;
         years * 5 / 4 - years / 100 * 3 / 4 + self.ordinal as u32
     }
 
@@ -244,7 +250,6 @@ impl Date {
     }
 
     // The Thursday of the date's week, which is counted from Monday.
-    #[tactic(auto, using(crate::proofs::CalendarLemmas::thursday_facts))]
     fn thursday(self) -> Date
         ensures { result ≡ thursday_of self }
     {

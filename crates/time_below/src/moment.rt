@@ -69,7 +69,6 @@ fn clock_seconds(seconds: i64, offset: UtcOffset) -> i64
 
 // The date and time of a moment by clocks at this offset, and the offset, where their year is in
 // range. The moment is given as for `milliseconds`.
-#[tactic(auto, using(crate::proofs::MomentLemmas::laws_of_moments))]
 pub(crate) fn checked_at_offset(
     seconds: i64,
     nanosecond: u32,

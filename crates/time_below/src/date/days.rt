@@ -50,8 +50,8 @@ impl Date {
     {
         if self.ordinal < calendar::days_in_year(self.year) {
             return Some(Date {
-                year: self.year,
                 ordinal: self.ordinal + 1,
+                ..self
             });
         }
         if self.year == GREATEST_YEAR {
@@ -70,8 +70,8 @@ impl Date {
     {
         if self.ordinal > 1 {
             return Some(Date {
-                year: self.year,
                 ordinal: self.ordinal - 1,
+                ..self
             });
         }
         if self.year == -GREATEST_YEAR {

@@ -15,7 +15,6 @@ use crate::util;
 use crate::weekday::Weekday;
 
 // The days from -999999-01-01 to the Monday of week 1 of the year.
-#[tactic(auto, using(crate::proofs::CalendarLemmas::weekday_from_start), unfolding(crate::specs::WeekDate::first_monday))]
 fn first_monday(year: i32) -> u32
     requires { IsYear year }
     ensures value { pos result ≡ first_monday year +ℤ pos days_before }
@@ -29,7 +28,6 @@ impl Date {
     /// The date of a year -999,999 to 999,999 of the week calendar, a week 1 to 52, or 53 in a year
     /// that has as many, and a weekday. Refuses the year, then the week, then as `weekday` the two
     /// days after 999999-12-31, in the last week of all.
-    #[tactic(auto, using(crate::proofs::WeekDateLemmas::week_days))]
     pub fn from_iso_week_date(year: i32, week: u8, weekday: Weekday) -> Result<Date, ComponentRange>
         ensures accepted { IsOk result ↔ (IsYear year × IsInRange 1 (weeks_in_year year) week
             × IsDayNumber (week_day_number year week (days_from_monday weekday))) }

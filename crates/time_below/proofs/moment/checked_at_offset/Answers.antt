@@ -21,6 +21,9 @@ shown_is c =
 in_years : (c : goal.After-new_in_offset) → IsMoment (moved (given c.args.seconds c.args.nanosecond) c.args.offset)
 in_years c = subst IsMoment (sym c.in-Ok.ensures.value ∙ shown_is c) (c.in-Ok.ensures.accepted.0 refl)
 
+pub returns-in-Ok-clause-accepted : goal.returns-in-Ok-clause-accepted
+returns-in-Ok-clause-accepted c = (λ _. (in_years c).0, λ _. refl)
+
 pub returns-in-Ok-clause-value : goal.returns-in-Ok-clause-value
 returns-in-Ok-clause-value c = c.new_in_offset.ensures ∙ rw (c.date.ensures, c.time.ensures, shown_is c) refl
 
