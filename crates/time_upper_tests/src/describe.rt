@@ -6,5 +6,5 @@ mod plans;
 mod recipes;
 mod spellings;
 mod strftime;
-mod texts;
+pub(crate) mod texts;
 mod worked;

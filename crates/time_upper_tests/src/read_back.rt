@@ -1,7 +1,10 @@
 //! Texts of a plan, read back.
+use crate::describe::texts::repeated;
 use crate::values::{
-    assert_number, assert_refused, assert_text, assert_that, read, reader, reader_from,
+    answered, assert_number, assert_refused, assert_text, assert_that, plan, plan_in_brackets,
+    reader, value, value_from,
 };
+use std::alloc::Global;
 use std::process::Abort;
 use std::test::Fail;
 use time::format_description::well_known::Rfc3339;
@@ -42,14 +45,12 @@ const MOMENTS: &[(&str, &str, i64)] = &[
 ];
 
 #[test]
-fn moments_are_read(rt: HostRuntime) -> Result<(), Fail> {
+fn moments_are_read(rt: HostRuntime) {
     let alloc = rt.alloc();
     for (conversions, text, seconds) in MOMENTS {
-        let plan = Plan::parse_strftime(alloc, conversions.as_bytes())?;
-        let moment: OffsetDateTime = read(&rt, &reader(&rt, &plan), text);
+        let moment: OffsetDateTime = value(&rt, alloc, conversions, text);
         assert_number(&rt, text, moment.unix_timestamp(), *seconds);
     }
-    Ok(())
 }
 
 /// A description, a text, and the year and the day of the year by Python: before the year 1 those
@@ -65,44 +66,70 @@ const DATES: &[(&str, &str, i32, u16)] = &[
     ("%Y week %U day %w", "2026 week 47 day 6", 2026, 332),
 ];
 
-#[test]
-fn dates_are_read(rt: HostRuntime) -> Result<(), Fail> {
-    let alloc = rt.alloc();
-    for (conversions, text, year, ordinal) in DATES {
-        let plan = Plan::parse_strftime(alloc, conversions.as_bytes())?;
-        let date: Date = read(&rt, &reader(&rt, &plan), text);
-        assert_number(&rt, text, i64::from(date.year()), i64::from(*year));
-        assert_number(&rt, text, i64::from(date.ordinal()), i64::from(*ordinal));
+/// The names of the months, with the day of the year of their first days in 2026 by Python.
+const MONTHS: &[(&str, &str, i32, u16)] = &[
+    ("%B %Y, %-d", "January 2026, 1", 2026, 1),
+    ("%B %Y, %-d", "February 2026, 1", 2026, 32),
+    ("%B %Y, %-d", "March 2026, 1", 2026, 60),
+    ("%B %Y, %-d", "April 2026, 1", 2026, 91),
+    ("%B %Y, %-d", "May 2026, 1", 2026, 121),
+    ("%B %Y, %-d", "June 2026, 1", 2026, 152),
+    ("%B %Y, %-d", "July 2026, 1", 2026, 182),
+    ("%B %Y, %-d", "August 2026, 1", 2026, 213),
+    ("%B %Y, %-d", "September 2026, 1", 2026, 244),
+    ("%B %Y, %-d", "October 2026, 1", 2026, 274),
+    ("%B %Y, %-d", "November 2026, 1", 2026, 305),
+    ("%B %Y, %-d", "December 2026, 1", 2026, 335),
+    ("%b %Y, %-d", "Jan 2026, 1", 2026, 1),
+    ("%b %Y, %-d", "Feb 2026, 1", 2026, 32),
+    ("%b %Y, %-d", "Mar 2026, 1", 2026, 60),
+    ("%b %Y, %-d", "Apr 2026, 1", 2026, 91),
+    ("%b %Y, %-d", "May 2026, 1", 2026, 121),
+    ("%b %Y, %-d", "Jun 2026, 1", 2026, 152),
+    ("%b %Y, %-d", "Jul 2026, 1", 2026, 182),
+    ("%b %Y, %-d", "Aug 2026, 1", 2026, 213),
+    ("%b %Y, %-d", "Sep 2026, 1", 2026, 244),
+    ("%b %Y, %-d", "Oct 2026, 1", 2026, 274),
+    ("%b %Y, %-d", "Nov 2026, 1", 2026, 305),
+    ("%b %Y, %-d", "Dec 2026, 1", 2026, 335),
+];
+
+/// Compares the date of each text with its year and its day of the year.
+fn assert_dates(rt: &impl Abort, alloc: Global, rows: &[(&str, &str, i32, u16)]) {
+    for (conversions, text, year, ordinal) in rows {
+        let date: Date = value(rt, alloc, conversions, text);
+        assert_number(rt, text, date.year() as i64, *year as i64);
+        assert_number(rt, text, date.ordinal() as i64, *ordinal as i64);
     }
-    Ok(())
 }
 
 #[test]
-fn each_type_is_read(rt: HostRuntime) -> Result<(), Fail> {
+fn dates_are_read(rt: HostRuntime) {
+    assert_dates(&rt, rt.alloc(), DATES);
+}
+
+#[test]
+fn each_name_of_a_month_is_read(rt: HostRuntime) {
+    assert_dates(&rt, rt.alloc(), MONTHS);
+}
+
+#[test]
+fn each_type_is_read(rt: HostRuntime) {
     let alloc = rt.alloc();
-    let noon = Plan::parse_strftime(alloc, b"%I:%M %p")?;
-    let shown = Plan::parse_strftime(alloc, b"%Y%m%d%H%M%S")?;
-    let offset = Plan::parse_strftime(alloc, b"%z")?;
-    let unix = Plan::parse_strftime(alloc, b"%s")?;
-    let noon = reader::<Time>(&rt, &noon);
-    assert_that(&rt, read(&rt, &noon, "12:30 AM").hour() == 0);
-    assert_that(&rt, read(&rt, &noon, "12:30 PM").hour() == 12);
-    let local = reader::<PlainDateTime>(&rt, &shown);
-    assert_that(&rt, read(&rt, &local, "20261128133000").date().day() == 28);
-    assert_that(
-        &rt,
-        read(&rt, &local, "+1234560102030405").time().hour() == 3,
-    );
-    let utc = reader::<UtcDateTime>(&rt, &shown);
-    assert_that(
-        &rt,
-        read(&rt, &utc, "19700102000000").unix_timestamp() == 86_400,
-    );
-    let offset = reader::<UtcOffset>(&rt, &offset);
-    assert_that(&rt, read(&rt, &offset, "-0130").whole_seconds() == -5_400);
-    let unix = reader::<Timestamp>(&rt, &unix);
-    assert_that(&rt, read(&rt, &unix, "-1").as_seconds() == -1);
-    Ok(())
+    let midnight: Time = value(&rt, alloc, "%I:%M %p", "12:30 AM");
+    assert_that(&rt, midnight.hour() == 0);
+    let noon: Time = value(&rt, alloc, "%I:%M %p", "12:30 PM");
+    assert_that(&rt, noon.hour() == 12);
+    let local: PlainDateTime = value(&rt, alloc, "%Y%m%d%H%M%S", "20261128133000");
+    assert_that(&rt, local.date().day() == 28);
+    let far: PlainDateTime = value(&rt, alloc, "%Y%m%d%H%M%S", "+1234560102030405");
+    assert_that(&rt, far.time().hour() == 3);
+    let utc: UtcDateTime = value(&rt, alloc, "%Y%m%d%H%M%S", "19700102000000");
+    assert_that(&rt, utc.unix_timestamp() == 86_400);
+    let offset: UtcOffset = value(&rt, alloc, "%z", "-0130");
+    assert_that(&rt, offset.whole_seconds() == -5_400);
+    let moment: Timestamp = value(&rt, alloc, "%s", "-1");
+    assert_that(&rt, moment.as_seconds() == -1);
 }
 
 /// A text by `%d/%b/%Y:%H:%M:%S %z`, and its fault.
@@ -134,33 +161,35 @@ const FAULTS: &[(&str, &str)] = &[
 ];
 
 #[test]
-fn faults_are_named(rt: HostRuntime) -> Result<(), Fail> {
+fn faults_are_named(rt: HostRuntime) {
     let alloc = rt.alloc();
-    let plan = Plan::parse_strftime(alloc, b"%d/%b/%Y:%H:%M:%S %z")?;
+    let plan = plan(&rt, alloc, "%d/%b/%Y:%H:%M:%S %z");
     let reader = reader::<OffsetDateTime>(&rt, &plan);
     for (text, wanted) in FAULTS {
         assert_refused(&rt, alloc, reader.read(text.as_bytes()), wanted);
     }
-    Ok(())
+}
+
+/// Fails where the plan of conversions has a reader, or has none for another reason.
+fn assert_no_reader<V: Readable>(
+    rt: &impl Abort,
+    alloc: Global,
+    conversions: &str,
+    wanted: NoReader,
+) {
+    match plan(rt, alloc, conversions).reader::<V>() {
+        Ok(_) => panic!(rt; "{conversions} is read"),
+        Err(why) => assert_that(rt, why == wanted),
+    }
 }
 
 #[test]
-fn plans_that_are_not_read_are_refused(rt: HostRuntime) -> Result<(), Fail> {
+fn plans_that_are_not_read_are_refused(rt: HostRuntime) {
     let alloc = rt.alloc();
-    let half = Plan::parse_strftime(alloc, b"%I:%M")?;
-    let hour = Plan::parse_strftime(alloc, b"%Y-%m-%d %H")?;
-    let tight = Plan::parse_strftime(alloc, b"%-d%-m%Y")?;
-    let gap = Plan::parse_strftime(alloc, b"%H::%S")?;
-    assert_that(&rt, is_refused::<Time>(&half, NoReader::Undetermined));
-    assert_that(&rt, is_refused::<Time>(&gap, NoReader::Undetermined));
-    assert_that(&rt, is_refused::<Date>(&hour, NoReader::Unsupplied(1)));
-    assert_that(&rt, is_refused::<Date>(&tight, NoReader::Ambiguous(0)));
-    Ok(())
-}
-
-/// Whether a plan has no reader, for this reason.
-fn is_refused<V: Readable>(plan: &Plan, wanted: NoReader) -> bool {
-    plan.reader::<V>().is_err_and(|why| why == wanted)
+    assert_no_reader::<Time>(&rt, alloc, "%I:%M", NoReader::Undetermined);
+    assert_no_reader::<Time>(&rt, alloc, "%H::%S", NoReader::Undetermined);
+    assert_no_reader::<Date>(&rt, alloc, "%Y-%m-%d %H", NoReader::Unsupplied(1));
+    assert_no_reader::<Date>(&rt, alloc, "%-d%-m%Y", NoReader::Ambiguous(0));
 }
 
 /// Noon of 28 November 2026 and 15 seconds, two hours and a half before UTC.
@@ -201,73 +230,34 @@ const COMPLETED: &[(&str, &str, &str)] = &[
 #[test]
 fn a_base_completes_what_no_text_shows(rt: HostRuntime) -> Result<(), Fail> {
     let alloc = rt.alloc();
+    let base = base(&rt);
     for (conversions, text, wanted) in COMPLETED {
-        let plan = Plan::parse_strftime(alloc, conversions.as_bytes())?;
-        let moment = read(&rt, &reader_from(&rt, &plan, &base(&rt)), text);
+        let moment = value_from(&rt, &plan(&rt, alloc, conversions), text, &base);
         assert_text(&rt, moment.format(alloc, &Rfc3339)?, wanted);
     }
     Ok(())
 }
 
 #[test]
-fn minutes_of_an_offset_are_zero_where_its_hour_is_shown(rt: HostRuntime) -> Result<(), Fail> {
-    let alloc = rt.alloc();
-    let plan = Plan::parse(alloc, b"[offset_hour]")?;
-    let moment = read(&rt, &reader_from(&rt, &plan, &base(&rt)), "05");
+fn minutes_of_an_offset_are_zero_where_its_hour_is_shown(rt: HostRuntime) {
+    let plan = plan_in_brackets(&rt, rt.alloc(), "[offset_hour]");
+    let moment = value_from(&rt, &plan, "05", &base(&rt));
     assert_that(&rt, moment.offset().whole_seconds() == 18_000);
-    Ok(())
 }
 
 #[test]
-fn a_moment_keeps_the_nanosecond_of_its_base(rt: HostRuntime) -> Result<(), Fail> {
-    let alloc = rt.alloc();
-    let plan = Plan::parse_strftime(alloc, b"%F")?;
+fn a_moment_keeps_the_nanosecond_of_its_base(rt: HostRuntime) {
     let Ok(moment) = Timestamp::new(1_700_000_000, 7) else {
         panic!(rt; "no moment")
     };
-    let found = read(&rt, &reader_from(&rt, &plan, &moment), "2023-11-14");
-    assert_that(&rt, found.as_parts() == (1_700_000_000, 7));
-    Ok(())
-}
-
-const MONTHS: [&str; 12] = [
-    "January",
-    "February",
-    "March",
-    "April",
-    "May",
-    "June",
-    "July",
-    "August",
-    "September",
-    "October",
-    "November",
-    "December",
-];
-
-#[test]
-fn each_name_of_a_month_is_read(rt: HostRuntime) -> Result<(), Fail> {
-    let alloc = rt.alloc();
-    let long = Plan::parse_strftime(alloc, b"%B %Y, %-d")?;
-    let short = Plan::parse_strftime(alloc, b"%b %Y, %-d")?;
-    let (long, short) = (reader::<Date>(&rt, &long), reader::<Date>(&rt, &short));
-    for (name, number) in MONTHS.iter().zip(1u8..13) {
-        let text = format!(in alloc; "{name} 2026, 1")?;
-        let cut = format!(in alloc; "{name:.3} 2026, 1")?;
-        assert_that(
-            &rt,
-            u8::from(read(&rt, &long, text.as_str()).month()) == number,
-        );
-        assert_that(
-            &rt,
-            u8::from(read(&rt, &short, cut.as_str()).month()) == number,
-        );
-    }
-    Ok(())
+    let plan = plan(&rt, rt.alloc(), "%F");
+    let (seconds, nanosecond) = value_from(&rt, &plan, "2023-11-14", &moment).as_parts();
+    assert_that(&rt, seconds == 1_700_000_000);
+    assert_that(&rt, nanosecond == 7);
 }
 
 /// Each component as a description that is one spells it.
-const COMPONENTS: [&str; 29] = [
+const COMPONENTS: &[&str] = &[
     "[day]",
     "[month repr:short]",
     "[month repr:long]",
@@ -302,53 +292,41 @@ const COMPONENTS: [&str; 29] = [
 #[test]
 fn a_fault_names_each_component_as_a_description_does(rt: HostRuntime) -> Result<(), Fail> {
     let alloc = rt.alloc();
+    let base = base(&rt);
     for name in COMPONENTS {
-        let plan = Plan::parse(alloc, name.as_bytes())?;
-        let reader = reader_from(&rt, &plan, &base(&rt));
+        let plan = plan_in_brackets(&rt, alloc, name);
         let wanted = format!(in alloc; "byte 0: expected {name}")?;
-        assert_refused(&rt, alloc, reader.read(b""), wanted.as_str());
+        match plan.reader_from(&base) {
+            Ok(reader) => assert_refused(&rt, alloc, reader.read(b""), wanted.as_str()),
+            Err(refused) => panic!(rt; "{refused}"),
+        }
     }
     Ok(())
 }
 
 #[test]
-fn the_front_of_a_line_is_read(rt: HostRuntime) -> Result<(), Fail> {
-    let alloc = rt.alloc();
-    let plan = Plan::parse_strftime(alloc, b"%Y-%m-%d %H:%M:%S")?;
-    let reader = reader::<PlainDateTime>(&rt, &plan);
-    match reader.read_front(b"2026-11-28 13:30:00 started") {
+fn the_front_of_a_line_is_read(rt: HostRuntime) {
+    let plan = plan(&rt, rt.alloc(), "%Y-%m-%d %H:%M:%S");
+    match reader::<PlainDateTime>(&rt, &plan).read_front(b"2026-11-28 13:30:00 started") {
         Ok((local, rest)) => {
             assert_that(&rt, local.time().minute() == 30);
             assert_that(&rt, rest == b" started".as_slice());
         }
         Err(fault) => panic!(rt; "{fault}"),
     }
-    Ok(())
 }
 
 #[test]
 fn a_plan_of_any_width_is_read(rt: HostRuntime) -> Result<(), Fail> {
     let alloc = rt.alloc();
-    let mut description = Vec::new(alloc);
-    let mut text = Vec::new(alloc);
-    for _ in 0..20 {
-        description.extend_from_slice(b"%Y-%m-%d at the hour of the second ")?;
-        text.extend_from_slice(b"2026-11-28 at the hour of the second ")?;
-    }
+    let description = repeated(alloc, b"%Y-%m-%d at the hour of the second ", 20)?;
+    let mut text = repeated(alloc, b"2026-11-28 at the hour of the second ", 20)?;
     let plan = Plan::parse_strftime(alloc, description.as_slice())?;
     let reader = reader::<Date>(&rt, &plan);
-    assert_that(
-        &rt,
-        reader
-            .read(text.as_slice())
-            .is_ok_and(|date| date.day() == 28),
-    );
-    text.extend_from_slice(b" ")?;
-    assert_that(
-        &rt,
-        reader
-            .read(text.as_slice())
-            .is_err_and(|fault| fault.at == 740),
-    );
+    let date = answered(&rt, "20 dates", reader.read(text.as_slice()));
+    assert_that(&rt, date.day() == 28);
+    text.push(b' ')?;
+    let answer = reader.read(text.as_slice());
+    assert_refused(&rt, alloc, answer, "byte 740: expected the end");
     Ok(())
 }

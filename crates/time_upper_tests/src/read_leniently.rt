@@ -1,11 +1,13 @@
 //! Texts that are like those of a plan, read leniently; and texts of steps that are in no plan.
-use crate::values::{assert_number, assert_refused, assert_that, read_leniently, reader};
+use crate::values::{
+    answered, assert_number, assert_refused, assert_that, plan, plan_in_brackets, reader,
+    value_leniently,
+};
 use std::process::Abort;
-use std::test::Fail;
 use time::{Date, OffsetDateTime, Time, UtcDateTime};
 use time_below::format_description::modifier::Padding;
 use time_below::format_description::{Component, modifier};
-use time_plan::{Plan, Run, Shown};
+use time_plan::{Run, Shown};
 use time_plan_read::{LiteralRef, NoReader, StepParts, reader_of_steps};
 
 /// A description of `strftime`, a text, and its seconds from 1970 by Python's `time.strptime`.
@@ -35,14 +37,13 @@ const MOMENTS: &[(&str, &str, i64)] = &[
 ];
 
 #[test]
-fn other_forms_of_moments_are_read(rt: HostRuntime) -> Result<(), Fail> {
+fn other_forms_of_moments_are_read(rt: HostRuntime) {
     let alloc = rt.alloc();
     for (conversions, text, seconds) in MOMENTS {
-        let plan = Plan::parse_strftime(alloc, conversions.as_bytes())?;
-        let moment: UtcDateTime = read_leniently(&rt, &reader(&rt, &plan), text);
+        let plan = plan(&rt, alloc, conversions);
+        let moment: UtcDateTime = value_leniently(&rt, &plan, text);
         assert_number(&rt, text, moment.unix_timestamp(), *seconds);
     }
-    Ok(())
 }
 
 /// A description, a text, and its seconds from 1970 and nanoseconds by Python's `strptime`; the
@@ -75,37 +76,26 @@ const AT_OFFSETS: &[(&str, &str, i64, u32)] = &[
 ];
 
 #[test]
-fn other_forms_of_offsets_are_read(rt: HostRuntime) -> Result<(), Fail> {
+fn other_forms_of_offsets_are_read(rt: HostRuntime) {
     let alloc = rt.alloc();
     for (description, text, seconds, nanosecond) in AT_OFFSETS {
-        let plan = Plan::parse(alloc, description.as_bytes())?;
-        let moment: OffsetDateTime = read_leniently(&rt, &reader(&rt, &plan), text);
+        let plan = plan_in_brackets(&rt, alloc, description);
+        let moment: OffsetDateTime = value_leniently(&rt, &plan, text);
         assert_number(&rt, text, moment.unix_timestamp(), *seconds);
-        assert_number(
-            &rt,
-            text,
-            i64::from(moment.nanosecond()),
-            i64::from(*nanosecond),
-        );
+        assert_number(&rt, text, moment.nanosecond() as i64, *nanosecond as i64);
     }
-    Ok(())
 }
 
 #[test]
-fn decimals_keep_their_places(rt: HostRuntime) -> Result<(), Fail> {
-    let alloc = rt.alloc();
-    let plan = Plan::parse(alloc, b"[hour]:[minute]:[second].[subsecond digits:2]")?;
-    let reader = reader::<Time>(&rt, &plan);
-    assert_that(
-        &rt,
-        read_leniently(&rt, &reader, "0:0:1.5").nanosecond() == 500_000_000,
-    );
-    assert_that(
-        &rt,
-        read_leniently(&rt, &reader, "0:0:1.05").nanosecond() == 50_000_000,
-    );
-    assert_that(&rt, reader.lenient().read(b"0:0:1.").is_err());
-    Ok(())
+fn decimals_keep_their_places(rt: HostRuntime) {
+    let description = "[hour]:[minute]:[second].[subsecond digits:2]";
+    let plan = plan_in_brackets(&rt, rt.alloc(), description);
+    let half: Time = value_leniently(&rt, &plan, "0:0:1.5");
+    assert_that(&rt, half.nanosecond() == 500_000_000);
+    let less: Time = value_leniently(&rt, &plan, "0:0:1.05");
+    assert_that(&rt, less.nanosecond() == 50_000_000);
+    let cut = reader::<Time>(&rt, &plan).lenient().read(b"0:0:1.");
+    assert_that(&rt, cut.is_err());
 }
 
 /// A description, a text that is like that of no value, and its fault.
@@ -130,14 +120,13 @@ const FAULTS: &[(&str, &str, &str)] = &[
 ];
 
 #[test]
-fn texts_that_are_like_none_are_refused(rt: HostRuntime) -> Result<(), Fail> {
+fn texts_that_are_like_none_are_refused(rt: HostRuntime) {
     let alloc = rt.alloc();
     for (conversions, text, wanted) in FAULTS {
-        let plan = Plan::parse_strftime(alloc, conversions.as_bytes())?;
-        let reader = reader::<Date>(&rt, &plan);
-        assert_refused(&rt, alloc, reader.lenient().read(text.as_bytes()), wanted);
+        let plan = plan(&rt, alloc, conversions);
+        let answer = reader::<Date>(&rt, &plan).lenient().read(text.as_bytes());
+        assert_refused(&rt, alloc, answer, wanted);
     }
-    Ok(())
 }
 
 /// A component with nothing behind it.
@@ -156,29 +145,41 @@ fn byte(literal: u8) -> StepParts<'static> {
     }
 }
 
-#[test]
-fn steps_in_an_array_are_read(rt: HostRuntime) -> Result<(), Fail> {
+/// The steps of a year, a dash and a day of the year.
+fn ordinal_date() -> [StepParts<'static>; 3] {
     let padding = Padding::Zero;
     let sign_is_mandatory = false;
     let year = modifier::CalendarYearFullExtendedRange {
         padding,
         sign_is_mandatory,
     };
-    let steps = [
+    [
         alone(Component::CalendarYearFullExtendedRange(year)),
         byte(b'-'),
         alone(Component::Ordinal(modifier::Ordinal { padding })),
-    ];
+    ]
+}
+
+#[test]
+fn steps_in_an_array_are_read(rt: HostRuntime) {
+    let steps = ordinal_date();
     match reader_of_steps::<StepParts<'_>, Date>(&steps, &[]) {
         Ok(reader) => {
-            let is_33rd = |date: Date| date.to_ordinal_date() == (2026, 33);
-            assert_that(&rt, reader.read(b"2026-033").is_ok_and(is_33rd));
+            let strict = answered(&rt, "2026-033", reader.read(b"2026-033"));
+            assert_that(&rt, strict.to_ordinal_date() == (2026, 33));
             assert_that(&rt, reader.read(b"2026-33").is_err());
-            assert_that(&rt, reader.lenient().read(b"2026-33").is_ok_and(is_33rd));
+            let lenient = answered(&rt, "2026-33", reader.lenient().read(b"2026-33"));
+            assert_that(&rt, lenient.to_ordinal_date() == (2026, 33));
         }
         Err(refused) => panic!(rt; "{refused}"),
     }
-    let refused = reader_of_steps::<StepParts<'_>, Time>(&steps, &[]);
-    assert_that(&rt, refused.is_err_and(|why| why == NoReader::Undetermined));
-    Ok(())
+}
+
+#[test]
+fn steps_that_determine_no_value_are_not_read(rt: HostRuntime) {
+    let steps = ordinal_date();
+    match reader_of_steps::<StepParts<'_>, Time>(&steps, &[]) {
+        Ok(_) => panic!(rt; "a date is read as a time of day"),
+        Err(why) => assert_that(&rt, why == NoReader::Undetermined),
+    }
 }

@@ -67,6 +67,22 @@ pub fn assert_number(rt: &impl Abort, text: &str, number: i64, wanted: i64) {
     assert!(rt; number == wanted, "{text}: {number}, not {wanted}");
 }
 
+/// The plan of conversions. Fails where they are none.
+pub fn plan(rt: &impl Abort, alloc: Global, conversions: &str) -> Plan {
+    match Plan::parse_strftime(alloc, conversions.as_bytes()) {
+        Ok(plan) => plan,
+        Err(_) => panic!(rt; "no conversions: {conversions}"),
+    }
+}
+
+/// The plan of a description in brackets. Fails where it is none.
+pub fn plan_in_brackets(rt: &impl Abort, alloc: Global, description: &str) -> Plan {
+    match Plan::parse(alloc, description.as_bytes()) {
+        Ok(plan) => plan,
+        Err(_) => panic!(rt; "no description: {description}"),
+    }
+}
+
 /// The reader of a plan. Fails where it has none.
 pub fn reader<'a, V: Readable>(rt: &impl Abort, plan: &'a Plan) -> Reader<'a, V> {
     match plan.reader() {
@@ -75,36 +91,47 @@ pub fn reader<'a, V: Readable>(rt: &impl Abort, plan: &'a Plan) -> Reader<'a, V>
     }
 }
 
-/// The reader of a plan that takes the rest from a base value. Fails where it has none.
-pub fn reader_from<'a, V: Readable>(rt: &impl Abort, plan: &'a Plan, base: &V) -> Reader<'a, V> {
+/// The value of an answer. Fails where a text was not read.
+pub fn answered<V: Drop>(rt: &impl Abort, text: &str, answer: Result<V, NotRead>) -> V {
+    match answer {
+        Ok(value) => value,
+        Err(fault) => panic!(rt; "{text}: {fault}"),
+    }
+}
+
+/// The value of a text by conversions. Fails where it has none.
+pub fn value<V: Readable<State: Drop> + Drop>(
+    rt: &impl Abort,
+    alloc: Global,
+    conversions: &str,
+    text: &str,
+) -> V {
+    let plan = plan(rt, alloc, conversions);
+    let answer = reader::<V>(rt, &plan).read(text.as_bytes());
+    answered(rt, text, answer)
+}
+
+/// The value of a text by a plan, and by a base value what no text shows. Fails where it has none.
+pub fn value_from<V: Readable<State: Drop> + Drop>(
+    rt: &impl Abort,
+    plan: &Plan,
+    text: &str,
+    base: &V,
+) -> V {
     match plan.reader_from(base) {
-        Ok(reader) => reader,
+        Ok(reader) => answered(rt, text, reader.read(text.as_bytes())),
         Err(refused) => panic!(rt; "{refused}"),
     }
 }
 
-/// The value of a text. Fails where it has none.
-pub fn read<V: Readable<State: Drop> + Drop>(
-    rt: &impl Abort,
-    reader: &Reader<'_, V>,
-    text: &str,
-) -> V {
-    match reader.read(text.as_bytes()) {
-        Ok(value) => value,
-        Err(fault) => panic!(rt; "{text}: {fault}"),
-    }
-}
-
 /// The value of a text that is read leniently. Fails where it has none.
-pub fn read_leniently<V: Readable<State: Drop> + Drop>(
+pub fn value_leniently<V: Readable<State: Drop> + Drop>(
     rt: &impl Abort,
-    reader: &Reader<'_, V>,
+    plan: &Plan,
     text: &str,
 ) -> V {
-    match reader.lenient().read(text.as_bytes()) {
-        Ok(value) => value,
-        Err(fault) => panic!(rt; "{text}: {fault}"),
-    }
+    let answer = reader::<V>(rt, plan).lenient().read(text.as_bytes());
+    answered(rt, text, answer)
 }
 
 /// Fails where a text is read, or is refused with other words than these.
