@@ -11,7 +11,7 @@ use Rattle.time_digits.proofs.LengthLemmas.{length-digit}
 use Rattle.time_digits.proofs.FractionLemmas.{length-trimmed_fraction}
 use Rattle.time_fmt.specs.Decimals.{decimals}
 use Rattle.time_fmt.specs.Text.{subsecond_text}
-use Rattle.time_fmt.proofs.NumberLemmas.{two_zeros, four_zeros, six_zeros}
+use Rattle.time_fmt.proofs.NumberLemmas.{two_zeros, four_zeros, six_zeros, four_and_four}
 use Rattle.std.proofs.lemmas.Grind.{common_steps}
 
 -- the first bytes of two texts are those of the first
@@ -90,16 +90,15 @@ pub ruleset six_digits = (six_parts, two_zeros, four_zeros, length-append)
 
 -- nine digits by the first, the next four and the last four
 pub nine_parts : (n : ℕ) → n < 1_000_000_000
-    → (decimal (n / 10_000 / 10_000) ++ zero_padded 4 (n / 10_000 % 10_000)) ++ zero_padded 4 (n % 10_000) ≡ fixed 9 n
+    → (decimal (n / 100_000_000) ++ zero_padded 4 (n % 100_000_000 / 10_000)) ++ zero_padded 4 (n % 100_000_000 % 10_000)
+    ≡ fixed 9 n
 nine_parts n h =
-    let first = decimal_one (n / 10_000 / 10_000) (omega arith) in
-    let next = zero_padded_is 3 (n / 10_000 % 10_000) (omega arith) (omega arith) ∙ fixed-mod 4 (n / 10_000) in
-    let last = zero_padded_is 3 (n % 10_000) (omega arith) (omega arith) ∙ fixed-mod 4 n in
-    let five =
-    ap (λ xs. xs ++ zero_padded 4 (n / 10_000 % 10_000)) first ∙ ap (λ ys. fixed 1 (n / 10_000 / 10_000) ++ ys) next
-    ∙ sym (fixed-append 1 4 (n / 10_000)) in
-    ap (λ xs. xs ++ zero_padded 4 (n % 10_000)) five ∙ ap (λ ys. fixed 5 (n / 10_000) ++ ys) last
-    ∙ sym (fixed-append 5 4 n)
+    let first = decimal_one (n / 100_000_000) (omega arith) in
+    let last = four_and_four (n % 100_000_000) (omega arith) ∙ fixed-mod 8 n in
+    let parts =
+    ap (λ xs. xs ++ (zero_padded 4 (n % 100_000_000 / 10_000) ++ zero_padded 4 (n % 100_000_000 % 10_000))) first
+    ∙ ap (λ ys. fixed 1 (n / 100_000_000) ++ ys) last ∙ sym (fixed-append 1 8 n) in
+    rw append_assoc parts
 
 pub ruleset nine_digits = (nine_parts, length-digit, four_zeros, length-append, append_assoc)
 

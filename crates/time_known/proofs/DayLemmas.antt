@@ -5,6 +5,7 @@ use Rattle.std.proofs.Math.Nat.{mul-suc}
 use Rattle.std.proofs.lemmas.List.{drop-drop}
 use Rattle.std.proofs.lemmas.List.FromFn.{get_or-map-range_with_len}
 use Rattle.std.specs.Fmt.{digits}
+use Rattle.std.specs.Prelude.{codes}
 use Rattle.std.specs.Int.{IsInRange}
 use Rattle.std.specs.List.{range_with_len}
 use Rattle.time_below.specs.Calendar.{days_of_months, last_begun}
@@ -41,7 +42,7 @@ row_is width row of_day days table e ordinal h =
 
 -- ---- months and days
 
--- the digits of the month, those of the day, and the month's name
+-- the digits of the month, those of the day, and the month's name after a space
 pub month_digits : (ordinal : ℕ) → IsInRange 1 366 ordinal
     → take 2 (drop (8 * (ordinal - 1)) DAYS.now) ≡ zero_padded 2 (month_and_day_in true ordinal).month
 unfolding rows digits padded days_of_months last_begun
@@ -55,14 +56,14 @@ day_digits ordinal h =
     ∙ row_is 8 (λ row. take 2 (drop 2 row)) (λ n. zero_padded 2 (month_and_day_in true n).day) 366 DAYS.now refl ordinal h
 
 pub name_letters : (ordinal : ℕ) → IsInRange 1 366 ordinal
-    → take 1 (drop (8 * (ordinal - 1) + 5) DAYS.now) ++ take 2 (drop (8 * (ordinal - 1) + 6) DAYS.now)
-    ≡ short_name (month_name (month_and_day_in true ordinal).month)
+    → take 2 (drop (8 * (ordinal - 1) + 4) DAYS.now) ++ take 2 (drop (8 * (ordinal - 1) + 6) DAYS.now)
+    ≡ codes " " ++ short_name (month_name (month_and_day_in true ordinal).month)
 unfolding rows days_of_months last_begun
 name_letters ordinal h =
-    ap₂ (λ a b. take 1 a ++ take 2 b) (sym (drop-drop 5 (8 * (ordinal - 1)) DAYS.now))
+    ap₂ (λ a b. take 2 a ++ take 2 b) (sym (drop-drop 4 (8 * (ordinal - 1)) DAYS.now))
     (sym (drop-drop 6 (8 * (ordinal - 1)) DAYS.now))
-    ∙ row_is 8 (λ row. take 1 (drop 5 row) ++ take 2 (drop 6 row))
-    (λ n. short_name (month_name (month_and_day_in true n).month)) 366 DAYS.now refl ordinal h
+    ∙ row_is 8 (λ row. take 2 (drop 4 row) ++ take 2 (drop 6 row))
+    (λ n. codes " " ++ short_name (month_name (month_and_day_in true n).month)) 366 DAYS.now refl ordinal h
 
 -- the table has 366 rows of eight bytes, all ASCII
 pub table_length : length DAYS.now ≡ 2_928

@@ -1,5 +1,5 @@
 //! What of a value a format has no place for.
-ghost use Rattle.std.specs.Prelude.{◌≡◌, ◌≤◌, ℕ, List, IfOk, IfErr, unsigned_abs};
+ghost use Rattle.std.specs.Prelude.{◌≡◌, ℕ, List, IfOk, IfErr, nat_lt, unsigned_abs};
 ghost use Rattle.time_fmt.specs.Outcome.{Names, done, invalid_component};
 ghost use Rattle.time_known.specs.Accepted.{checked_text, component_name, refused_for};
 
@@ -65,8 +65,8 @@ pub fn accepted_year(
     if year < first as i32 || year > 9_999 {
         return Err(OutOfRange::Year);
     }
-    let (hour, second) = hour_and_second(offset);
-    if greatest_hour < 25 && hour > greatest_hour {
+    let second = offset.as_hms().2.unsigned_abs();
+    if has_more_hours(offset, greatest_hour) {
         return Err(OutOfRange::OffsetHour);
     }
     if second != 0 {
@@ -75,12 +75,10 @@ pub fn accepted_year(
     Ok(ru16::within(year.unsigned_abs() as u16))
 }
 
-// The sizes of the hours and the seconds of an offset.
-fn hour_and_second(offset: UtcOffset) -> (u8, u8)
-    ensures hour { result.0 ≡ unsigned_abs offset.hours }
-    ensures second { result.1 ≡ unsigned_abs offset.seconds }
-    ensures most { result.0 ≤ 25 }
+// Whether the offset has more hours than these, by their signed number: its size would cost more.
+fn has_more_hours(offset: UtcOffset, greatest: u8) -> bool
+    ensures { result ≡ nat_lt greatest (unsigned_abs offset.hours) }
 {
-    let (hours, _, seconds) = offset.as_hms();
-    (hours.unsigned_abs(), seconds.unsigned_abs())
+    let hours = offset.as_hms().0;
+    greatest < 25 && (hours < -(greatest as i8) || hours > greatest as i8)
 }

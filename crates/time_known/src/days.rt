@@ -1,7 +1,7 @@
 //! The days of a year, by their month and the day of that month.
 //!
 //! Without `inline(always)` the compiler leaves calls of the functions that have it.
-ghost use Rattle.std.specs.Prelude.{◌≡◌, ◌+◌, ◌++◌, if◌then◌else◌, length};
+ghost use Rattle.std.specs.Prelude.{◌≡◌, ◌+◌, ◌++◌, codes, if◌then◌else◌, length};
 ghost use Rattle.std.specs.Int.{IsInRange};
 ghost use Rattle.time_below.specs.Calendar.{days_in_year, is_leap_year};
 ghost use Rattle.time_digits.specs.Digits.{zero_padded};
@@ -112,15 +112,16 @@ impl CalendarDay {
         (piece_of(DAYS, row, 2), piece_of(DAYS, row + 2, 2))
     }
 
-    // The first letter of the month's English name, and the next two.
+    // A space and the first letter of the month's English name, and the next two letters. They stand
+    // behind the day, so that the compiler copies all of them together.
     pub(crate) fn month_letters(self) -> (&'static str, &'static str)
         ensures text { result.0.now ++ result.1.now
-            ≡ short_name (month_name (month_and_day self).month) }
-        ensures first { length result.0.now ≡ 1 }
+            ≡ codes " " ++ short_name (month_name (month_and_day self).month) }
+        ensures first { length result.0.now ≡ 2 }
         ensures rest { length result.1.now ≡ 2 }
     {
         let row = 8 * (self.0.get() as usize - 1);
-        (piece_of(DAYS, row + 5, 1), piece_of(DAYS, row + 6, 2))
+        (piece_of(DAYS, row + 4, 2), piece_of(DAYS, row + 6, 2))
     }
 }
 

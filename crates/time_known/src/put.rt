@@ -3,7 +3,7 @@
 //! Without `inline(always)` the compiler leaves calls of the functions that have it.
 #![tactic(auto, using(crate::proofs::LengthLemmas::joined_lengths))]
 
-ghost use Rattle.std.specs.Prelude.{◌≡◌, ◌+◌, ◌*◌, ◌++◌, length, unsigned_abs};
+ghost use Rattle.std.specs.Prelude.{◌≡◌, ◌+◌, ◌*◌, ◌++◌, codes, length, unsigned_abs};
 ghost use Rattle.time_below.specs.Weekday.{days_from_monday};
 ghost use Rattle.time_digits.specs.Digits.{zero_padded};
 ghost use Rattle.time_fmt.specs.DateText.{month_name, short_name};
@@ -66,11 +66,11 @@ pub(crate) fn put_month_and_day<S: Sink>(output: &mut S, date: CalendarDay, sepa
     write(output, day);
 }
 
-/// Puts the first three letters of the month's English name.
+/// Puts a space and the first three letters of the month's English name.
 pub(crate) fn put_month_name<S: Sink>(output: &mut S, date: CalendarDay)
-    requires room { Fits (S.buffer output.old) 3 }
-    ensures puts { Puts (S.buffer output.old) (S.buffer output.new) 3
-        (short_name (month_name (month_and_day date).month)) }
+    requires room { Fits (S.buffer output.old) 4 }
+    ensures puts { Puts (S.buffer output.old) (S.buffer output.new) 4
+        (codes " " ++ short_name (month_name (month_and_day date).month)) }
 {
     let (first, rest) = date.month_letters();
     write(output, first);
@@ -160,7 +160,6 @@ pub(crate) fn put_named_date<S: Sink>(output: &mut S, weekday: Weekday, fields: 
     write(output, ", ");
     let (_, day) = fields.date.digits();
     write(output, day);
-    write(output, " ");
     put_month_name(output, fields.date);
     write(output, " ");
     format_four_digits_pad_zero(output, fields.year);

@@ -136,6 +136,7 @@ fn write_rare_fraction<S: Sink>(output: &mut S, nanosecond: Nanoseconds) -> usiz
 /// Appends the first six of the nine digits. Allocates nothing and refuses nothing.
 ///
 /// Returns the number of bytes appended.
+#[inline(always)]
 pub fn write_six_decimals<S: Sink>(output: &mut S, nanosecond: Nanoseconds) -> usize
     requires room { Fits (S.buffer output.old) 6 }
     ensures writes { Puts (S.buffer output.old) (S.buffer output.new) 6
@@ -159,11 +160,11 @@ pub fn write_nine_digits<S: Sink>(output: &mut S, nanosecond: Nanoseconds) -> us
     ensures count { result ≡ 9 }
 {
     let number = nanosecond.get();
-    let first_five = number / 10_000;
-    let first = format_single_digit(output, ru8::within((first_five / 10_000) as u8));
-    let next = ru16::within((first_five % 10_000) as u16);
+    let first = format_single_digit(output, ru8::within((number / 100_000_000) as u8));
+    let last_eight = number % 100_000_000;
+    let next = ru16::within((last_eight / 10_000) as u16);
     let count = first + format_four_digits_pad_zero(output, next);
-    let last = ru16::within((number % 10_000) as u16);
+    let last = ru16::within((last_eight % 10_000) as u16);
     count + format_four_digits_pad_zero(output, last)
 }
 

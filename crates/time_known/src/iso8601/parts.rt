@@ -252,12 +252,13 @@ fn write_unusual<V: ComponentProvider>(
         (λ answer. OnOk answer (IsRealWhole config.now (V.facts value.now))) }
     ensures agrees { V.agrees state.new value.now }
 {
-    let has_dash = config.use_separators();
     match unusual {
         Unusual::CalendarDate => {
+            let has_dash = config.use_separators();
             Some(write_date_by(config, DateKind::Calendar, has_dash, output, value, state))
         }
         Unusual::WeekDate => {
+            let has_dash = config.use_separators();
             Some(write_date_by(config, DateKind::Week, has_dash, output, value, state))
         }
         Unusual::OrdinalDate => {
