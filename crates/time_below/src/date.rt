@@ -218,6 +218,7 @@ impl Date {
     }
 
     /// The year, the month and the day of the month, which is 1 to 31.
+    #[inline(always)]
     pub fn to_calendar_date(self) -> (i32, Month, u8)
         ensures year { result.0 ≡ self.year }
         ensures month { month_number result.1 ≡ month_of self }

@@ -62,7 +62,10 @@ fn part_of<T: Node>(node: &T) -> Option<RunPart>
         (of_component (part_component part))) }
 {
     match node.layer() {
-        Layer::Component(component) => RunPart::of(kept_of(component)),
+        Layer::Component(component) => match RunPart::of(component) {
+            Some(part) => Some(part),
+            None => RunPart::of(kept_of(component)),
+        },
         _ => None,
     }
 }

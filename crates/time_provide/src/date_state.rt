@@ -26,6 +26,7 @@ impl Kept for DateState {
     ghost grows = { λ old new date. Agrees new date × Keeps old new };
 
     // The day of the month. Where it is absent, it is cached with the month.
+    #[inline(always)]
     fn kept_day(&mut self, date: Date) -> Day
         requires { Agrees self.old (date_facts date) }
         ensures value { result ≡ day_of date }
@@ -46,6 +47,7 @@ impl Kept for DateState {
     }
 
     // The month, which is cached.
+    #[inline(always)]
     fn kept_month(&mut self, date: Date) -> Month
         requires { Agrees self.old (date_facts date) }
         ensures value { month_number result ≡ month_of date }

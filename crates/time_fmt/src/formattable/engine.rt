@@ -8,7 +8,7 @@ ghost use Rattle.time_below.specs.Width.{tree_width, trees_width};
 ghost use Rattle.time_fmt.specs.Guarantee.{AppendsTree};
 ghost use Rattle.time_fmt.specs.Sink.{Fits};
 
-use crate::component::{end_component, write_current, write_often};
+use crate::component::{end_component, write_often, write_seldom};
 use crate::refused::Refused;
 use crate::sink::Sink;
 use crate::step::{WriteStep, write_all};
@@ -88,10 +88,8 @@ impl<T: Node> WriteStep<()> for T {
         Some(Ok(()))
     }
 
-    /// Writes a component that is not deprecated. It is a cold call: as part of the loop, its many
-    /// arms would leave no registers to the sink.
-    #[cold]
-    #[inline(never)]
+    /// Writes a component that is met seldom, by a call.
+    #[inline(always)]
     fn write_seldom<S: Sink, V: ComponentProvider>(
         &self,
         _beside: (),
@@ -100,7 +98,7 @@ impl<T: Node> WriteStep<()> for T {
         state: &mut V::State,
     ) -> Option<Result<(), Refused>> {
         match self.layer() {
-            Layer::Component(component) => write_current(component, output, value, state),
+            Layer::Component(component) => write_seldom(component, output, value, state),
             _ => None,
         }
     }

@@ -35,6 +35,7 @@ pub struct ShortMonthName(pub Month);
 impl TextKind for ShortMonthName {
     ghost kind = { λ text. kind.short (kind.month (month_number text.0)) };
 
+    #[inline(always)]
     fn put<S: Sink>(self, output: &mut S) -> usize {
         let (name, _) = padded_month_name(self.0);
         write_three(output, &name.as_bytes()[..3])
@@ -49,7 +50,6 @@ impl TextKind for WeekdayName {
     ghost kind = { λ text. kind.weekday (days_from_monday text.0) };
 
     // By constants: a copy of the padded name costs a fifth more.
-    #[inline(always)]
     fn put<S: Sink>(self, output: &mut S) -> usize {
         let mut taken = output.take_out();
         let count = match self.0 {
@@ -73,6 +73,7 @@ pub struct ShortWeekdayName(pub Weekday);
 impl TextKind for ShortWeekdayName {
     ghost kind = { λ text. kind.short (kind.weekday (days_from_monday text.0)) };
 
+    #[inline(always)]
     fn put<S: Sink>(self, output: &mut S) -> usize {
         let (name, _) = padded_weekday_name(self.0);
         write_three(output, &name.as_bytes()[..3])
