@@ -172,18 +172,18 @@ held_near_second s h = omega (arith, ints)
 pub held_second : (s : ℤ) → IsTimestampSecond s → held s ≡ s
 held_second s h = omega (arith, ints)
 
--- so is a second by clocks at an offset
+-- a second by clocks at an offset is held as it is
 pub held_by_clocks : (s o : ℤ) → IsNearTimestampSecond s → unsigned_abs o < 93_600
     → held (held s +ℤ held (to_z w32 (of_z w32 o))) ≡ s +ℤ o
 held_by_clocks s o h k =
     rw (held_near_second s h, held_word o (omega arith), held_small o (omega arith))
     (held_small (s +ℤ o) (omega (arith, ints)))
 
--- it is small
+-- the size of such a second is less than 2 ^ 62
 pub clocks_within : (s o : ℤ) → IsNearTimestampSecond s → unsigned_abs o < 93_600 → unsigned_abs (s +ℤ o) < 2 ^ 62
 clocks_within s o h k = omega (arith, ints)
 
--- so are a thousand to each second and no more than a second
+-- milliseconds are held as they are: a thousand to each second, and at most a thousand more
 pub held_thousands : (s : ℤ) (k : ℕ) → IsNearTimestampSecond s → k ≤ 1000
     → held (held (held s *ℤ pos 1000) +ℤ to_z w64 k) ≡ s *ℤ pos 1000 +ℤ pos k
 held_thousands s k h l =
@@ -191,12 +191,12 @@ held_thousands s k h l =
     rw (held_near_second s h, held_small (s *ℤ pos 1000) (omega (arith, ints)), small)
     (held_small (s *ℤ pos 1000 +ℤ pos k) (omega (arith, ints)))
 
--- they have at most 17 digits
+-- milliseconds have at most 17 digits
 pub thousands_within : (s : ℤ) (k : ℕ) → IsNearTimestampSecond s → k ≤ 1000
     → unsigned_abs (s *ℤ pos 1000 +ℤ pos k) < 100_000_000_000_000_000
 thousands_within s k h l = omega (arith, ints)
 
--- so is a second of a day
+-- the second of a day is held as it is: its midnight, and less than a day more
 pub held_in_day : (s : ℤ) (n : ℕ) → IsTimestampSecond s → n < day_seconds → held (held s +ℤ to_z w64 n) ≡ s +ℤ pos n
 held_in_day s n h l = omega (arith, ints)
 

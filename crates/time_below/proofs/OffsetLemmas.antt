@@ -225,7 +225,7 @@ held_byte z h = omega (arith, ints)
 pub held_word : (z : ℤ) → unsigned_abs z < 2 ^ 31 → to_z w32 (of_z w32 z) ≡ z
 held_word z h = omega (arith, ints)
 
--- so are sixty to each whole and a part
+-- sixty to each whole and a part more are held as they are
 pub held_sixtieths : (whole part : ℤ) → unsigned_abs whole < 1560 → unsigned_abs part ≤ 128
     → to_z w32 (of_z w32 (to_z w32 (of_z w32 (to_z w32 (of_z w32 whole) *ℤ pos 60)) +ℤ to_z w32 (of_z w32 part)))
     ≡ pos 60 *ℤ whole +ℤ part
@@ -233,7 +233,7 @@ held_sixtieths whole part w p =
     rw (held_word whole (omega arith), held_word (whole *ℤ pos 60) (omega (arith, ints)), held_word part (omega arith))
     (held_word (whole *ℤ pos 60 +ℤ part) (omega (arith, ints)) ∙ omega (arith, ints))
 
--- they are no more than the sizes of both
+-- their size is at most sixty times that of the whole and that of the part
 pub sixtieths_within : (whole part : ℤ)
     → unsigned_abs (pos 60 *ℤ whole +ℤ part) ≤ 60 * unsigned_abs whole + unsigned_abs part
 sixtieths_within whole part = omega (arith, ints)

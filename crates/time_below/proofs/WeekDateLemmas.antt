@@ -72,7 +72,7 @@ pub is_week_day_numbered : (y : ℤ) (week weekday first found : ℕ) → pos fi
 is_week_day_numbered y week weekday first found e same h =
     is_numbered _ _ (week_day_from_start y week weekday first found e same) h
 
--- no other one has
+-- a weekday that has a day number of the calendar is before the end
 pub is_week_day_before_end : (y : ℤ) (week weekday first found : ℕ) → pos first ≡ first_monday y +ℤ pos days_before
     → found ≡ weekday → IsDayNumber (week_day_number y week weekday) → first + (7 * (week - 1) + found) < days_in_all
 is_week_day_before_end y week weekday first found e same h =

@@ -55,7 +55,8 @@ fn run_between<T: Node>(
     }
 }
 
-/// The part that a node is, if it is one.
+/// The part that a node is, if it is one. A component is tried as it is first, since few are
+/// deprecated.
 #[inline(always)]
 fn part_of<T: Node>(node: &T) -> Option<RunPart>
     ensures { IfSome result (λ part. IsAlike (T.tree node.now)

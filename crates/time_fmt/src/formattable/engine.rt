@@ -17,7 +17,8 @@ use time_below::format_description::{Layer, Node};
 use time_provide::ComponentProvider;
 
 /// Writes the nodes in order, up to the first that is refused, and returns its refusal. One with
-/// items of its own is written by a call, after which the loop goes on behind it.
+/// items of its own, or whose component is deprecated or has no text, is written by a call, after
+/// which the loop goes on behind it.
 #[cycle(engine)]
 #[inline(always)]
 pub(super) fn write_nodes<T: Node, S: Sink, V: ComponentProvider>(
@@ -40,7 +41,8 @@ pub(super) fn write_nodes<T: Node, S: Sink, V: ComponentProvider>(
     Ok(())
 }
 
-/// Writes a node with items of its own by a cold call, so that the loop asks for these last.
+/// Writes a node before which the loop stops. It is a cold call, so that the loop asks for these
+/// last.
 #[cycle(engine)]
 #[cold]
 #[inline(never)]
