@@ -3,7 +3,8 @@ use Rattle.std.specs.Prelude.{ℕ, ℤ, ◌≡◌, List, codes, nat_lt, Option, 
 use Rattle.std.specs.Prelude.{Vec}
 use Rattle.std.specs.Global.{Global}
 use Rattle.time_fmt.specs.Sink.{Buffer}
-use Rattle.time_fmt.specs.Outcome.{AppendsUpTo, Outcome, Refusal, done, refused, invalid_component}
+use Rattle.time_fmt.specs.Outcome.{AppendsUpTo, Names, Outcome, Refusal, done, refused, invalid_component}
+use Rattle.time_fmt.specs.declared.error.Format.{Format}
 use Rattle.time_known.specs.Sink.{PutsUpTo}
 use Rattle.time_known.specs.WellKnown.{refused_if, is_outside}
 use Rattle.time_known.specs.declared.accepted.OutOfRange.{OutOfRange}
@@ -37,6 +38,13 @@ refusal_of (Err component) = Some (invalid_component (component_name component))
 abbrev pub AppendsAllOrNone : ℕ → Vec ℕ Global → Vec ℕ Global → Result ℕ OutOfRange → Outcome → Type 0
 AppendsAllOrNone width old new (Ok n) o = AppendsUpTo width old new (Ok n) o
 AppendsAllOrNone width old new (Err component) o = (new ≡ old) × (o ≡ refused_for component)
+
+-- the bytes of the outcome were appended, and the answer is their number, or the component that each error of the
+-- outcome's refusal names
+abbrev pub AppendsParts : ℕ → Vec ℕ Global → Vec ℕ Global → Result ℕ OutOfRange → Outcome → Type 0
+AppendsParts width old new (Ok n) o = AppendsUpTo width old new (Ok n) o
+AppendsParts width old new (Err component) o =
+    (e : Format) → Names e (invalid_component (component_name component)) → AppendsUpTo width old new (Err e) o
 
 -- the bytes of the outcome were put into a sink, and the answer is its refusal
 pub record PutsOutcome (width : ℕ) (old new : Buffer) (answer : Result Unit OutOfRange) (o : Outcome) : Type 0 where

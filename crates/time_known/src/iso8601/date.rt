@@ -50,7 +50,7 @@ pub fn format_date<V: ComponentProvider>(
 {
     let mut taken = take_out(output);
     let begin = taken.len();
-    let answer = put_date(&mut taken, config, value, state);
+    let answer = put_year_and_rest(&mut taken, config, value, state);
     let count = taken.len() - begin;
     put_back(output, taken);
     answer?;
@@ -98,9 +98,30 @@ pub(super) fn write_date_by<V: ComponentProvider>(
     Ok(count)
 }
 
-// Puts the value's date.
-#[tactic(auto, using(crate::proofs::LengthLemmas::joined_lengths))]
+// Puts the value's date into a sink that is taken out, so that its length stays in a register.
 pub(super) fn put_date<S: Sink, V: ComponentProvider>(
+    output: &mut S,
+    config: &Config,
+    value: &V,
+    state: &mut V::State,
+) -> Result<(), OutOfRange>
+    requires supplied { IsTrue V.SUPPLIES_DATE }
+    requires room { Fits (S.buffer output.old) (iso_date_width config.now) }
+    requires agrees { V.agrees state.old value.now }
+    ensures puts { PutsOutcome (iso_date_width config.now) (S.buffer output.old)
+        (S.buffer output.new) result
+        (iso_date config.now (the_date (V.facts value.now))) }
+    ensures agrees { AgreesOnDate (V.agrees state.new value.now) (V.facts value.now) }
+{
+    let mut taken = output.take_out();
+    let answer = put_year_and_rest(&mut taken, config, value, state);
+    output.put_back(taken);
+    answer
+}
+
+// Puts the year and what follows it.
+#[tactic(auto, using(crate::proofs::LengthLemmas::joined_lengths))]
+fn put_year_and_rest<S: Sink, V: ComponentProvider>(
     output: &mut S,
     config: &Config,
     value: &V,

@@ -42,18 +42,34 @@ pub fn format_offset<V: ComponentProvider>(
     let offset = offset_of(value);
     let mut taken = take_out(output);
     let begin = taken.len();
-    let answer = put_offset(&mut taken, config, offset);
+    let answer = put_z_or_difference(&mut taken, config, offset);
     let count = taken.len() - begin;
     put_back(output, taken);
     answer?;
     Ok(count)
 }
 
+// Puts the offset into a sink that is taken out, so that its length stays in a register.
+pub(super) fn put_offset<S: Sink>(
+    output: &mut S,
+    config: &Config,
+    offset: UtcOffset,
+) -> Result<(), OutOfRange>
+    requires room { Fits (S.buffer output.old) (iso_offset_width config.now) }
+    ensures puts { PutsOutcome (iso_offset_width config.now) (S.buffer output.old)
+        (S.buffer output.new) result (iso_offset config.now offset) }
+{
+    let mut taken = output.take_out();
+    let answer = put_z_or_difference(&mut taken, config, offset);
+    output.put_back(taken);
+    answer
+}
+
 // Puts `Z` for UTC where there is a time, else the sign, the hours and the minutes. Where the
 // configuration has no minutes, they are refused unless zero.
 #[inline(always)]
 #[tactic(auto, using(crate::proofs::LengthLemmas::joined_lengths))]
-pub(super) fn put_offset<S: Sink>(
+fn put_z_or_difference<S: Sink>(
     output: &mut S,
     config: &Config,
     offset: UtcOffset,

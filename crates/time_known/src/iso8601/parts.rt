@@ -4,14 +4,13 @@
 ghost use Rattle.std.specs.Prelude.{◌≡◌, ◌≢◌, IfSome, IsTrue, MatchOption, Ok, OnOk};
 ghost use Rattle.std.specs.Prelude.{false};
 ghost use Rattle.time_below.specs.Facts.{the_date};
-ghost use Rattle.time_fmt.specs.Outcome.{AppendsUpTo};
 ghost use Rattle.time_fmt.specs.Room.{HasRoom};
 ghost use Rattle.time_fmt.specs.Sink.{Fits};
 ghost use Rattle.time_provide.specs.Real.{AgreesOnDate};
 ghost use Rattle.time_known.specs.Iso8601.{iso8601_outcome};
 ghost use Rattle.time_known.specs.Iso8601Parts.{AreOfDate, IsRealWhole, SuppliesParts};
 ghost use Rattle.time_known.specs.Iso8601Width.{iso8601_width};
-ghost use Rattle.time_known.specs.Accepted.{AppendsAllOrNone, PutsOutcome};
+ghost use Rattle.time_known.specs.Accepted.{AppendsAllOrNone, AppendsParts, PutsOutcome};
 ghost use Rattle.time_known.specs.Ways.{FitsUnusual, FitsWay};
 
 use crate::accepted::OutOfRange;
@@ -24,7 +23,7 @@ use crate::iso8601::time::put_time;
 use crate::iso8601::usual_text::write_usual;
 use time_digits::ru8;
 use time_fmt::writers::{put_back, take_out};
-use time_fmt::{Format, Sink};
+use time_fmt::Sink;
 use time_provide::ComponentProvider;
 use time_provide::ranges::{IsoWeekNumber, Ordinal, Year};
 
@@ -112,29 +111,6 @@ pub fn put_parts<S: Sink, V: ComponentProvider>(
     ensures real { OnOk result (IsRealWhole config.now (V.facts value.now)) }
     ensures agrees { V.agrees state.new value.now }
 {
-    let mut taken = output.take_out();
-    let answer = put_each(&mut taken, config, value, state);
-    output.put_back(taken);
-    answer
-}
-
-// Puts the parts into a sink that is taken out.
-fn put_each<S: Sink, V: ComponentProvider>(
-    output: &mut S,
-    config: &Config,
-    value: &V,
-    state: &mut V::State,
-) -> Result<(), OutOfRange>
-    requires some { config.now.formatted_components ≢ FormattedComponents.None }
-    requires supplied { SuppliesParts config.now V.SUPPLIES_DATE V.SUPPLIES_TIME V.SUPPLIES_OFFSET }
-    requires room { Fits (S.buffer output.old) (iso8601_width config.now) }
-    requires agrees { V.agrees state.old value.now }
-    ensures puts { PutsOutcome (iso8601_width config.now) (S.buffer output.old)
-        (S.buffer output.new) result
-        (iso8601_outcome config.now (V.facts value.now)) }
-    ensures real { OnOk result (IsRealWhole config.now (V.facts value.now)) }
-    ensures agrees { V.agrees state.new value.now }
-{
     // Asked within the branch, a refusal would cost other texts up to three instructions.
     let date = if config.has_date() {
         put_date(output, config, value, state)
@@ -154,25 +130,26 @@ fn put_each<S: Sink, V: ComponentProvider>(
 }
 
 // Appends the parts that are formatted, of a value that supplies their groups, by the function that
-// the configuration decided. A configuration that formats nothing is refused.
+// the configuration decided.
 pub(super) fn write_parts<V: ComponentProvider>(
     config: &Config,
     way: &Way,
     output: &mut Vec<u8>,
     value: &V,
     state: &mut V::State,
-) -> Result<usize, Format>
+) -> Result<usize, OutOfRange>
+    requires some { config.now.formatted_components ≢ FormattedComponents.None }
     requires way { FitsWay config.now way.now }
     requires supplied { SuppliesParts config.now V.SUPPLIES_DATE V.SUPPLIES_TIME V.SUPPLIES_OFFSET }
     requires room { HasRoom output.old (iso8601_width config.now) }
     requires agrees { V.agrees state.old value.now }
-    ensures appends { AppendsUpTo (iso8601_width config.now) output.old output.new result
+    ensures appends { AppendsParts (iso8601_width config.now) output.old output.new result
         (iso8601_outcome config.now (V.facts value.now)) }
     ensures real { OnOk result (IsRealWhole config.now (V.facts value.now)) }
     ensures agrees { V.agrees state.new value.now }
 {
     match write_by_way(config, way, output, value, state) {
-        Some(answer) => Ok(answer?),
+        Some(answer) => answer,
         None => write_each(config, output, value, state),
     }
 }
@@ -183,21 +160,19 @@ fn write_each<V: ComponentProvider>(
     output: &mut Vec<u8>,
     value: &V,
     state: &mut V::State,
-) -> Result<usize, Format>
+) -> Result<usize, OutOfRange>
+    requires some { config.now.formatted_components ≢ FormattedComponents.None }
     requires supplied { SuppliesParts config.now V.SUPPLIES_DATE V.SUPPLIES_TIME V.SUPPLIES_OFFSET }
     requires room { HasRoom output.old (iso8601_width config.now) }
     requires agrees { V.agrees state.old value.now }
-    ensures appends { AppendsUpTo (iso8601_width config.now) output.old output.new result
+    ensures appends { AppendsParts (iso8601_width config.now) output.old output.new result
         (iso8601_outcome config.now (V.facts value.now)) }
     ensures real { OnOk result (IsRealWhole config.now (V.facts value.now)) }
     ensures agrees { V.agrees state.new value.now }
 {
-    if config.formats_nothing() {
-        return Err(Format::InsufficientTypeInformation);
-    }
     let mut taken = take_out(output);
     let begin = taken.len();
-    let answer = put_each(&mut taken, config, value, state);
+    let answer = put_parts(&mut taken, config, value, state);
     let count = taken.len() - begin;
     put_back(output, taken);
     answer?;

@@ -1,4 +1,4 @@
-use Rattle.std.proofs.Common.{ap, sym, ◌∙◌}
+use Rattle.std.proofs.Common.{ap, sym, ◌∙◌, Ok}
 use Rattle.time_known.specs.declared.groups.Groups.{Groups}
 use Rattle.time_known.specs.Groups.{has_groups}
 use Rattle.time_known.proofs.GuaranteeLemmas.{iso8601_utf8}
@@ -11,11 +11,12 @@ returns-clause-spelled g c =
     let f = g.V.ComponentProvider.facts value in
     let there = ap (λ (needed : Groups). has_groups needed f) (sym c.groups.ensures)
     ∙ c.are_supplied_by.ensures.there value ∙ c.if-not-are_supplied_by.false in
-    completed_reads c.write_parts.result c.self.inside.config c.args.self.now f c.self.view_is there
-    c.write_parts.ensures.real c.write_parts.ensures.appends.appends
+    completed_reads (Ok c.in_ok-write_parts.field-0) c.self.inside.config c.args.self.now f c.self.view_is there
+    c.in_ok-write_parts.ensures.real c.in_ok-write_parts.ensures.appends.appends
 
 pub returns-clause-text : goal.returns-clause-text
 returns-clause-text g c = λ _. iso8601_utf8 c.args.self.now (g.V.ComponentProvider.facts c.args.value.now)
 
-pub returns-then-not-are_supplied_by-clause-text : goal.returns-then-not-are_supplied_by-clause-text
-returns-then-not-are_supplied_by-clause-text g c = λ _. iso8601_utf8 c.args.self.now (g.V.ComponentProvider.facts c.args.value.now)
+pub returns-in_err-write_parts-clause-text : goal.returns-in_err-write_parts-clause-text
+returns-in_err-write_parts-clause-text g c =
+    λ _. iso8601_utf8 c.args.self.now (g.V.ComponentProvider.facts c.args.value.now)

@@ -1,7 +1,7 @@
 use Rattle.std.proofs.Common.{arith}
 use Rattle.std.proofs.lemmas.Grind.{common_steps}
 use Rattle.time_known.proofs.iso8601.PartsLemmas.{put_by_choice}
-use Rattle.time_known.proofs.iso8601.parts.put_each.Goals as goal
+use Rattle.time_known.proofs.iso8601.parts.put_parts.Goals as goal
 
 pub returns-then-has_offset-clause-puts : goal.returns-then-has_offset-clause-puts
 returns-then-has_offset-clause-puts g c =
