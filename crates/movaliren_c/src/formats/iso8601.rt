@@ -19,7 +19,7 @@ use crate::answers::batch::{Progress, write_lines};
 use crate::answers::reason::{Reason, answer_number};
 use crate::answers::room::copy_text;
 use crate::answers::writer::Writer;
-use crate::formats::moment_text::{Format, answer_at, texts_of};
+use crate::formats::moment_text::{MomentFormat, answer_at, texts_of};
 use crate::values::moment::{Moment, UtcMoment};
 use crate::values::source::{AtOffset, ByParts, InUtc, Source};
 use config::separated_config_at;
@@ -43,7 +43,7 @@ const MOST_BYTES: usize = 284;
 #[derive(Clone, Copy)]
 struct Iso8601;
 
-impl Format for Iso8601 {
+impl MomentFormat for Iso8601 {
     type Text = SeparatedText;
 
     ghost WIDTH = { 35 };

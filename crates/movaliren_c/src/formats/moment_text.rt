@@ -16,7 +16,7 @@ use time_below::OffsetDateTime;
 use time_known::sink::{Text, put_at_start};
 
 /// A format of moments, whose texts have at most 35 bytes.
-pub trait Format: Copy {
+pub trait MomentFormat: Copy {
     /// A text, of a value of which nothing is refused.
     type Text: Text + Copy;
 
@@ -44,13 +44,13 @@ pub struct Texts<F, S> {
 }
 
 /// Returns the texts of this format, of the moments of this source.
-pub fn texts_of<F: Format, S: Source>(format: F, source: S) -> Texts<F, S>
+pub fn texts_of<F: MomentFormat, S: Source>(format: F, source: S) -> Texts<F, S>
     ensures { result ≡ record { format = format; source = source } }
 {
     Texts { format, source }
 }
 
-impl<F: Format, S: Source> Writer for Texts<F, S> {
+impl<F: MomentFormat, S: Source> Writer for Texts<F, S> {
     type Item = S::Item;
 
     ghost asked = { λ texts item. gives (S.given texts.source item) (F.outcome texts.format) };
@@ -66,7 +66,7 @@ impl<F: Format, S: Source> Writer for Texts<F, S> {
     }
 }
 
-impl<F: Format, S: Source> Texts<F, S> {
+impl<F: MomentFormat, S: Source> Texts<F, S> {
     /// Puts the text of the value at the start of a buffer that holds every text. Each format and
     /// source has one call of a function of its own, so that the compiler can inline it.
     fn put(&self, value: &OffsetDateTime, room: &mut [u8]) -> Result<usize, Reason>

@@ -8,7 +8,7 @@ ghost use Rattle.time_known.specs.Rfc2822.{rfc2822_of};
 use crate::answers::batch::{Progress, write_lines};
 use crate::answers::reason::{Reason, answer_number};
 use crate::answers::writer::Writer;
-use crate::formats::moment_text::{Format, answer_at, texts_of};
+use crate::formats::moment_text::{MomentFormat, answer_at, texts_of};
 use crate::values::moment::{Moment, UtcMoment};
 use crate::values::source::{AtOffset, ByParts, InUtc};
 use std::default::Default;
@@ -21,7 +21,7 @@ use time_provide::DateState;
 #[derive(Clone, Copy)]
 pub struct Rfc2822;
 
-impl Format for Rfc2822 {
+impl MomentFormat for Rfc2822 {
     type Text = Rfc2822Text;
 
     ghost WIDTH = { 31 };

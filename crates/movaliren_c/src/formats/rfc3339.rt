@@ -8,7 +8,7 @@ ghost use Rattle.time_known.specs.Rfc3339.{rfc3339_of};
 use crate::answers::batch::{Progress, write_lines};
 use crate::answers::reason::{Reason, answer_number};
 use crate::answers::writer::Writer;
-use crate::formats::moment_text::{Format, answer_at, texts_of};
+use crate::formats::moment_text::{MomentFormat, answer_at, texts_of};
 use crate::values::moment::{Moment, UtcMoment};
 use crate::values::source::{AtOffset, ByParts, InUtc};
 use std::default::Default;
@@ -21,7 +21,7 @@ use time_provide::DateState;
 #[derive(Clone, Copy)]
 pub struct Rfc3339;
 
-impl Format for Rfc3339 {
+impl MomentFormat for Rfc3339 {
     type Text = Rfc3339Text;
 
     ghost WIDTH = { 35 };

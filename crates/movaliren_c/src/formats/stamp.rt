@@ -7,7 +7,7 @@ ghost use Rattle.time_known.specs.Stamps.{stamp_length};
 use crate::answers::batch::{Progress, write_lines};
 use crate::answers::reason::Reason;
 use crate::answers::writer::Writer;
-use crate::formats::moment_text::{Format, answer_at, texts_of};
+use crate::formats::moment_text::{MomentFormat, answer_at, texts_of};
 use crate::values::moment::UtcMoment;
 use crate::values::source::InUtc;
 use std::default::Default;
@@ -20,7 +20,7 @@ use time_provide::DateState;
 #[derive(Clone, Copy)]
 struct Stamp;
 
-impl Format for Stamp {
+impl MomentFormat for Stamp {
     type Text = StampText;
 
     ghost WIDTH = { stamp_length };

@@ -6,7 +6,7 @@ use Rattle.time_known.specs.Fields.{Shown}
 use Rattle.time_known.specs.Rfc2822.{rfc2822_of, rfc2822_text}
 use Rattle.time_below.specs.Facts.{date_facts}
 use Rattle.time_known.proofs.AcceptedLemmas.{any_hour}
-use Rattle.movaliren_c.proofs.formats.rfc2822.Rfc2822Format.text.Goals as goal
+use Rattle.movaliren_c.proofs.formats.rfc2822.Rfc2822MomentFormat.text.Goals as goal
 
 pub returns-in-Ok-clause-text : goal.returns-in-Ok-clause-text
 returns-in-Ok-clause-text c =

@@ -7,7 +7,7 @@ use Rattle.time_known.specs.Fields.{Shown}
 use Rattle.time_known.specs.UsualText.{usual_text}
 use Rattle.time_known.specs.declared.iso8601.config.DecimalSign.TheVariants as sign
 use Rattle.time_known.proofs.AcceptedLemmas.{usual_accepted, usual_refused}
-use Rattle.movaliren_c.proofs.formats.stamp.StampFormat.text.Goals as goal
+use Rattle.movaliren_c.proofs.formats.stamp.StampMomentFormat.text.Goals as goal
 
 pub returns-clause-text : goal.returns-clause-text
 returns-clause-text c =
