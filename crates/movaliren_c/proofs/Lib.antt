@@ -1,6 +1,7 @@
 pub mod BatchLemmas
 pub mod DescribedLemmas
 pub mod FlatLemmas
+pub mod IsoLemmas
 pub mod ItemLemmas
 pub mod JoinLemmas
 pub mod LogLemmas

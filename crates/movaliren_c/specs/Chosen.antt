@@ -1,11 +1,13 @@
 -- The configuration of ISO 8601 that numbers choose.
-use Rattle.std.specs.Prelude.{ℕ, true, ◌==◌, [], ◌∷◌, Option, Some, None, Result, Ok, if◌then◌else◌}
+use Rattle.std.specs.Prelude.{◌≡◌, ◌⊎◌, ℕ, ℤ, pos, ◌≤ℤ◌, true, ◌==◌, [], ◌∷◌, Option, Some, None, Result, Ok}
+use Rattle.std.specs.Prelude.{if◌then◌else◌}
 use Rattle.movaliren_c.specs.Answer.{gives}
 use Rattle.movaliren_c.specs.Value.{flag_at, numbered, with_value}
 use Rattle.movaliren_c.specs.declared.formats.iso8601.config.Iso8601Config.{Iso8601Config}
 use Rattle.movaliren_c.specs.declared.answers.reason.Reason.{Reason}
 use Rattle.movaliren_c.specs.declared.answers.reason.Reason.TheVariants as reason
 use Rattle.time_below.specs.Moment.{OffsetDateAndTime}
+use Rattle.time_below.specs.Offset.{Offset}
 use Rattle.time_fmt.specs.Outcome.{Outcome}
 use Rattle.time_known.specs.Config.{Choices}
 use Rattle.time_known.specs.Iso8601.{iso8601_of}
@@ -66,6 +68,13 @@ choices_at n =
 -- the usual choices with separators
 abbrev pub separated : Usual → Choices
 separated usual = usual_choices true usual.decimal_digits usual.decimal_sign
+
+-- a year and an offset have a place in a text: the year has four digits, and the offset has no seconds, and minutes only
+-- where they are written
+abbrev pub HavePlaces : OffsetPrecision → ℤ → Offset → Type 0
+HavePlaces precision year o =
+    (pos 0 ≤ℤ year) × (year ≤ℤ pos 9_999) × (o.seconds ≡ pos 0)
+    × ((o.minutes ≡ pos 0) ⊎ (precision ≡ offset_precision.Minute))
 
 -- the outcome of a value by a configuration, whose numbers are tested first
 unfoldable pub iso8601_by : Iso8601Config → Result OffsetDateAndTime Reason → Result Outcome Reason

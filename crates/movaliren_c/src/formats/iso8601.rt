@@ -2,15 +2,16 @@
 //!
 //! `inline(never)` keeps a long body out of its callers. Without `inline(always)` the compiler
 //! leaves calls of the function that has it.
-ghost use Rattle.std.specs.Prelude.{◌≡◌, ◌≢◌, ◌≤◌, IfErr, IfOk, Ok, length};
+ghost use Rattle.std.specs.Prelude.{◌≡◌, ◌≢◌, ◌≤◌, IfErr, IfOk, IsTrue, Ok, length};
 ghost use Rattle.movaliren_c.specs.Answer.{IsAnswer, IsRefusedFor, IsText, IsWritten, gives};
 ghost use Rattle.movaliren_c.specs.Batch.{IsBatch};
-ghost use Rattle.movaliren_c.specs.Chosen.{choices_at, iso8601_by, separated};
+ghost use Rattle.movaliren_c.specs.Chosen.{HavePlaces, choices_at, iso8601_by, separated};
 ghost use Rattle.movaliren_c.specs.Utc.{local_value, utc_value};
 ghost use Rattle.movaliren_c.specs.Value.{moment_value};
+ghost use Rattle.time_below.specs.Facts.{date_facts};
 ghost use Rattle.time_fmt.specs.Outcome.{done};
 ghost use Rattle.time_known.specs.Config.{default_choices};
-ghost use Rattle.time_known.specs.Iso8601.{iso8601_of};
+ghost use Rattle.time_known.specs.Iso8601.{iso8601_of, year_of_kind};
 ghost use Rattle.time_known.specs.Iso8601Width.{iso8601_width};
 
 mod config;
@@ -26,18 +27,23 @@ use config::separated_config_at;
 pub use config::{Iso8601Config, config_at};
 use std::default::Default;
 use std::marker::Brand;
-use time_below::OffsetDateTime;
+use time_below::{OffsetDateTime, UtcOffset};
 use time_digits::ru8;
 use time_fmt::{Before, RoomSink};
 use time_known::fields::accepted_fields;
 use time_known::iso8601::{
-    Config, DecimalSign, FormattedComponents, SeparatedText, Usual, put_parts,
+    Config, DateKind, DecimalSign, FormattedComponents, OffsetPrecision, SeparatedText,
+    TimePrecision, Usual, put_parts,
 };
 use time_known::sink::{Text, put_at_start};
-use time_provide::DateState;
+use time_provide::ranges::Year;
+use time_provide::{ComponentProvider, DateState};
 
 /// The most bytes of a text: 13 of the date, 265 of the time and 6 of the offset.
 const MOST_BYTES: usize = 284;
+
+/// The most bytes of a text of at most 35 decimals.
+const SHORT_BYTES: usize = 64;
 
 /// The format of ISO 8601 by its default configuration.
 #[derive(Clone, Copy)]
@@ -276,8 +282,8 @@ impl<S: Source> Iso8601By<S> {
     }
 }
 
-/// Writes the text of the value to an array first, part by part, since one may be refused after
-/// others.
+/// Writes the text of the value to the start of the buffer: at once where it surely fits and is not
+/// refused.
 #[inline(always)]
 fn write_parts(config: &Config, value: &OffsetDateTime, room: &mut [u8]) -> Result<usize, Reason>
     ensures { IsWritten result (iso8601_of config.now value.now) room.old room.new }
@@ -285,21 +291,81 @@ fn write_parts(config: &Config, value: &OffsetDateTime, room: &mut [u8]) -> Resu
     if config.formats_nothing() {
         return Err(Reason::Insufficient);
     }
+    let mut state = DateState::default();
+    let year = shown_year(config, value, &mut state);
+    let is_whole = have_places(config.offset_precision(), year, value.offset());
+    if is_whole && is_short(config) && room.len() >= SHORT_BYTES {
+        return put_at_once::<Brand>(config, value, &mut state, room);
+    }
+    write_by_array(config, value, room)
+}
+
+/// Whether the texts of a configuration have at most as many bytes as a short buffer, since they
+/// have at most 35 decimals.
+fn is_short(config: &Config) -> bool
+    ensures { IsTrue result → iso8601_width config.now ≤ SHORT_BYTES }
+{
+    match config.time_precision() {
+        TimePrecision::Hour { decimal_digits }
+        | TimePrecision::Minute { decimal_digits }
+        | TimePrecision::Second { decimal_digits } => match decimal_digits {
+            Some(digits) => digits.get() <= 35,
+            None => true,
+        },
+    }
+}
+
+/// Whether a year and an offset have a place in a text: four digits hold the year, and the offset
+/// has no seconds, and minutes only where they are written.
+fn have_places(precision: OffsetPrecision, year: Year, offset: UtcOffset) -> bool
+    ensures { IsTrue result → HavePlaces precision year offset }
+{
+    if year.get() < 0 || year.get() > 9_999 {
+        return false;
+    }
+    let (_, minutes, seconds) = offset.as_hms();
+    match precision {
+        OffsetPrecision::Minute => seconds == 0,
+        OffsetPrecision::Hour => minutes == 0 && seconds == 0,
+    }
+}
+
+/// The year that a date by the configuration shows.
+fn shown_year(config: &Config, value: &OffsetDateTime, state: &mut DateState) -> Year
+    requires agrees { ⟦<OffsetDateTime as ComponentProvider>⟧.agrees state.old value.now }
+    ensures year { result ≡ year_of_kind config.now.date_kind (date_facts value.now.date) }
+    ensures agrees { ⟦<OffsetDateTime as ComponentProvider>⟧.agrees state.new value.now }
+{
+    match config.date_kind() {
+        DateKind::Week => value.iso_year(state),
+        DateKind::Calendar | DateKind::Ordinal => value.calendar_year(state),
+    }
+}
+
+/// Writes the text of the value to an array first, part by part, since one may be refused after
+/// others.
+fn write_by_array(config: &Config, value: &OffsetDateTime, room: &mut [u8]) -> Result<usize, Reason>
+    requires some { config.now.formatted_components ≢ FormattedComponents.None }
+    ensures { IsWritten result (iso8601_of config.now value.now) room.old room.new }
+{
     let mut line = [0u8; MOST_BYTES];
     let _width = config.width();
-    match put_at_once::<Brand>(config, value, &mut line) {
+    match put_at_once::<Brand>(config, value, &mut DateState::default(), &mut line) {
         Ok(count) => copy_text(&line[..count], room),
         Err(reason) => Err(reason),
     }
 }
 
 /// Puts the parts at the start of a buffer that holds them, up to what is refused.
+#[inline(always)]
 fn put_at_once<B: Before>(
     config: &Config,
     value: &OffsetDateTime,
+    state: &mut DateState,
     room: &mut [u8],
 ) -> Result<usize, Reason>
     requires before { room.old ≡ B.before }
+    requires agrees { ⟦<OffsetDateTime as ComponentProvider>⟧.agrees state.old value.now }
     requires some { config.now.formatted_components ≢ FormattedComponents.None }
     requires room { iso8601_width config.now ≤ length room.old }
     ensures text { IfOk result (λ n. IsWritten (Ok n) (iso8601_of config.now value.now)
@@ -309,6 +375,6 @@ fn put_at_once<B: Before>(
     ensures len { length room.new ≡ length room.old }
 {
     let mut sink = RoomSink::<B>::new(room);
-    put_parts(&mut sink, config, value, &mut DateState::default())?;
+    put_parts(&mut sink, config, value, state)?;
     Ok(sink.len())
 }

@@ -1,14 +1,12 @@
-use Rattle.std.proofs.Common.{◌≡◌, ℕ, List, None, Result, arith}
-use Rattle.std.proofs.lemmas.List.{take_at}
-use Rattle.movaliren_c.specs.Answer.{IsWritten}
-use Rattle.movaliren_c.specs.declared.answers.reason.Reason.{Reason}
-use Rattle.time_fmt.specs.Outcome.{Outcome, done}
+use Rattle.std.proofs.Common.{arith}
+use Rattle.time_known.specs.Iso8601.{iso8601_of}
+use Rattle.movaliren_c.proofs.IsoLemmas.{nothing_refused, whole_written}
 use Rattle.movaliren_c.proofs.formats.iso8601.write_parts.Goals as goal
 
--- the bytes of a completed outcome, copied, are its text
-copied_whole : (answer : Result ℕ Reason) (o : Outcome) (bytes before after : List ℕ) → bytes ≡ o.bytes
-    → o.refusal ≡ None → IsWritten answer (done bytes) before after → IsWritten answer o before after
-copied_whole answer o bytes before after same completed written = grind arith
-
-pub returns-in-Ok : goal.returns-in-Ok
-returns-in-Ok c = grind (arith, copied_whole, take_at)
+pub returns-then-room-ge-SHORT_BYTES : goal.returns-then-room-ge-SHORT_BYTES
+returns-then-room-ge-SHORT_BYTES c =
+    let config = c.args.config.now in
+    let value = c.args.value.now in
+    whole_written c.put_at_once.result (iso8601_of config value) c.args.room.now c.put_at_once.new.room
+    (nothing_refused config value c.shown_year-year.result (grind arith) c.shown_year-year.ensures.year (grind arith))
+    c.put_at_once.ensures.text c.put_at_once.ensures.refused

@@ -1,0 +1,5 @@
+use Rattle.movaliren_c.proofs.formats.iso8601.write_by_array.Given as goal
+
+-- what the array holds
+abbrev pub ghosts-put_at_once : goal.ghosts-put_at_once
+ghosts-put_at_once a = record { before = a.room.now }
