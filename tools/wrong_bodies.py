@@ -2,10 +2,11 @@
 """Tries the wrong bodies of must-fail/ many at once. The prover must refuse each in the function that it names.
 
 The prover holds a body to the contracts of what it calls, so edits whose functions are apart (edits.py) are made in one
-copy of the crate, and the check's line of each function tells its own reason from a call of a refused one. Each edit of a
-joined check that does not tell is tried alone, in the function itself. A check of the unedited crate adds what a copy of
-crates/NAME/out/incremental lacks, and all others start from copies of that. After a proof that left all of it there, that
-check proves nothing anew, and `--proved` leaves it out. The last line is `N passed, M failed`.
+copy of the crate, and the check's line of each function tells its own reason from a call of a refused one. Edits of a
+joined check that do not tell are joined once more, and those that do not tell then are tried alone, each in the function
+itself. A check of the unedited crate adds what a copy of crates/NAME/out/incremental lacks, and all others start from
+copies of that. After a proof that left all of it there, that check proves nothing anew, and `--proved` leaves it out. The
+last line is `N passed, M failed`.
 
 A second edit of a function is made in a twin of it (edits.py). `--twins` tries the twins without their edits: each must be
 proved, so that what refuses a twin is its edit.
@@ -86,9 +87,11 @@ def tried(crate, group, kept, given):
     others = [it for it in found if it.rpartition("::")[2] not in names]
     if len(group) > 1 and (why or others or not functions <= found):
         left = group if why or others else [it for it in group if not it.functions <= found]
+        # Those that are left are joined once more: most of what hid their reasons is proved there.
+        again = [left] if 1 < len(left) < len(group) else [[it.alone] for it in left]
         told = why or f"{len(group)} joined edits, more {others}, less {functions - found}"
-        print(f"{crate.name}: {told}: {len(left)} alone", flush=True)
-        own = [it for edit in left for it in tried(crate, [edit.alone], kept, given)]
+        print(f"{crate.name}: {told}: {len(left)} again, in {len(again)} checks", flush=True)
+        own = [it for part in again for it in tried(crate, part, kept, given)]
         return own + [is_told(it, found, "") for it in group if it not in left]
     return [is_told(it, found, why) for it in group]
 
