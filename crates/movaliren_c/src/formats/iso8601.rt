@@ -357,7 +357,6 @@ fn write_by_array(config: &Config, value: &OffsetDateTime, room: &mut [u8]) -> R
 }
 
 /// Puts the parts at the start of a buffer that holds them, up to what is refused.
-#[inline(always)]
 fn put_at_once<B: Before>(
     config: &Config,
     value: &OffsetDateTime,

@@ -22,8 +22,8 @@ use crate::iso8601::offset::put_offset;
 use crate::iso8601::time::put_time;
 use crate::iso8601::usual_text::write_usual;
 use time_digits::ru8;
-use time_fmt::writers::{put_back, take_out};
 use time_fmt::Sink;
+use time_fmt::writers::{put_back, take_out};
 use time_provide::ComponentProvider;
 use time_provide::ranges::{IsoWeekNumber, Ordinal, Year};
 
