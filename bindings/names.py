@@ -158,7 +158,7 @@ class Interfaces:
         rust = numbers(r"\b(\w+) over [\w, ]+: (\d+) bytes;", *self.rust)
         for name in ("rfc3339", "rfc2822"):
             self.same(f"the greatest length of {name} at an offset", rust.pop(f"{name}local", None), rust.get(name))
-        rattle = numbers(r"impl Format for (\w+) \{.*?const WIDTH: usize = (\d+);", *self.rattle)
+        rattle = numbers(r"impl MomentFormat for (\w+) \{.*?const WIDTH: usize = (\d+);", *self.rattle)
         self.same("the greatest length of a text", rattle, rust)
         rust["iso8601with"] = sum(map(int, findall(r"MAX_WIDTH: usize = (\d+)", *self.rust)))
         self.same("the greatest length by a configuration", [str(rust["iso8601with"])], findall(r"const MOST_BYTES: usize = (\d+)", *self.rattle))
