@@ -294,10 +294,18 @@ fn write_parts(config: &Config, value: &OffsetDateTime, room: &mut [u8]) -> Resu
     let mut state = DateState::default();
     let year = shown_year(config, value, &mut state);
     let is_whole = have_places(config.offset_precision(), year, value.offset());
-    if is_whole && is_short(config) && room.len() >= SHORT_BYTES {
+    if is_whole && fits(config, room.len()) {
         return put_at_once::<Brand>(config, value, &mut state, room);
     }
     write_by_array(config, value, room)
+}
+
+/// Whether each text of a configuration fits in so many bytes. Where most callers have room, the
+/// maximum length is not computed.
+fn fits(config: &Config, room: usize) -> bool
+    ensures { IsTrue result → iso8601_width config.now ≤ room }
+{
+    room >= SHORT_BYTES && is_short(config) || room >= config.width()
 }
 
 /// Whether the texts of a configuration have at most as many bytes as a short buffer, since they

@@ -3,8 +3,8 @@ use Rattle.time_known.specs.Iso8601.{iso8601_of}
 use Rattle.movaliren_c.proofs.IsoLemmas.{nothing_refused, whole_written}
 use Rattle.movaliren_c.proofs.formats.iso8601.write_parts.Goals as goal
 
-pub returns-then-room-ge-SHORT_BYTES : goal.returns-then-room-ge-SHORT_BYTES
-returns-then-room-ge-SHORT_BYTES c =
+pub returns-then-fits : goal.returns-then-fits
+returns-then-fits c =
     let config = c.args.config.now in
     let value = c.args.value.now in
     whole_written c.put_at_once.result (iso8601_of config value) c.args.room.now c.put_at_once.new.room
