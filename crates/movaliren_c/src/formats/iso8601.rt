@@ -283,7 +283,7 @@ impl<S: Source> Iso8601By<S> {
 }
 
 /// Writes the text of the value to the start of the buffer: at once where it surely fits and is not
-/// refused.
+/// refused, and else by an array.
 #[inline(always)]
 fn write_parts(config: &Config, value: &OffsetDateTime, room: &mut [u8]) -> Result<usize, Reason>
     ensures { IsWritten result (iso8601_of config.now value.now) room.old room.new }
@@ -308,8 +308,8 @@ fn fits(config: &Config, room: usize) -> bool
     room >= SHORT_BYTES && is_short(config) || room >= config.width()
 }
 
-/// Whether the texts of a configuration have at most as many bytes as a short buffer, since they
-/// have at most 35 decimals.
+/// Whether a configuration has at most 35 decimals, so that none of its texts has more than
+/// `SHORT_BYTES`.
 fn is_short(config: &Config) -> bool
     ensures { IsTrue result → iso8601_width config.now ≤ SHORT_BYTES }
 {
