@@ -104,7 +104,7 @@ pub trait Format<V>: raw::Call<V> {
 
     /// Appends the text of the value, and returns the number of its bytes.
     ///
-    /// Reserves the width first. After an error the contents are unchanged.
+    /// Reserves the width or more first. After an error the contents are unchanged.
     ///
     /// # Errors
     ///
@@ -116,7 +116,7 @@ pub trait Format<V>: raw::Call<V> {
 
     /// Appends the text of the value to a `String`, and returns the number of its bytes.
     ///
-    /// Reserves the width first. After an error the contents are unchanged.
+    /// Reserves the width or more first. After an error the contents are unchanged.
     ///
     /// # Errors
     ///

@@ -9,7 +9,7 @@ use crate::library::{self, error_of, kind_of, LogCache, ParseError};
 pub(crate) use crate::library::{Iso8601Config, Item};
 use crate::read::{Expected, NotRead, Unread};
 use crate::{
-    Date, Description, Error, Iso8601By, LocalMoment, LogTime, Moment, Progress, UtcMoment,
+    Date, Description, Error, Iso8601By, LocalMoment, LogTime, Moment, Progress, Text, UtcMoment,
 };
 use alloc::boxed::Box;
 use alloc::rc::Rc;
@@ -782,7 +782,9 @@ pub(crate) fn write_all<V>(
     format.call_all(values, end, lent(room), Inside)
 }
 
-/// Appends the text of the value, which has at most this many bytes.
+/// Appends the text of the value, which has at most this many bytes. A vector that has to grow gets room
+/// for 64 bytes or more: where there is so much, the library does not compute the maximum length of a text
+/// of ISO 8601, which costs a tenth of the text.
 #[inline]
 pub(crate) fn append<V>(
     format: &(impl Call<V> + ?Sized),
@@ -790,7 +792,10 @@ pub(crate) fn append<V>(
     width: usize,
     output: &mut Vec<u8>,
 ) -> Result<usize, Error> {
-    output.try_reserve(width).map_err(|_| Error::OutOfMemory)?;
+    if output.capacity() - output.len() < width {
+        let room = width.max(Text::CAPACITY);
+        output.try_reserve(room).map_err(|_| Error::OutOfMemory)?;
+    }
     let count = format.call(value, output.spare_capacity_mut(), Inside)?;
     // SAFETY: the first `count` bytes after the vector's own are within its capacity and
     // initialized, as `Call` promises of its buffer.
