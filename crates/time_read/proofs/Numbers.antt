@@ -1,5 +1,5 @@
 -- Numbers of one, two and four digits as parts of a text.
-use Rattle.std.proofs.Common.{◌≡◌, ◌≢◌, ℕ, ◌+◌, ◌-◌, ◌*◌, ◌/◌, ◌<◌, ◌≤◌, List, [], ◌∷◌, ◌++◌, length, get_or, take, drop}
+use Rattle.std.proofs.Common.{◌≡◌, ℕ, ◌+◌, ◌-◌, ◌*◌, ◌/◌, ◌<◌, ◌≤◌, List, [], ◌∷◌, ◌++◌, length, get_or, take, drop}
 use Rattle.std.proofs.Common.{refl, sym, ap, ap₂, subst, ◌∙◌, arith, inl}
 use Rattle.std.specs.Int.{IsInRange}
 use Rattle.std.specs.Char.{digit_value}
@@ -319,10 +319,6 @@ two_behind : (b least greatest n : ℕ) {text rest : List ℕ} (p : Front (TwoAf
     → text ≡ b ∷ (p.is.rest ++ rest)
 two_behind b least greatest n {text} {rest} p =
     p.whole ∙ ap (λ t. t ++ rest) (p.is.whole ∙ ap (λ t. t ++ p.is.rest) p.is.first)
-
--- the byte is not there
-pub no_byte : (b least greatest : ℕ) (text : List ℕ) → ((rest : List ℕ) → text ≢ b ∷ rest) → NoFront (TwoAfter b least greatest) text
-no_byte b least greatest text none n rest p = none (p.is.rest ++ rest) (two_behind b least greatest n p)
 
 -- the number is not there behind the byte
 pub no_two_after : (b least greatest : ℕ) (text rest : List ℕ) → text ≡ b ∷ rest → NoFront (Two least greatest) rest

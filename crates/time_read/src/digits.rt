@@ -154,7 +154,9 @@ pub(crate) fn two_within(text: &[u8], least: u8, greatest: u8) -> Option<(u8, &[
     ensures range { IfSome result (λ r. r.0 ≤ greatest) }
     ensures none { IfNone result (NoFront (Two least greatest) text.now) }
 {
-    let (number, rest) = two(text)?;
+    let Some((number, rest)) = two(text) else {
+        return None;
+    };
     if number < least {
         return None;
     }
@@ -172,9 +174,9 @@ fn digit_by_digit(text: &[u8], least: u8, greatest: u8) -> Result<(u8, &[u8]), U
     ensures read { IfOk result (λ r. Front (Two least greatest r.0) text.now r.1.now) }
     ensures fault { IfErr result (λ e. FieldFault 2 (SpellsSome (Two least greatest)) text.now e) }
 {
-    let (tens, rest) = digit(text, least / 10, greatest / 10)?;
+    let (tens, rest) = ok!(digit(text, least / 10, greatest / 10));
     let (first, last) = units(least, greatest, tens);
-    let (ones, rest) = digit(rest, first, last)?;
+    let (ones, rest) = ok!(digit(rest, first, last));
     Ok((10 * tens + ones, rest))
 }
 
@@ -219,8 +221,12 @@ fn two_after(text: &[u8], before: u8, least: u8, greatest: u8) -> Option<(u8, &[
     if text.len() < 3 {
         return None;
     }
-    let rest = after(text, before)?;
-    let (number, rest) = two_within(rest, least, greatest)?;
+    let Some(rest) = after(text, before) else {
+        return None;
+    };
+    let Some((number, rest)) = two_within(rest, least, greatest) else {
+        return None;
+    };
     Some((number, rest))
 }
 
@@ -268,7 +274,7 @@ pub(crate) fn four_digits(text: &[u8]) -> Result<(u16, &[u8]), Unexpected>
     ensures range { IfOk result (λ r. r.0 < 10_000) }
     ensures fault { IfErr result (λ e. FieldFault 4 (SpellsSome (Digits 4)) text.now e) }
 {
-    let (high, rest) = pair(text, 0, 99)?;
-    let (low, rest) = pair(rest, 0, 99)?;
+    let (high, rest) = ok!(pair(text, 0, 99));
+    let (low, rest) = ok!(pair(rest, 0, 99));
     Ok((100 * high as u16 + low as u16, rest))
 }

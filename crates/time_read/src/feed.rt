@@ -71,7 +71,7 @@ pub(crate) fn weekday(text: &[u8]) -> Result<(Option<u8>, &[u8]), MailFault>
             expected: MailPart::WeekdayOrDay,
         });
     };
-    let rest = mark(rest, b',', MailPart::Comma)?;
+    let rest = ok!(mark(rest, b',', MailPart::Comma));
     Ok((Some(weekday), rest))
 }
 
@@ -152,9 +152,11 @@ pub(crate) fn day_month_year(text: &[u8]) -> Result<(u8, u8, u16, &[u8]), MailFa
     ensures shorter { IfOk result (λ r. length r.3.now ≤ length text.now) }
     ensures left { IfErr result (λ e. e.left ≤ length text.now) }
 {
-    let (day, rest) = day(text)?;
-    let (place, rest) = month(gap(rest)?)?;
-    let (year, rest) = year(gap(rest)?)?;
+    let (day, rest) = ok!(day(text));
+    let rest = ok!(gap(rest));
+    let (place, rest) = ok!(month(rest));
+    let rest = ok!(gap(rest));
+    let (year, rest) = ok!(year(rest));
     Ok((day, place, year, rest))
 }
 
@@ -182,10 +184,11 @@ pub(crate) fn second(text: &[u8]) -> Result<(u8, &[u8]), MailFault>
     ensures shorter { IfOk result (λ r. length r.1.now ≤ length text.now) }
     ensures left { IfErr result (λ e. e.left ≤ length text.now) }
 {
-    if after(space(text)?, b':').is_none() {
+    let behind_space = ok!(space(text));
+    if after(behind_space, b':').is_none() {
         return Ok((0, text));
     }
-    let rest = mark(text, b':', MailPart::Colon)?;
-    let (second, rest) = two(rest, 60, MailPart::Second)?;
+    let rest = ok!(mark(text, b':', MailPart::Colon));
+    let (second, rest) = ok!(two(rest, 60, MailPart::Second));
     Ok((second.min(59), rest))
 }

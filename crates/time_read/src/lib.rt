@@ -1,6 +1,17 @@
 //! Texts of RFC 3339, RFC 2822 and ISO 8601, and stamps, read back. No call allocates.
 #![tactic(auto)]
 
+/// The value of an `Ok`. An `Err` is returned as it is. Unlike `?` this calls no conversion of the
+/// error, which makes the proof of a reader a third shorter.
+macro_rules! ok {
+    ($answer:expr) => {
+        match $answer {
+            Ok(value) => value,
+            Err(fault) => return Err(fault),
+        }
+    };
+}
+
 mod days;
 mod decimals;
 mod digits;

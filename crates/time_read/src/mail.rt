@@ -22,7 +22,7 @@ fn day_after(text: &[u8]) -> Result<(u8, &[u8]), Unexpected>
     ensures range { IfOk result (λ r. r.0 ≤ 31) }
     ensures fault { IfErr result (λ e. FieldFault 4 (SpellsSome DayAfter) text.now e) }
 {
-    let rest = byte(text, b',')?;
+    let rest = ok!(byte(text, b','));
     pair_after(rest, b' ', 1, 31)
 }
 
@@ -33,7 +33,7 @@ fn month_after(text: &[u8], day: u8) -> Result<(u8, &[u8]), Unexpected>
     ensures range { IfOk result (λ r. r.0 < 12) }
     ensures fault { IfErr result (λ e. FieldFault 4 (SpellsSome (MonthAfter day)) text.now e) }
 {
-    let rest = byte(text, b' ')?;
+    let rest = ok!(byte(text, b' '));
     some_name(rest, Names::MonthWith(day))
 }
 
@@ -76,9 +76,9 @@ fn last_of_leap(text: &[u8], century: u8) -> Result<(u8, &[u8]), Unexpected>
     ensures range { IfOk result (λ r. r.0 < 100) }
     ensures fault { IfErr result (λ e. FieldFault 2 (SpellsSome (LastOfLeap century)) text.now e) }
 {
-    let (tens, rest) = digit(text, 0, 9)?;
+    let (tens, rest) = ok!(digit(text, 0, 9));
     let (first, last) = fourths(century, tens);
-    let (ones, rest) = fourth_digit(rest, first, last)?;
+    let (ones, rest) = ok!(fourth_digit(rest, first, last));
     Ok((10 * tens + ones, rest))
 }
 
@@ -110,8 +110,8 @@ fn year_after(text: &[u8], day: u8, place: u8) -> Result<(u16, &[u8]), Unexpecte
     ensures range { IfOk result (λ r. r.0 < 10_000) }
     ensures fault { IfErr result (λ e. FieldFault 5 (SpellsSome (YearAfter day place)) text.now e) }
 {
-    let (century, rest) = pair_after(text, b' ', 19, 99)?;
-    let (last, rest) = last_of_year(rest, day, place, century)?;
+    let (century, rest) = ok!(pair_after(text, b' ', 19, 99));
+    let (last, rest) = ok!(last_of_year(rest, day, place, century));
     Ok((100 * century as u16 + last as u16, rest))
 }
 
@@ -123,10 +123,10 @@ pub(crate) fn named_date(text: &[u8]) -> Result<(u8, u8, u8, u16, &[u8]), Unexpe
     ensures day { IfOk result (λ r. IsDay (record { year = r.3; month = r.2 + 1; day = r.1 })) }
     ensures fault { IfErr result (λ e. FieldFault 16 (SpellsSome NamedParts) text.now e) }
 {
-    let (weekday, rest) = some_name(text, Names::Weekday)?;
-    let (day, rest) = day_after(rest)?;
-    let (place, rest) = month_after(rest, day)?;
-    let (year, rest) = year_after(rest, day, place)?;
+    let (weekday, rest) = ok!(some_name(text, Names::Weekday));
+    let (day, rest) = ok!(day_after(rest));
+    let (place, rest) = ok!(month_after(rest, day));
+    let (year, rest) = ok!(year_after(rest, day, place));
     Ok((weekday, day, place, year, rest))
 }
 
@@ -139,7 +139,7 @@ pub(crate) fn clock_after(text: &[u8]) -> Result<(u8, u8, u8, &[u8]), Unexpected
     ensures second { IfOk result (λ r. r.2 < 60) }
     ensures fault { IfErr result (λ e. FieldFault 9 (SpellsSome ClockAfter) text.now e) }
 {
-    let rest = byte(text, b' ')?;
+    let rest = ok!(byte(text, b' '));
     clock(rest)
 }
 
@@ -167,7 +167,7 @@ fn sign_after(text: &[u8]) -> Result<(bool, &[u8]), Unexpected>
     ensures read { IfOk result (λ r. Front (SignAfter r.0) text.now r.1.now) }
     ensures fault { IfErr result (λ e. FieldFault 2 (SpellsSome SignAfter) text.now e) }
 {
-    let rest = byte(text, b' ')?;
+    let rest = ok!(byte(text, b' '));
     sign(rest)
 }
 
@@ -178,8 +178,8 @@ pub(crate) fn zone_after(text: &[u8]) -> Result<(bool, u8, u8, &[u8]), Unexpecte
     ensures minute { IfOk result (λ r. r.2 < 60) }
     ensures fault { IfErr result (λ e. FieldFault 6 (SpellsSome ZoneAfter) text.now e) }
 {
-    let (is_negative, rest) = sign_after(text)?;
-    let (hour, rest) = pair(rest, 0, 25)?;
-    let (minute, rest) = pair(rest, least_minute(is_negative, hour), 59)?;
+    let (is_negative, rest) = ok!(sign_after(text));
+    let (hour, rest) = ok!(pair(rest, 0, 25));
+    let (minute, rest) = ok!(pair(rest, least_minute(is_negative, hour), 59));
     Ok((is_negative, hour, minute, rest))
 }

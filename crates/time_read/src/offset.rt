@@ -73,8 +73,8 @@ fn hours_and_minutes(text: &[u8], some: bool) -> Result<(u8, u8, &[u8]), Unexpec
     ensures fault { IfErr result (λ e.
         FieldFault 5 (SpellsSome (HoursAndMinutes some)) text.now e) }
 {
-    let (hour, rest) = pair(text, 0, 23)?;
-    let (minute, rest) = pair_after(rest, b':', least_minute(some, hour), 59)?;
+    let (hour, rest) = ok!(pair(text, 0, 23));
+    let (minute, rest) = ok!(pair_after(rest, b':', least_minute(some, hour), 59));
     Ok((hour, minute, rest))
 }
 
@@ -86,7 +86,7 @@ pub(crate) fn rest_of_utc(text: &[u8], profile: Profile) -> Result<UtcOffset, Un
     ensures fault { IfErr result (λ e.
         (b : ℕ) → IsLetter profile 90 b → TextFault (RestOfOffset profile b) text.now e) }
 {
-    end(text)?;
+    ok!(end(text));
     Ok(signed_offset(false, 0, 0))
 }
 
@@ -101,7 +101,7 @@ pub(crate) fn rest_of_signed(
     ensures fault { IfErr result (λ e.
         TextFault (RestOfOffset profile (sign_byte is_negative)) text.now e) }
 {
-    let (hour, minute, rest) = hours_and_minutes(text, is_some(profile, is_negative))?;
-    end(rest)?;
+    let (hour, minute, rest) = ok!(hours_and_minutes(text, is_some(profile, is_negative)));
+    ok!(end(rest));
     Ok(signed_offset(is_negative, hour, minute))
 }

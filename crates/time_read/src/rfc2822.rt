@@ -32,10 +32,10 @@ fn fields(text: &[u8]) -> Result<(u8, OffsetDateTime), Unexpected>
     ensures read { IfOk result (λ r. MailText r.0 r.1 text.now) }
     ensures fault { IfErr result (λ e. TextFault (SpellsSome SpellsButWeekday) text.now e) }
 {
-    let (weekday, day, place, year, rest) = named_date(text)?;
-    let (hour, minute, second, rest) = clock_after(rest)?;
-    let (is_negative, hours, minutes, rest) = zone_after(rest)?;
-    end(rest)?;
+    let (weekday, day, place, year, rest) = ok!(named_date(text));
+    let (hour, minute, second, rest) = ok!(clock_after(rest));
+    let (is_negative, hours, minutes, rest) = ok!(zone_after(rest));
+    ok!(end(rest));
     let time = Time::from_valid_hms_nano(hour, minute, second, 0);
     let offset = signed_offset(is_negative, hours, minutes);
     let month = place + 1;
@@ -98,8 +98,8 @@ fn lenient_date(text: &[u8]) -> Result<(Day, &[u8]), MailFault>
     ensures shorter { IfOk result (λ r. length r.1.now ≤ length text.now) }
     ensures left { IfErr result (λ e. e.left ≤ length text.now) }
 {
-    let (weekday, from_day) = weekday(text)?;
-    let (day, place, year, rest) = day_month_year(from_day)?;
+    let (weekday, from_day) = ok!(weekday(text));
+    let (day, place, year, rest) = ok!(day_month_year(from_day));
     let month = place + 1;
     if days_of_month(year, month) < day {
         return Err(MailFault {
@@ -128,10 +128,10 @@ fn lenient_clock(text: &[u8]) -> Result<(u8, u8, u8, &[u8]), MailFault>
     ensures shorter { IfOk result (λ r. length r.3.now ≤ length text.now) }
     ensures left { IfErr result (λ e. e.left ≤ length text.now) }
 {
-    let (hour, rest) = two(text, 23, MailPart::Hour)?;
-    let rest = mark(rest, b':', MailPart::Colon)?;
-    let (minute, rest) = two(rest, 59, MailPart::Minute)?;
-    let (second, rest) = second(rest)?;
+    let (hour, rest) = ok!(two(text, 23, MailPart::Hour));
+    let rest = ok!(mark(rest, b':', MailPart::Colon));
+    let (minute, rest) = ok!(two(rest, 59, MailPart::Minute));
+    let (second, rest) = ok!(second(rest));
     Ok((hour, minute, second, rest))
 }
 
@@ -140,7 +140,7 @@ fn lenient_end(text: &[u8]) -> Result<(), MailFault>
     ensures read { OnOk result (IsSpace text.now) }
     ensures left { IfErr result (λ e. e.left ≤ length text.now) }
 {
-    let rest = space(text)?;
+    let rest = ok!(space(text));
     if !rest.is_empty() {
         return Err(MailFault {
             left: rest.len(),
@@ -155,9 +155,9 @@ fn lenient_zone(text: &[u8]) -> Result<UtcOffset, MailFault>
     ensures read { IfOk result (λ o. (IsGap ▹ MeansZone o ▹ IsSpace) text.now) }
     ensures left { IfErr result (λ e. e.left ≤ length text.now) }
 {
-    let rest = gap(text)?;
-    let (is_negative, hours, minutes, rest) = zone(rest)?;
-    lenient_end(rest)?;
+    let rest = ok!(gap(text));
+    let (is_negative, hours, minutes, rest) = ok!(zone(rest));
+    ok!(lenient_end(rest));
     Ok(signed_offset(is_negative, hours, minutes))
 }
 
@@ -166,11 +166,11 @@ fn lenient(text: &[u8]) -> Result<OffsetDateTime, MailFault>
     ensures read { IfOk result (λ v. MailMeans v text.now) }
     ensures left { IfErr result (λ e. e.left ≤ length text.now) }
 {
-    let rest = space(text)?;
-    let (day, rest) = lenient_date(rest)?;
-    let rest = gap(rest)?;
-    let (hour, minute, second, rest) = lenient_clock(rest)?;
-    let offset = lenient_zone(rest)?;
+    let rest = ok!(space(text));
+    let (day, rest) = ok!(lenient_date(rest));
+    let rest = ok!(gap(rest));
+    let (hour, minute, second, rest) = ok!(lenient_clock(rest));
+    let offset = ok!(lenient_zone(rest));
     let time = Time::from_valid_hms_nano(hour, minute, second, 0);
     Ok(OffsetDateTime::new_in_offset(date_of(day), time, offset))
 }

@@ -106,7 +106,7 @@ pub(crate) fn gap(text: &[u8]) -> Result<&[u8], MailFault>
     ensures left { IfErr result (λ e. e.left ≤ length text.now) }
     ensures none { IfErr result (λ _. NoFrontTo IsGap text.now) }
 {
-    let rest = space(text)?;
+    let rest = ok!(space(text));
     if rest.len() == text.len() {
         return Err(MailFault {
             left: text.len(),
@@ -125,13 +125,13 @@ pub(crate) fn mark(text: &[u8], wanted: u8, expected: MailPart) -> Result<&[u8],
     ensures left { IfErr result (λ e. e.left ≤ length text.now) }
     ensures none { IfErr result (λ _. NoFrontTo (Mark wanted) text.now) }
 {
-    let rest = space(text)?;
+    let rest = ok!(space(text));
     let Some(rest) = after(rest, wanted) else {
         return Err(MailFault {
             left: rest.len(),
             expected,
         });
     };
-    let rest = space(rest)?;
+    let rest = ok!(space(rest));
     Ok(rest)
 }

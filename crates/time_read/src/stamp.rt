@@ -38,7 +38,7 @@ fn nine_after(text: &[u8]) -> Result<(u32, &[u8]), Unexpected>
     ensures range { IfOk result (λ r. r.0 < 10 ^ 9) }
     ensures fault { IfErr result (λ e. FieldFault 10 (SpellsSome NineAfter) text.now e) }
 {
-    let rest = byte(text, b'.')?;
+    let rest = ok!(byte(text, b'.'));
     nine_digits(rest)
 }
 
@@ -47,12 +47,12 @@ fn fields(text: &[u8]) -> Result<UtcDateTime, Unexpected>
     ensures read { IfOk result (λ v. IsStamp v text.now) }
     ensures fault { IfErr result (λ e. TextFault (SpellsSome IsStamp) text.now e) }
 {
-    let (year, month, day, rest) = full_date(text)?;
-    let after_t = byte(rest, b'T')?;
-    let (hour, minute, second, rest) = clock(after_t)?;
-    let (number, rest) = nine_after(rest)?;
-    let after_z = byte(rest, b'Z')?;
-    end(after_z)?;
+    let (year, month, day, rest) = ok!(full_date(text));
+    let after_t = ok!(byte(rest, b'T'));
+    let (hour, minute, second, rest) = ok!(clock(after_t));
+    let (number, rest) = ok!(nine_after(rest));
+    let after_z = ok!(byte(rest, b'Z'));
+    ok!(end(after_z));
     let time = Time::from_valid_hms_nano(hour, minute, second, number);
     Ok(UtcDateTime::new(date_of(Day { year, month, day }), time))
 }

@@ -24,17 +24,17 @@ pub(crate) fn fraction_and_offset(
     ensures range { IfOk result (λ r. r.0 < 10 ^ 9) }
     ensures fault { IfErr result (λ e. TextFault (SpellsSome (Tail profile)) text.now e) }
 {
-    let (nanosecond, rest, expected) = fraction(text, profile)?;
+    let (nanosecond, rest, expected) = ok!(fraction(text, profile));
     if let Some(rest) = after_letter(rest, b'Z', profile) {
-        let offset = rest_of_utc(rest, profile)?;
+        let offset = ok!(rest_of_utc(rest, profile));
         return Ok((nanosecond, offset));
     }
     if let Some(rest) = after(rest, b'+') {
-        let offset = rest_of_signed(rest, false, profile)?;
+        let offset = ok!(rest_of_signed(rest, false, profile));
         return Ok((nanosecond, offset));
     }
     if let Some(rest) = after(rest, b'-') {
-        let offset = rest_of_signed(rest, true, profile)?;
+        let offset = ok!(rest_of_signed(rest, true, profile));
         return Ok((nanosecond, offset));
     }
     Err(Unexpected {

@@ -46,7 +46,7 @@ pub(crate) fn date(text: &[u8]) -> Result<(Date, &[u8]), Unexpected>
     ensures read { IfOk result (λ r. Front (FullDate r.0) text.now r.1.now) }
     ensures fault { IfErr result (λ e. FieldFault 10 (SpellsSome FullDate) text.now e) }
 {
-    let (year, month, day, rest) = full_date(text)?;
+    let (year, month, day, rest) = ok!(full_date(text));
     Ok((date_of(Day { year, month, day }), rest))
 }
 
@@ -62,9 +62,9 @@ pub(crate) fn after_date(
     ensures fault { IfErr result (λ e. (front : List ℕ)
         → FullDate date front → TextFault (SpellsSome (ReadsAs profile)) (front ++ text.now) e) }
 {
-    let rest = letter(text, b'T', profile)?;
-    let (hour, minute, second, rest) = clock(rest)?;
-    let (nanosecond, offset) = fraction_and_offset(rest, profile)?;
+    let rest = ok!(letter(text, b'T', profile));
+    let (hour, minute, second, rest) = ok!(clock(rest));
+    let (nanosecond, offset) = ok!(fraction_and_offset(rest, profile));
     let time = Time::from_valid_hms_nano(hour, minute, second, nanosecond);
     Ok(OffsetDateTime::new_in_offset(date, time, offset))
 }
@@ -76,11 +76,11 @@ pub(crate) fn value_of<P: Reads>(text: &[u8]) -> Result<OffsetDateTime, Unexpect
     ensures fault { IfErr result (λ e. TextFault (SpellsSome (ReadsAs P.PROFILE)) text.now e) }
 {
     let profile = P::PROFILE;
-    let (year, month, day, rest) = full_date(text)?;
+    let (year, month, day, rest) = ok!(full_date(text));
     let date = date_of(Day { year, month, day });
-    let after_t = letter(rest, b'T', profile)?;
-    let (hour, minute, second, rest) = clock(after_t)?;
-    let (nanosecond, offset) = fraction_and_offset(rest, profile)?;
+    let after_t = ok!(letter(rest, b'T', profile));
+    let (hour, minute, second, rest) = ok!(clock(after_t));
+    let (nanosecond, offset) = ok!(fraction_and_offset(rest, profile));
     let time = Time::from_valid_hms_nano(hour, minute, second, nanosecond);
     Ok(OffsetDateTime::new_in_offset(date, time, offset))
 }

@@ -21,8 +21,12 @@ fn signed_zone(text: &[u8]) -> Option<(bool, u8, u8, &[u8])>
     let Ok((is_negative, rest)) = sign(text) else {
         return None;
     };
-    let (hours, rest) = two_within(rest, 0, 25)?;
-    let (minutes, rest) = two_within(rest, 0, 59)?;
+    let Some((hours, rest)) = two_within(rest, 0, 25) else {
+        return None;
+    };
+    let Some((minutes, rest)) = two_within(rest, 0, 59) else {
+        return None;
+    };
     Some((is_negative, hours, minutes, rest))
 }
 
@@ -99,8 +103,10 @@ fn lettered_zone(text: &[u8]) -> Option<(u8, &[u8])>
     if is_military(name) {
         return Some((0, rest));
     }
-    let hours = named(name)?;
-    Some((hours, rest))
+    match named(name) {
+        Some(hours) => Some((hours, rest)),
+        None => None,
+    }
 }
 
 // Reads a zone that has a meaning: whether it is behind UTC, and how many hours and minutes.

@@ -16,9 +16,9 @@ pub(super) fn read_date<'a>(
     text: &'a [u8],
 ) -> Result<(Date, &'a [u8]), Unexpected> {
     let (year, rest) = if config.year_is_six_digits() {
-        six_digit_year(text)?
+        ok!(six_digit_year(text))
     } else {
-        four_digit_year(text)?
+        ok!(four_digit_year(text))
     };
     match config.date_kind() {
         DateKind::Calendar => month_and_day(config, rest, year),
@@ -31,7 +31,7 @@ pub(super) fn read_date<'a>(
 fn four_digit_year(text: &[u8]) -> Result<(i32, &[u8]), Unexpected>
     ensures { IfOk result (λ read. IsYear read.0) }
 {
-    let (year, rest) = four_digits(text)?;
+    let (year, rest) = ok!(four_digits(text));
     Ok((year as i32, rest))
 }
 
@@ -51,9 +51,9 @@ fn signed_year(is_negative: bool, number: u32) -> i32
 fn six_digit_year(text: &[u8]) -> Result<(i32, &[u8]), Unexpected>
     ensures { IfOk result (λ read. IsYear read.0) }
 {
-    let (is_negative, rest) = sign(text)?;
-    let (high, rest) = pair(rest, 0, 99)?;
-    let (low, rest) = four_digits(rest)?;
+    let (is_negative, rest) = ok!(sign(text));
+    let (high, rest) = ok!(pair(rest, 0, 99));
+    let (low, rest) = ok!(four_digits(rest));
     let number = 10_000 * high as u32 + low as u32;
     Ok((signed_year(is_negative, number), rest))
 }
@@ -66,9 +66,9 @@ fn month_and_day<'a>(
 ) -> Result<(Date, &'a [u8]), Unexpected>
     requires { IsYear year }
 {
-    let (number, rest) = pair_behind(config, text, b'-', 1, 12)?;
+    let (number, rest) = ok!(pair_behind(config, text, b'-', 1, 12));
     let month = Month::from_number(number);
-    let (day, rest) = pair_behind(config, rest, b'-', 1, month.length(year))?;
+    let (day, rest) = ok!(pair_behind(config, rest, b'-', 1, month.length(year)));
     Ok((Date::from_valid_calendar_date(year, month, day), rest))
 }
 
@@ -78,8 +78,8 @@ fn week_of_year<'a>(
     text: &'a [u8],
     year: i32,
 ) -> Result<(u8, &'a [u8]), Unexpected> {
-    let rest = separator(config, text, b'-')?;
-    let rest = byte(rest, b'W')?;
+    let rest = ok!(separator(config, text, b'-'));
+    let rest = ok!(byte(rest, b'W'));
     pair(rest, 1, weeks_in_year(year))
 }
 
@@ -89,9 +89,9 @@ fn week_and_weekday<'a>(
     text: &'a [u8],
     year: i32,
 ) -> Result<(Date, &'a [u8]), Unexpected> {
-    let (week, rest) = week_of_year(config, text, year)?;
-    let rest = separator(config, rest, b'-')?;
-    let (number, after) = digit(rest, 1, 7)?;
+    let (week, rest) = ok!(week_of_year(config, text, year));
+    let rest = ok!(separator(config, rest, b'-'));
+    let (number, after) = ok!(digit(rest, 1, 7));
     match Date::from_iso_week_date(year, week, Weekday::Sunday.nth_next(number)) {
         Ok(date) => Ok((date, after)),
         // 999999-12-31 is the fifth day of its week, and no date is later.
@@ -123,10 +123,10 @@ fn day_of_year<'a>(
 ) -> Result<(Date, &'a [u8]), Unexpected>
     requires { IsYear year }
 {
-    let rest = separator(config, text, b'-')?;
-    let (hundreds, rest) = digit(rest, 0, 3)?;
+    let rest = ok!(separator(config, text, b'-'));
+    let (hundreds, rest) = ok!(digit(rest, 0, 3));
     let (least, greatest) = days_behind(year, hundreds);
-    let (below, after) = pair(rest, least, greatest)?;
+    let (below, after) = ok!(pair(rest, least, greatest));
     match Date::from_ordinal_date(year, 100 * hundreds as u16 + below as u16) {
         Ok(date) => Ok((date, after)),
         Err(_) => Err(Unexpected {

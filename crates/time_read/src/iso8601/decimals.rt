@@ -50,7 +50,7 @@ pub(super) fn nanosecond_of<'a>(
     let Some(digits) = digits else {
         return Ok((0, text));
     };
-    let rest = behind_sign(config, text)?;
+    let rest = ok!(behind_sign(config, text));
     let wanted = digits.get() as usize;
     let (number, count) = nanosecond(rest);
     if wanted <= count {
@@ -59,7 +59,7 @@ pub(super) fn nanosecond_of<'a>(
     if count < 9 {
         return Err(no_digit(rest, count));
     }
-    let (_, rest) = digits_of(rest, wanted)?;
+    let (_, rest) = ok!(digits_of(rest, wanted));
     Ok((number, rest))
 }
 
@@ -83,8 +83,8 @@ pub(super) fn decimals_of<'a>(
     let Some(digits) = digits else {
         return Ok((0, text));
     };
-    let rest = behind_sign(config, text)?;
-    let (decimals, rest) = digits_of(rest, digits.get() as usize)?;
+    let rest = ok!(behind_sign(config, text));
+    let (decimals, rest) = ok!(digits_of(rest, digits.get() as usize));
     Ok((fewest_nanoseconds(decimals, unit), rest))
 }
 

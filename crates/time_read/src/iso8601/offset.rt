@@ -25,9 +25,9 @@ pub(super) fn read_offset<'a>(
         Ok(read) => read,
         Err(fault) => return Err(no_offset(config, fault)),
     };
-    let (hour, rest) = pair(rest, 0, 25)?;
+    let (hour, rest) = ok!(pair(rest, 0, 25));
     let (minute, rest) = match config.offset_precision() {
-        OffsetPrecision::Minute => pair_behind(config, rest, b':', 0, 59)?,
+        OffsetPrecision::Minute => ok!(pair_behind(config, rest, b':', 0, 59)),
         OffsetPrecision::Hour => (0, rest),
     };
     Ok((signed_offset(is_negative, hour, minute), rest))

@@ -48,7 +48,7 @@ pub(super) fn pair_behind<'a>(
     ensures least { IfOk result (λ read. least ≤ read.0) }
     ensures greatest { IfOk result (λ read. read.0 ≤ greatest) }
 {
-    let rest = separator(config, text, wanted)?;
+    let rest = ok!(separator(config, text, wanted));
     pair(rest, least, greatest)
 }
 
@@ -87,6 +87,6 @@ pub(super) fn parts_of(config: &Config, text: &[u8]) -> Result<Parts, Unexpected
             Err(fault) => return Err(fault),
         }
     }
-    end(rest)?;
+    ok!(end(rest));
     Ok(parts)
 }

@@ -28,8 +28,8 @@ pub(super) fn read_time<'a>(
     config: &Config,
     text: &'a [u8],
 ) -> Result<(Time, &'a [u8]), Unexpected> {
-    let rest = time_letter(config, text)?;
-    let (hour, rest) = pair(rest, 0, 23)?;
+    let rest = ok!(time_letter(config, text));
+    let (hour, rest) = ok!(pair(rest, 0, 23));
     match config.time_precision() {
         TimePrecision::Hour { decimal_digits } => behind_hour(config, rest, hour, decimal_digits),
         TimePrecision::Minute { decimal_digits } => {
@@ -48,7 +48,7 @@ fn behind_hour<'a>(
 ) -> Result<(Time, &'a [u8]), Unexpected>
     requires { hour < 24 }
 {
-    let (behind, rest) = decimals_of(config, text, digits, NANOSECONDS_PER_HOUR)?;
+    let (behind, rest) = ok!(decimals_of(config, text, digits, NANOSECONDS_PER_HOUR));
     let minute = behind / NANOSECONDS_PER_MINUTE % 60;
     Ok((time_behind(hour, minute as u8, behind), rest))
 }
@@ -62,8 +62,8 @@ fn behind_minute<'a>(
 ) -> Result<(Time, &'a [u8]), Unexpected>
     requires { hour < 24 }
 {
-    let (minute, rest) = pair_behind(config, text, b':', 0, 59)?;
-    let (behind, rest) = decimals_of(config, rest, digits, NANOSECONDS_PER_MINUTE)?;
+    let (minute, rest) = ok!(pair_behind(config, text, b':', 0, 59));
+    let (behind, rest) = ok!(decimals_of(config, rest, digits, NANOSECONDS_PER_MINUTE));
     Ok((time_behind(hour, minute, behind), rest))
 }
 
@@ -76,9 +76,9 @@ fn to_second<'a>(
 ) -> Result<(Time, &'a [u8]), Unexpected>
     requires { hour < 24 }
 {
-    let (minute, rest) = pair_behind(config, text, b':', 0, 59)?;
-    let (second, rest) = pair_behind(config, rest, b':', 0, 59)?;
-    let (nanosecond, rest) = nanosecond_of(config, rest, digits)?;
+    let (minute, rest) = ok!(pair_behind(config, text, b':', 0, 59));
+    let (second, rest) = ok!(pair_behind(config, rest, b':', 0, 59));
+    let (nanosecond, rest) = ok!(nanosecond_of(config, rest, digits));
     Ok((
         Time::from_valid_hms_nano(hour, minute, second, nanosecond),
         rest,

@@ -3,5 +3,5 @@ use Rattle.time_read.proofs.feed.day_month_year.Goals as goal
 
 pub returns-clause-read : goal.returns-clause-read
 returns-clause-read c =
-    front_join c.in_ok-day.ensures.read (front_join c.in_ok-gap.ensures.read (front_join c.in_ok-place.ensures.read
-    (front_join c.in_ok-gap-2.ensures.read c.in_ok-year.ensures.read)))
+    front_join c.in-Ok.ensures.read (front_join c.in-Ok-gap.ensures.read (front_join c.in-Ok-month.ensures.read
+    (front_join c.in-Ok-gap-2.ensures.read c.in-Ok-year.ensures.read)))

@@ -8,5 +8,5 @@ returns-then-is_none-clause-read c = record { front = []; whole = refl; is = inl
 
 pub returns-clause-read : goal.returns-clause-read
 returns-clause-read c =
-    front_as (λ t s. inr (record { number = c.in_ok-second.second; spelled = s; is = omega (arith, c.min.ensures) }))
-    (front_join c.in_ok-rest.ensures.read c.in_ok-second.ensures.read)
+    front_as (λ t s. inr (record { number = c.in-Ok-two.value.0; spelled = s; is = omega (arith, c.min.ensures) }))
+    (front_join c.in-Ok-mark.ensures.read c.in-Ok-two.ensures.read)

@@ -1,19 +1,16 @@
-use Rattle.std.proofs.lemmas.Result.{err_from_is_err_and}
 use Rattle.time_read.proofs.OffsetEnds.{hours_first, hours_minute, hours_front}
 use Rattle.time_read.proofs.offset.hours_and_minutes.Goals as goal
 
-pub returns-in_err-hour-clause-fault : goal.returns-in_err-hour-clause-fault
-returns-in_err-hour-clause-fault c =
-    let p = err_from_is_err_and c.from_residual.result c.from_residual.ensures.1 in
-    rw (p.1, p.2) (hours_first c.args.some c.args.text.now _ c.in_err-hour.ensures.fault)
+pub returns-in-Err-clause-fault : goal.returns-in-Err-clause-fault
+returns-in-Err-clause-fault c =
+    hours_first c.args.some c.args.text.now _ c.in-Err.ensures.fault
 
-pub returns-in_err-minute-clause-fault : goal.returns-in_err-minute-clause-fault
-returns-in_err-minute-clause-fault c =
-    let p = err_from_is_err_and c.from_residual-in_err-minute.result c.from_residual-in_err-minute.ensures.1 in
-    rw (p.1, p.2) (hours_minute c.args.some _ c.args.text.now _ _ c.in_ok-hour.ensures.read
-    (rw c.least_minute.ensures.least at c.in_err-minute.ensures.fault))
+pub returns-in-Err-pair_after-clause-fault : goal.returns-in-Err-pair_after-clause-fault
+returns-in-Err-pair_after-clause-fault c =
+    hours_minute c.args.some _ c.args.text.now _ _ c.in-Ok.ensures.read
+    (rw c.least_minute.ensures.least at c.in-Err-pair_after.ensures.fault)
 
 pub returns-clause-read : goal.returns-clause-read
 returns-clause-read c =
-    hours_front c.args.some _ _ c.args.text.now _ _ c.in_ok-hour.ensures.read
-    (rw c.least_minute.ensures.least at c.in_ok-minute.ensures.read)
+    hours_front c.args.some _ _ c.args.text.now _ _ c.in-Ok.ensures.read
+    (rw c.least_minute.ensures.least at c.in-Ok-pair_after.ensures.read)

@@ -6,5 +6,5 @@ use Rattle.time_read.proofs.rfc2822.lenient.Goals as goal
 pub returns-clause-read : goal.returns-clause-read
 returns-clause-read c =
     let same = c.new_in_offset.ensures ∙ same_value c.date_of.ensures c.from_valid_hms_nano-time.ensures refl in
-    rw same (with_rest c.in_ok-rest.ensures.read (with_rest c.in_ok-day.ensures.read
-    (with_rest c.in_ok-rest-2.ensures.read (with_rest c.in_ok-hour.ensures.read c.in_ok-offset.ensures.read))))
+    rw same (with_rest c.in-Ok.ensures.read (with_rest c.in-Ok-lenient_date.ensures.read
+    (with_rest c.in-Ok-gap.ensures.read (with_rest c.in-Ok-lenient_clock.ensures.read c.in-Ok-lenient_zone.ensures.read))))

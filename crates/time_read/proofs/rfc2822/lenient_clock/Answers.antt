@@ -5,5 +5,5 @@ use Rattle.time_read.proofs.rfc2822.lenient_clock.Goals as goal
 
 pub returns-clause-read : goal.returns-clause-read
 returns-clause-read c =
-    front_as (λ t s. (s, refl)) (front_join c.in_ok-hour.ensures.read
-    (front_join c.in_ok-rest.ensures.read (front_join c.in_ok-minute.ensures.read c.in_ok-second.ensures.read)))
+    front_as (λ t s. (s, refl)) (front_join c.in-Ok.ensures.read
+    (front_join c.in-Ok-mark.ensures.read (front_join c.in-Ok-two.ensures.read c.in-Ok-second.ensures.read)))

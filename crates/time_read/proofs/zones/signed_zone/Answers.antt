@@ -7,12 +7,12 @@ pub returns-clause-read : goal.returns-clause-read
 returns-clause-read c =
     front_as (λ t s. record {
       is_negative = c.in-Ok.is_negative;
-      hour = c.in_ok-hours.hours;
-      minute = c.in_ok-minutes.minutes;
+      hour = c.in-Some.hours;
+      minute = c.in-Some-two_within.minutes;
       spelled = s;
-      hour_fits = c.in_ok-hours.ensures.range;
-      minute_fits = omega (arith, c.in_ok-minutes.ensures.range);
+      hour_fits = c.in-Some.ensures.range;
+      minute_fits = omega (arith, c.in-Some-two_within.ensures.range);
       is = refl;
     })
     (front_join c.in-Ok.ensures.read
-    (front_join (front_as (λ t s. s.0) c.in_ok-hours.ensures.read) (front_as (λ t s. s.0) c.in_ok-minutes.ensures.read)))
+    (front_join (front_as (λ t s. s.0) c.in-Some.ensures.read) (front_as (λ t s. s.0) c.in-Some-two_within.ensures.read)))
