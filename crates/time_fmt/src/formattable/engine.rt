@@ -8,7 +8,7 @@ ghost use Rattle.time_below.specs.Width.{tree_width, trees_width};
 ghost use Rattle.time_fmt.specs.Guarantee.{AppendsTree};
 ghost use Rattle.time_fmt.specs.Sink.{Fits};
 
-use crate::component::{end_component, write_often, write_seldom};
+use crate::component::{end_component, write_current, write_often};
 use crate::refused::Refused;
 use crate::sink::Sink;
 use crate::step::{WriteStep, write_all};
@@ -90,7 +90,7 @@ impl<T: Node> WriteStep<()> for T {
         Some(Ok(()))
     }
 
-    /// Writes a component that is met seldom, by a call.
+    /// Writes any component that is not deprecated, by a call.
     #[inline(always)]
     fn write_seldom<S: Sink, V: ComponentProvider>(
         &self,
@@ -100,7 +100,7 @@ impl<T: Node> WriteStep<()> for T {
         state: &mut V::State,
     ) -> Option<Result<(), Refused>> {
         match self.layer() {
-            Layer::Component(component) => write_seldom(component, output, value, state),
+            Layer::Component(component) => write_current(component, output, value, state),
             _ => None,
         }
     }

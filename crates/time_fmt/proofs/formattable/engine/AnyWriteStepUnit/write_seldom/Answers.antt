@@ -6,7 +6,7 @@ pub returns-in-Component-clause-appends : goal.returns-in-Component-clause-appen
 returns-in-Component-clause-appends g c =
     let f = g.V.ComponentProvider.facts c.args.value.now in
     let old = g.S.Sink.buffer c.args.output.now in
-    let new = g.S.Sink.buffer c.write_seldom.new.output in
-    let leaf : AppendsLeaf (g.T.Node.tree c.args.self.now) f old new c.write_seldom.result = rw (← c.in-Component.ensures.tree)
-    (leaf_of_written c.write_seldom.result c.in-Component.component f old new (λ nothing. nothing) c.write_seldom.ensures.writes.0) in
+    let new = g.S.Sink.buffer c.write_current.new.output in
+    let leaf : AppendsLeaf (g.T.Node.tree c.args.self.now) f old new c.write_current.result = rw (← c.in-Component.ensures.tree)
+    (leaf_of_written c.write_current.result c.in-Component.component f old new (λ nothing. nothing.0) c.write_current.ensures.writes.0) in
     leaf
