@@ -55,34 +55,11 @@ pub fn write_often<S: Sink, V: ComponentProvider>(
     ], part => write_part(part, output, value, state), _ => None)
 }
 
-/// Appends the text of a component that is met seldom, by a call from the loop over a list. Returns
-/// its refusal, if it is refused. Of any other component writes nothing and returns `None`.
+/// Appends the text of a component that is not deprecated, by a call. Returns its refusal, if it is
+/// refused. Of one that is deprecated writes nothing and returns `None`. In the loop over a list the
+/// compiler leaves out what `write_often` has.
 #[inline(always)]
-pub(crate) fn write_seldom<S: Sink, V: ComponentProvider>(
-    component: Component,
-    output: &mut S,
-    value: &V,
-    state: &mut V::State,
-) -> Option<Result<(), Refused>>
-    requires ready { Ready (S.buffer output.old) (component_width component)
-        (V.agrees state.old value.now) }
-    ensures writes { MatchOption result (S.buffer output.new ≡ S.buffer output.old)
-        (λ answer. Ends (component_width component) (S.buffer output.old) (S.buffer output.new)
-        answer (component_outcome component (V.facts value.now)))
-        × V.agrees state.new value.now }
-{
-    each!(component, [
-        Ordinal WeekdayLong WeekdaySunday WeekNumberIso WeekNumberSunday WeekNumberMonday
-        CalendarYearFullStandardRange CalendarYearCenturyExtendedRange
-        CalendarYearCenturyStandardRange CalendarYearLastTwo IsoYearFullExtendedRange
-        IsoYearFullStandardRange IsoYearCenturyExtendedRange IsoYearCenturyStandardRange
-        IsoYearLastTwo OffsetSecond UnixTimestampSecond UnixTimestampMillisecond
-    ], part => write_rare(part, output, value, state), _ => None)
-}
-
-/// Appends the text of a component that is not deprecated. Returns its refusal, if it is refused.
-/// Of one that is deprecated writes nothing and returns `None`.
-fn write_current<S: Sink, V: ComponentProvider>(
+pub(crate) fn write_current<S: Sink, V: ComponentProvider>(
     component: Component,
     output: &mut S,
     value: &V,

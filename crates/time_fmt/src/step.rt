@@ -45,7 +45,8 @@ pub trait WriteStep<B: Copy>: Sized {
         ensures agrees { V.agrees state.new value.now };
 
     /// Writes any step before which the loop does not stop, and returns its refusal, if it is
-    /// refused. Of any other it writes nothing, and returns `None`.
+    /// refused. Of any other it writes nothing, and returns `None`. A call that is not inlined
+    /// borrows a sink that is taken out, so that the loop's own stays in registers.
     fn write_seldom<S: Sink, V: ComponentProvider>(
         &self,
         beside: B,
@@ -95,20 +96,17 @@ pub fn write_all<'a, B: Copy, T: WriteStep<B>, S: Sink, V: ComponentProvider>(
                 output.put_back(taken);
                 return Err(refused);
             }
-            None => {
-                let mut apart = taken;
-                match step.write_seldom(beside, &mut apart, value, state) {
-                    Some(Ok(())) => taken = apart,
-                    Some(Err(refused)) => {
-                        output.put_back(apart);
-                        return Err(refused);
-                    }
-                    None => {
-                        output.put_back(apart);
-                        return Ok(&steps[index..]);
-                    }
+            None => match step.write_seldom(beside, &mut taken, value, state) {
+                Some(Ok(())) => {}
+                Some(Err(refused)) => {
+                    output.put_back(taken);
+                    return Err(refused);
                 }
-            }
+                None => {
+                    output.put_back(taken);
+                    return Ok(&steps[index..]);
+                }
+            },
         }
         index += 1;
     }

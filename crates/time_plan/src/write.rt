@@ -72,7 +72,10 @@ impl WriteStep<()> for Step {
         value: &V,
         state: &mut V::State,
     ) -> Option<Result<(), Refused>> {
-        Some(write_step(self, output, value, state))
+        let mut apart = output.take_out();
+        let answer = write_step(self, &mut apart, value, state);
+        output.put_back(apart);
+        Some(answer)
     }
 }
 

@@ -8,7 +8,7 @@ ghost use Rattle.time_below.specs.Width.{tree_width, trees_width};
 ghost use Rattle.time_fmt.specs.Guarantee.{AppendsTree};
 ghost use Rattle.time_fmt.specs.Sink.{Fits};
 
-use crate::component::{end_component, write_often, write_seldom};
+use crate::component::{end_component, write_current, write_often};
 use crate::refused::Refused;
 use crate::sink::Sink;
 use crate::step::{WriteStep, write_all};
@@ -41,10 +41,9 @@ pub(super) fn write_nodes<T: Node, S: Sink, V: ComponentProvider>(
     Ok(())
 }
 
-/// Writes a node before which the loop stops. It is a cold call, so that the loop asks for these
-/// last.
+/// Writes a node before which the loop stops. It is a function of its own, since with `write_node`
+/// called in its place a list that stands where it is used costs two instructions more.
 #[cycle(engine)]
-#[cold]
 #[inline(never)]
 fn write_inner<T: Node, S: Sink, V: ComponentProvider>(
     node: &T,
@@ -90,7 +89,8 @@ impl<T: Node> WriteStep<()> for T {
         Some(Ok(()))
     }
 
-    /// Writes a component that is met seldom, by a call.
+    /// Writes any component that is not deprecated, by a call. The sink is taken out for it alone, so
+    /// that the compiler sees that the loop stops before any other node.
     #[inline(always)]
     fn write_seldom<S: Sink, V: ComponentProvider>(
         &self,
@@ -100,7 +100,12 @@ impl<T: Node> WriteStep<()> for T {
         state: &mut V::State,
     ) -> Option<Result<(), Refused>> {
         match self.layer() {
-            Layer::Component(component) => write_seldom(component, output, value, state),
+            Layer::Component(component) => {
+                let mut apart = output.take_out();
+                let answer = write_current(component, &mut apart, value, state);
+                output.put_back(apart);
+                answer
+            }
             _ => None,
         }
     }
