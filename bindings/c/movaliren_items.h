@@ -132,13 +132,13 @@ enum movaliren_padding { MOVALIREN_PAD_ZERO = 0, MOVALIREN_PAD_SPACE = 1, MOVALI
  * bytes, and call it again. It costs somewhat more than a short text.
  *
  * movaliren_items_parse and movaliren_items_parse_strftime read a description into items at the start of the array: in
- * brackets, or in the syntax of strftime. They return the number of items; the error is then unchanged. Each five items that
- * are a date or a time of day are joined in one, where the array has room for the five. The literals of
- * the items are cut from the text: it is the `texts` of each call that is given these items. A text that is no
- * description is MOVALIREN_ERROR_BAD_DESCRIPTION, and the parse error says why. Where the array is too short, they return
- * MOVALIREN_ERROR_MANY_ITEMS and set `items` of the parse error to the number of items, and all else of it to 0. A text
- * with both is MOVALIREN_ERROR_BAD_DESCRIPTION. After an error the first item of the array is invalid: each call that is
- * given it returns MOVALIREN_ERROR_BAD_ITEM.
+ * brackets, or in the syntax of strftime. They return the number of items; the error is then unchanged. Each five
+ * items that are a date or a time of day are joined in one, where the array has room for the five. A literal of one
+ * byte stands in its item. Others are cut from the text: it is the `texts` of each call that is given these items. A
+ * text that is no description is MOVALIREN_ERROR_BAD_DESCRIPTION, and the parse error says why. Where the array is too
+ * short, they return MOVALIREN_ERROR_MANY_ITEMS and set `items` of the parse error to the number of items, and all
+ * else of it to 0. A text with both is MOVALIREN_ERROR_BAD_DESCRIPTION. After an error the first item of the array is
+ * invalid: each call that is given it returns MOVALIREN_ERROR_BAD_ITEM.
  *
  * movaliren_items_read and movaliren_items_read_utc read a text that the items write of a moment, as
  * movaliren_description_read says. The items are tested first. They return 0, or the error: after MOVALIREN_ERROR_NOT_READ

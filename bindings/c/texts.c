@@ -258,6 +258,15 @@ static void try_joined(void)
     expect_true(movaliren_description_has_component(&line), "a date", "no component");
     expect_true(movaliren_description_max_length(&line) == 13 + 1 + 8, "eleven items", "another width");
     expect_text(by, &line, &mail, "1997-11/21 09:55.06");
+    expect_true(movaliren_description_parse_strftime(&line, "%F %T") == 0, "%F %T", "refused");
+    expect_true(line.items_len == 3, "%F %T", "not joined");
+    expect_text(by, &line, &mail, "1997-11-21 09:55:06");
+    expect_true(movaliren_description_parse(&line, "[year]-[month]-[day] [hour]:[minute]:[second]") == 0, "brackets", "refused");
+    expect_true(line.items_len == 3, "brackets", "not joined");
+    expect_text(by, &line, &mail, "1997-11-21 09:55:06");
+    expect_true(movaliren_description_parse_strftime(&line, "%Y%%m%%d %H%%%M:%S") == 0, "percent signs", "refused");
+    expect_true(line.items_len == 6, "percent signs", "other items");
+    expect_text(by, &line, &mail, "1997%m%d 09%55:06");
 }
 
 /* Dates of years that need a sign, and of those that the standard range refuses. */

@@ -1,19 +1,26 @@
 -- Dates and times of day among items, each joined in one item.
-use Rattle.std.proofs.Common.{◌≡◌, ◌<◌, ◌≤◌, ◌+◌, ◌-◌, ◌++◌, ℕ, List, [], ◌∷◌, length, take, drop, set, get_or, map, Result, Ok, Err, refl, sym, ap, subst, ◌∙◌, append_assoc, arith}
+use Rattle.std.proofs.Common.{◌≡◌, ◌<◌, ◌≤◌, ◌+◌, ◌-◌, ◌++◌, ℕ, List, [], ◌∷◌, length, take, drop, set, get_or, map, Result, Ok, Err, refl, sym, ap, subst, ◌∙◌, arith}
 use Rattle.std.proofs.lemmas.Bool.{lt-ltb}
 use Rattle.std.proofs.lemmas.Grind.{common_steps}
-use Rattle.std.proofs.lemmas.List.{append-nil, drop-drop, drop-set-lt, drop_all, drop_more, length-drop, length-set, map-append, take-append-drop, take_all, take_more_set}
+use Rattle.std.proofs.lemmas.List.{append-nil, length-take, map-append, take_all, take_more_set}
+use Rattle.std.proofs.Math.Seq.{take-add}
 use Rattle.movaliren_c.proofs.MeaningLemmas.{same_value, value_of_given}
-use Rattle.movaliren_c.specs.Described.{AreParts, Describes, IsUsual, Joins}
+use Rattle.movaliren_c.specs.Described.{AreParts, Describes, IsItem, IsUsual, Joins, run_of}
 use Rattle.movaliren_c.specs.Items.{component_of, date_component, item_tree, list_of, time_component, trees_of, year_component}
 use Rattle.movaliren_c.specs.Value.{with_value}
 use Rattle.movaliren_c.specs.declared.answers.reason.Reason.{Reason}
 use Rattle.movaliren_c.specs.declared.described.item.Item.{Item}
 use Rattle.time_below.specs.Facts.{Facts}
-use Rattle.time_below.specs.Tree.{Tree, trees, byte_literal, of_component}
+use Rattle.time_below.specs.Tree.{Tree, trees, all_of, byte_literal, of_component}
+use Rattle.time_below.specs.declared.format_description.component.Component.{Component}
+use Rattle.time_describe.specs.Items.{parted, three}
+use Rattle.time_describe.specs.Literal.{literal_of}
+use Rattle.time_describe.specs.declared.items.Parted.{Parted}
+use Rattle.time_describe.specs.declared.items.Parted.TheVariants as whole
 use Rattle.time_fmt.proofs.Engine.{joined}
+use Rattle.time_fmt.proofs.WriteLemmas.{join_nothing}
 use Rattle.time_fmt.specs.Description.{tree_outcome, trees_outcome}
-use Rattle.time_fmt.specs.Outcome.{Outcome, join}
+use Rattle.time_fmt.specs.Outcome.{Outcome, done, join}
 use Rattle.time_fmt.specs.Runs.{year_part, month_part, day_part, hour_part, minute_part, second_part, three_parts}
 
 -- ---- values of two lists
@@ -84,6 +91,36 @@ described_joined text front five rest i all joins d =
           ∙ ap (λ (ts : List Tree). trees_outcome (trees ts) f) (sym parts) ∙ d.same f;
     }
 
+-- one item that shows a tree shows it as all there is
+pub one_shown : (text : List ℕ) (i : Item) (t : Tree) → IsItem text i t → IsItem text i (all_of (trees (t ∷ [])))
+one_shown text i t is = record {
+  tree = is.tree;
+  there = is.there;
+  same = λ f. is.same f ∙ sym (join_nothing (tree_outcome t f));
+}
+
+-- one item more, which shows these trees
+described_more : (text : List ℕ) (front : List Item) (i : Item) (all ts : List Tree) → IsItem text i (all_of (trees ts))
+    → Describes text front all → Describes text (front ++ i ∷ []) (all ++ ts)
+described_more text front i all ts is d =
+    let last : list_of (map (item_tree text) (i ∷ [])) ≡ Ok (is.tree ∷ []) = rw is.there refl in record {
+      description = d.description ++ is.tree ∷ [];
+      there = ap list_of (map-append (item_tree text) front (i ∷ []))
+          ∙ listed_together (map (item_tree text) front) (map (item_tree text) (i ∷ [])) d.description (is.tree ∷ []) d.there last;
+      same = λ f. joined d.description (is.tree ∷ []) f
+          ∙ ap (λ (o : Outcome). join o (trees_outcome (trees (is.tree ∷ [])) f)) (d.same f)
+          ∙ ap (join (trees_outcome (trees all) f)) (join_nothing (tree_outcome is.tree f) ∙ is.same f)
+          ∙ sym (joined all ts f);
+    }
+
+-- in its place of an array
+pub put_behind : (text : List ℕ) (array : List Item) (made : ℕ) (i : Item) (all ts : List Tree) → made < length array
+    → IsItem text i (all_of (trees ts)) → Describes text (take made array) all
+    → Describes text (take (made + 1) (set array made i)) (all ++ ts)
+put_behind text array made i all ts within is d =
+    subst (λ (items : List Item). Describes text items (all ++ ts)) (sym (take_more_set array made i within))
+    (described_more text (take made array) i all ts is d)
+
 -- ---- the five items
 
 pub date_parts : (a b c : Item) → IsUsual a 13 → IsUsual b 4 → IsUsual c 1 → AreParts a b c 253
@@ -135,70 +172,55 @@ five_joined text items other i kind x y five parts is_x is_y is_kind is_start is
   };
 }
 
--- ---- the items so far
+-- one item in the place of the last five
+pub last_joined : (text : List ℕ) (array : List Item) (made : ℕ) (whole : Item) (all : List Tree) → 5 ≤ made → made ≤ length array
+    → Joins text (take 5 (take (made - (made - 5)) (drop (made - 5) array))) whole
+    → Describes text (take made array) all → Describes text (take (made - 4) (set array (made - 5) whole)) all
+last_joined text array made whole all five_made within joins d =
+    let from = made - 5 in
+    let five = take 5 (drop from array) in
+    let size : made - from ≡ 5 = omega (arith, five_made) in
+    let left : take 5 (take (made - from) (drop from array)) ≡ five =
+    ap (λ (n : ℕ). take 5 (take n (drop from array))) size ∙ take_all 5 five (omega (arith, length-take 5 (drop from array))) in
+    let count : made ≡ from + 5 = omega (arith, five_made) in
+    let one : made - 4 ≡ from + 1 = omega (arith, five_made) in
+    let inside : from < length array = omega (arith, five_made, within) in
+    let parts : take made array ≡ take from array ++ (five ++ []) =
+    ap (λ (n : ℕ). take n array) count ∙ take-add from 5 array ∙ ap (λ (rest : List Item). take from array ++ rest) (sym (append-nil five)) in
+    let new : take (made - 4) (set array from whole) ≡ take from array ++ whole ∷ [] =
+    ap (λ (n : ℕ). take n (set array from whole)) one ∙ take_more_set array from whole inside in
+    subst (λ (items : List Item). Describes text items all) (sym new)
+    (described_joined text (take from array) five [] whole all (subst (λ (items : List Item). Joins text items whole) left joins)
+    (subst (λ (items : List Item). Describes text items all) parts d))
 
--- those that are in front and those that are left describe what all did
-pub record JoinedUpTo (text : List ℕ) (old now : List Item) (from to : ℕ) : Type 0 where
-  pub same : (all : List Tree) → Describes text old all → Describes text (take to now ++ drop from now) all
-  pub behind : to ≤ from
-  pub inside : from ≤ length old
-  pub len : length now ≡ length old
+-- ---- a date or a time of day at once
 
-pub none_joined : (text : List ℕ) (items : List Item) → JoinedUpTo text items items 0 0
-none_joined text items = record { same = λ all d. d; behind = omega arith; inside = omega arith; len = refl }
+pub literal_outcome : (bytes : List ℕ) (f : Facts) → done bytes ≡ tree_outcome (literal_of bytes) f
+unfolding literal_of
+literal_outcome bytes f = grind (arith, common_steps)
 
-put_behind : (items : List Item) (from to : ℕ) (i : Item) → to < length items → to < from
-    → take (to + 1) (set items to i) ++ drop from (set items to i) ≡ take to items ++ (i ∷ drop from items)
-put_behind items from to i within before =
-    rw (take_more_set items to i within, drop-set-lt from items to i before) (append_assoc (take to items) (i ∷ []) (drop from items))
+three_same : (p q r : Component) (a b : ℕ) (f : Facts) → tree_outcome (three_parts p a q b r) f ≡ trees_outcome (trees (three p a q b r)) f
+three_same p q r a b f =
+    let last = join (tree_outcome (of_component r) f) (done []) in
+    ap (λ (o : Outcome). join (tree_outcome (of_component p) f) (join o (join (tree_outcome (of_component q) f) (join (done (b ∷ [])) last))))
+    (literal_outcome (a ∷ []) f)
+    ∙ ap (λ (o : Outcome). join (tree_outcome (of_component p) f) (join (tree_outcome (literal_of (a ∷ [])) f)
+    (join (tree_outcome (of_component q) f) (join o last)))) (literal_outcome (b ∷ []) f)
 
--- an item that is moved
-moved_more : (text : List ℕ) (old now : List Item) (from to : ℕ) (d : Item) → from < length now
-    → JoinedUpTo text old now from to → JoinedUpTo text old (set now to (get_or now from d)) (from + 1) (to + 1)
-moved_more text old now from to d within so_far = record {
-  same = λ all h. subst (λ (items : List Item). Describes text items all)
-      (ap (λ (rest : List Item). take to now ++ rest) (drop_more now from d within)
-      ∙ sym (put_behind now (from + 1) to (get_or now from d) (omega (arith, so_far.behind)) (omega (arith, so_far.behind))))
-      (so_far.same all h);
-  behind = omega (arith, so_far.behind);
-  inside = omega (arith, so_far.len);
-  len = length-set now to (get_or now from d) ∙ so_far.len;
+pub date_is : (text : List ℕ) (a b : ℕ) → a < 128 → b < 128 → IsItem text (run_of 253 a b) (all_of (trees (parted whole.Date a b)))
+date_is text a b small_a small_b = record {
+  tree = three_parts year_part a month_part b day_part;
+  there = rw (lt-ltb a 128 small_a, lt-ltb b 128 small_b) refl;
+  same = λ f. three_same year_part month_part day_part a b f;
 }
 
--- five items that are joined
-joined_more : (text : List ℕ) (old now : List Item) (from to : ℕ) (i : Item) → 5 ≤ length (drop from now)
-    → Joins text (take 5 (drop from now)) i → JoinedUpTo text old now from to
-    → JoinedUpTo text old (set now to i) (from + 5) (to + 1)
-joined_more text old now from to i five joins so_far =
-    let within : from + 5 ≤ length now = omega (arith, length-drop from now) in
-    let parts : drop from now ≡ take 5 (drop from now) ++ drop (from + 5) now =
-    sym (ap (λ (rest : List Item). take 5 (drop from now) ++ rest) (sym (drop-drop 5 from now)) ∙ take-append-drop 5 (drop from now)) in record {
-      same = λ all h. subst (λ (items : List Item). Describes text items all)
-          (sym (put_behind now (from + 5) to i (omega (arith, so_far.behind)) (omega (arith, so_far.behind))))
-          (described_joined text (take to now) (take 5 (drop from now)) (drop (from + 5) now) i all joins
-          (subst (λ (rest : List Item). Describes text (take to now ++ rest) all) parts (so_far.same all h)));
-      behind = omega (arith, so_far.behind);
-      inside = omega (arith, so_far.len);
-      len = length-set now to i ∙ so_far.len;
-    }
+pub time_is : (text : List ℕ) (a b : ℕ) → a < 128 → b < 128 → IsItem text (run_of 252 a b) (all_of (trees (parted whole.Time a b)))
+time_is text a b small_a small_b = record {
+  tree = three_parts hour_part a minute_part b second_part;
+  there = rw (lt-ltb a 128 small_a, lt-ltb b 128 small_b) refl;
+  same = λ f. three_same hour_part minute_part second_part a b f;
+}
 
-pub moved_next : (text : List ℕ) (old now new : List Item) (from to next : ℕ) (d : Item) → from < length now
-    → new ≡ set now to (get_or now from d) → next ≡ from + 1 → JoinedUpTo text old now from to
-    → JoinedUpTo text old new next (to + 1)
-moved_next text old now new from to next d within is is_next so_far =
-    rw (is, is_next) (moved_more text old now from to d within so_far)
-
-pub joined_next : (text : List ℕ) (old now new : List Item) (from to next : ℕ) (i : Item)
-    → 5 ≤ length (take (length now - from) (drop from now)) → Joins text (take 5 (take (length now - from) (drop from now))) i
-    → new ≡ set now to i → next ≡ from + 5 → JoinedUpTo text old now from to → JoinedUpTo text old new next (to + 1)
-joined_next text old now new from to next i five joins is is_next so_far =
-    let left : take (length now - from) (drop from now) ≡ drop from now = take_all _ _ (omega (arith, length-drop from now)) in
-    rw (is, is_next) (joined_more text old now from to i (subst (λ (items : List Item). 5 ≤ length items) left five)
-    (subst (λ (items : List Item). Joins text (take 5 items) i) left joins) so_far)
-
--- no item is left
-pub all_joined : (text : List ℕ) (old now : List Item) (from to : ℕ) → length now ≤ from → JoinedUpTo text old now from to
-    → (all : List Tree) → Describes text old all → Describes text (take to now) all
-all_joined text old now from to past so_far all h =
-    subst (λ (items : List Item). Describes text items all)
-    (ap (λ (rest : List Item). take to now ++ rest) (drop_all from now past) ∙ append-nil (take to now)) (so_far.same all h)
+pub parted_len : (w : Parted) (a b : ℕ) → length (parted w a b) ≡ 5
+parted_len whole.Date a b = refl
+parted_len whole.Time a b = refl

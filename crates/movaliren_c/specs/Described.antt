@@ -1,5 +1,5 @@
 -- What calls leave that read a text as a description.
-use Rattle.std.specs.Prelude.{ℕ, ◌≡◌, ◌<◌, ◌≤◌, ◌-◌, ◌++◌, min, Option, Bool, true, false, nat_le, List, [], ◌∷◌, length, take, Result, Ok, Err, IsOkAnd, if◌then◌else◌}
+use Rattle.std.specs.Prelude.{ℕ, ◌≡◌, ◌<◌, ◌≤◌, ◌+◌, ◌-◌, ◌++◌, min, Option, Bool, true, false, nat_le, List, [], ◌∷◌, length, take, Result, Ok, Err, IsOkAnd, if◌then◌else◌}
 use Rattle.movaliren_c.specs.Flat.{first_shown, flat_items, hidden_at, shown_in}
 use Rattle.movaliren_c.specs.Items.{component_of, item_tree, parted_tree, trees_of}
 use Rattle.movaliren_c.specs.declared.described.item.Item.{Item}
@@ -49,34 +49,35 @@ pub record IsItem (text : List ℕ) (i : Item) (t : Tree) : Type 0 where
   pub there : item_tree text i ≡ Ok tree
   pub same : (f : Facts) → tree_outcome tree f ≡ tree_outcome t f
 
--- each item shows what the tree at its place does
-abbrev pub AreItems : List ℕ → List Item → List Tree → Type 0
-AreItems text [] [] = Unit {0}
-AreItems text [] (t ∷ ts) = ⊥
-AreItems text (i ∷ is) [] = ⊥
-AreItems text (i ∷ is) (t ∷ ts) = IsItem text i t × AreItems text is ts
+-- the items are a description that gives what the trees do, of any value
+pub record Describes (text : List ℕ) (items : List Item) (all : List Tree) : Type 0 where
+  pub description : List Tree
+  pub there : trees_of text items ≡ Ok description
+  pub same : (f : Facts) → trees_outcome (trees description) f ≡ trees_outcome (trees all) f
 
--- An array, and how many items there are, up to the greatest `usize`: one for each tree. If all of them fit, they are at
--- the start of the array.
-pub record HoldsItems (text : List ℕ) (array : List Item) (count : ℕ) (ts : List Tree) : Type 0 where
-  pub counted : count ≡ min (length ts) 0xffff_ffff_ffff_ffff
-  pub held : length ts ≤ length array → AreItems text (take (length ts) array) ts
+-- An array, how many items were made of those of a text, and how many more it has, up to the greatest `usize`. There is
+-- one for each tree, or one for a date or a time of day. If the array has room for all that the text has, those that were
+-- made are at its start.
+pub record HoldsItems (text : List ℕ) (array : List Item) (made rest : ℕ) (ts : List Tree) : Type 0 where
+  pub counted : min (made + rest) 0xffff_ffff_ffff_ffff ≡ min (length ts) 0xffff_ffff_ffff_ffff
+  pub fewer : made ≤ length ts
+  pub held : length ts ≤ length array → Describes text (take made array) ts
 
 -- the same of what is shown of items in open lists, of which so many are around the outermost one that is left out
-pub record HoldsIn (text : List ℕ) (fs : List Frame) (array : List Item) (count : ℕ) (outermost : Option ℕ) (items : List Tree) : Type 0 where
+pub record HoldsIn (text : List ℕ) (fs : List Frame) (array : List Item) (made rest : ℕ) (outermost : Option ℕ) (items : List Tree) : Type 0 where
   pub hidden : outermost ≡ hidden_at fs
-  pub held : HoldsItems text array count (shown_in fs (flat_items items))
+  pub held : HoldsItems text array made rest (shown_in fs (flat_items items))
 
 -- and of lists in brackets, behind items
-pub record HoldsListsIn (text : List ℕ) (fs : List Frame) (items : List Tree) (array : List Item) (count : ℕ) (outermost : Option ℕ) (lists : List Tree) : Type 0 where
+pub record HoldsListsIn (text : List ℕ) (fs : List Frame) (items : List Tree) (array : List Item) (made rest : ℕ) (outermost : Option ℕ) (lists : List Tree) : Type 0 where
   pub hidden : outermost ≡ hidden_at fs
-  pub held : HoldsItems text array count (shown_in fs (flat_items items ++ first_shown lists []))
+  pub held : HoldsItems text array made rest (shown_in fs (flat_items items ++ first_shown lists []))
 
--- an array has the items of a text, as far as they fit
-pub record IsHeld (text : List ℕ) (described : Result (List Tree) ParseError) (array : List Item) (count : ℕ) : Type 0 where
+-- an array has what was made of the items of a text, if they fit
+pub record IsHeld (text : List ℕ) (described : Result (List Tree) ParseError) (array : List Item) (made rest : ℕ) : Type 0 where
   pub all : List Tree
   pub is : described ≡ Ok all
-  pub held : HoldsItems text array count all
+  pub held : HoldsItems text array made rest all
 
 -- ---- dates and times of day
 
@@ -86,6 +87,10 @@ pub record IsUsual (i : Item) (kind : ℕ) : Type 0 where
   pub padding_is : i.padding ≡ 0
   pub flag_is : i.flag ≡ 0
   pub digits_is : i.digits ≡ 0
+
+-- the item of a kind of a date or a time of day, with these bytes between its parts
+abbrev pub run_of : ℕ → ℕ → ℕ → Item
+run_of kind first second = record { kind = kind; padding = 0; flag = 0; digits = 0; byte = 0; start = first; len = second }
 
 -- three items are the components of an item of this kind, with a byte between each two
 pub record AreParts (first second third : Item) (kind : ℕ) : Type 0 where
@@ -154,12 +159,6 @@ abbrev pub bracket_items : List ℕ → Result (List Tree) ParseError
 bracket_items text = items_in bracket_number text (reading.described text)
 
 -- ---- what is left
-
--- the items are a description that gives what the trees do, of any value
-pub record Describes (text : List ℕ) (items : List Item) (all : List Tree) : Type 0 where
-  pub description : List Tree
-  pub there : trees_of text items ≡ Ok description
-  pub same : (f : Facts) → trees_outcome (trees description) f ≡ trees_outcome (trees all) f
 
 -- an item of zeros alone, which is none
 abbrev pub no_item : Item

@@ -309,7 +309,7 @@ fn write_usual<S: Sink, V: ComponentProvider>(
     }
 }
 
-/// Writes a date or a time of day. Of any other item writes nothing, and returns `None`.
+/// Writes a date, a time of day or a byte. Of any other item writes nothing, and returns `None`.
 #[inline(always)]
 fn write_usual_run<S: Sink, V: ComponentProvider>(
     head: u64,
@@ -334,6 +334,10 @@ fn write_usual_run<S: Sink, V: ComponentProvider>(
         252 => {
             let between = separators_of(item).ok()?;
             Some(write_run(&Run::Time(between), output, value, state))
+        }
+        _ if item.kind == 254 => {
+            output.put_byte(item.byte);
+            Some(Ok(()))
         }
         _ => None,
     }

@@ -17,3 +17,4 @@ pub mod StrftimeConversions
 pub mod StrftimeParts
 pub mod StrftimeLaws
 pub mod CountedLemmas
+pub mod PartedLemmas

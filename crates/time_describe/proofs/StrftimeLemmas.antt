@@ -72,7 +72,7 @@ part_refused before (b ∷ bs) fault some is = refuse before b bs fault is
 
 -- ---- a literal of one byte
 
-literal_alone : (b : ℕ) (bs : List ℕ) → (b == 37) ≡ false → before_first is_percent bs ≡ []
+pub literal_alone : (b : ℕ) (bs : List ℕ) → (b == 37) ≡ false → before_first is_percent bs ≡ []
     → first_part (b ∷ bs) ≡ Ok (record { items = literal_of (b ∷ []) ∷ []; behind = 0 })
 unfolding first_part
 literal_alone b bs other alone = rw (other, alone) refl

@@ -1,5 +1,5 @@
 -- What calls return that read the syntax of strftime.
-use Rattle.std.specs.Prelude.{◌≡◌, ℕ, ◌+◌, ◌-◌, ◌<◌, Bool, true, false, IsTrue, IsOk, List, [], ◌∷◌, take, drop, Some, Result, Ok, Err}
+use Rattle.std.specs.Prelude.{◌≡◌, ℕ, ◌+◌, ◌-◌, ◌<◌, ◌==◌, Bool, true, false, IsTrue, IsOk, List, [], ◌∷◌, take, drop, Some, Result, Ok, Err}
 use Rattle.time_below.specs.Tree.{Tree, trees, of_component, all_of}
 use Rattle.time_below.specs.declared.format_description.component.Component.{Component}
 use Rattle.time_describe.specs.Description.{Fails}
@@ -7,6 +7,8 @@ use Rattle.time_describe.specs.Conversions.{component_of, offset, composed}
 use Rattle.time_describe.specs.Items.{Adds, are_leaves}
 use Rattle.time_describe.specs.Literal.{literal_of}
 use Rattle.time_describe.specs.Strftime.{Front, read}
+use Rattle.time_describe.specs.declared.items.Parted.{Parted}
+use Rattle.time_describe.specs.declared.items.Parted.TheVariants as whole
 use Rattle.time_describe.specs.declared.fault.Fault.{Fault}
 use Rattle.time_describe.specs.declared.fault.Failure.{Failure}
 use Rattle.time_describe.specs.declared.strftime.reason.StrftimeReason.{StrftimeReason}
@@ -38,6 +40,18 @@ pub record AddsFront {S : Type 0} (Holds : S → List Tree → Type 0) (old new 
   pub counted : len ≡ front.behind + 1
   pub leaves : IsTrue (are_leaves front.items)
   pub added : Adds Holds old new front.items
+
+-- the letters of a date or of a time of day
+abbrev pub letters : Parted → ℕ × ℕ × ℕ
+letters whole.Date = (89, 109, 100)
+letters whole.Time = (72, 77, 83)
+
+-- a text begins with a date or a time of day that has these bytes between its parts, which are no percent signs
+pub record BeginsParted (text : List ℕ) (w : Parted) (first second : ℕ) : Type 0 where
+  pub rest : List ℕ
+  pub spelled : text ≡ 37 ∷ (letters w).0 ∷ first ∷ 37 ∷ (letters w).1 ∷ second ∷ 37 ∷ (letters w).2 ∷ rest
+  pub first_plain : (first == 37) ≡ false
+  pub second_plain : (second == 37) ≡ false
 
 -- a list holds the items so far, and reading goes on at a place of the text
 abbrev pub IsAt : List ℕ → ℕ → (List Tree → Type 0) → Result (List Tree) (Fault StrftimeReason) → Type 0

@@ -1,16 +1,17 @@
 //! Where the items of a text go.
-ghost use Rattle.std.specs.Prelude.{◌≡◌, ◌+◌, ◌≤◌, ◌∷◌, ◌++◌, [], ℕ, List, Bool, Option, length};
+ghost use Rattle.std.specs.Prelude.{◌≡◌, ◌+◌, ◌<◌, ◌≤◌, ◌∷◌, ◌++◌, [], ℕ, List, Bool, Option, length};
 ghost use Rattle.std.specs.Prelude.{min, slice_range, IsTrue, IfErr, OnOk};
 ghost use base.Fml.{GName};
 ghost use Rattle.time_below.specs.Tree.{Tree, trees, of_component, all_of};
-ghost use Rattle.time_describe.specs.Items.{Adds, are_leaves, is_nil};
+ghost use Rattle.time_describe.specs.Items.{Adds, are_leaves, is_nil, parted, three};
 ghost use Rattle.time_describe.specs.Literal.{literal_of};
 ghost use Rattle.time_describe.specs.Reading.{Frame};
 ghost use Rattle.time_describe.specs.Reading as reading;
 ghost use Rattle.time_describe.specs.declared.items.Nest.{Nest};
 
 use std::alloc::AllocError;
-use time_below::format_description::Component;
+use time_below::format_description::modifier::Padding;
+use time_below::format_description::{Component, modifier};
 
 /// What lists of items in brackets are for.
 #[derive(Clone, Copy)]
@@ -19,6 +20,39 @@ pub enum Nest {
     Optional,
     /// Lists of which a parser takes the first that fits.
     First,
+}
+
+/// Three numbers with zeros before them, which most texts have together.
+#[derive(Clone, Copy)]
+pub enum Parted {
+    /// A year, a month and a day.
+    Date,
+    /// An hour of 24, a minute and a second.
+    Time,
+}
+
+impl Parted {
+    /// The three, in order.
+    fn components(self) -> (Component, Component, Component)
+        ensures { (a b : ℕ) → three result.0 a result.1 b result.2 ≡ parted self a b }
+    {
+        let padding = Padding::Zero;
+        match self {
+            Parted::Date => (
+                Component::CalendarYearFullExtendedRange(modifier::CalendarYearFullExtendedRange {
+                    padding,
+                    sign_is_mandatory: false,
+                }),
+                Component::MonthNumerical(modifier::MonthNumerical { padding }),
+                Component::Day(modifier::Day { padding }),
+            ),
+            Parted::Time => (
+                Component::Hour24(modifier::Hour24 { padding }),
+                Component::Minute(modifier::Minute { padding }),
+                Component::Second(modifier::Second { padding }),
+            ),
+        }
+    }
 }
 
 /// Items that are added at the end of a list, and lists of them in one another.
@@ -57,6 +91,25 @@ pub trait Items {
             (literal_of (slice_range text.now start (start + len)) ∷ [])) }
         ensures refusal { IfErr result (λ _. IsTrue can_refuse) }
         ensures lender { lender self.new ≡ lender self.old };
+
+    /// Adds three numbers, with a byte of ASCII as a literal between each two: five items, where no
+    /// list is open.
+    fn put_parted(&mut self, whole: Parted, first: u8, second: u8) -> Result<(), AllocError>
+        requires first { first < 128 }
+        requires second { second < 128 }
+        ensures put { OnOk result ((text : List ℕ)
+            → Adds (Holds text []) self.old self.new (parted whole first second)) }
+        ensures refusal { IfErr result (λ _. IsTrue can_refuse) }
+        ensures lender { lender self.new ≡ lender self.old }
+    {
+        let (one, two, three) = whole.components();
+        self.put_component(one)?;
+        self.put_byte(first)?;
+        self.put_component(two)?;
+        self.put_byte(second)?;
+        self.put_component(three)?;
+        Ok(())
+    }
 
     /// How many items there are, up to the greatest `usize`, where they are literals and components
     /// alone.

@@ -16,7 +16,7 @@ pub use brackets::in_text::InText;
 pub use brackets::reason::BracketReason;
 pub use brackets::{Brackets, parse_owned};
 pub use fault::{Failure, Fault, InvalidDescription, InvalidStrftime};
-pub use items::{Items, Nest};
+pub use items::{Items, Nest, Parted};
 pub use strftime::reason::StrftimeReason;
 pub use strftime::{Strftime, parse_strftime_owned};
 pub use syntax::{Syntax, describe, parse};

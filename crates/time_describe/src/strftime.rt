@@ -6,17 +6,18 @@
 //!
 //! `inline(never)` keeps long or rare bodies out of their callers.
 ghost use Rattle.std.specs.Prelude.{◌≡◌, ◌+◌, ◌<◌, ◌≤◌, ℕ, List, [], length, drop, slice_range, Ok};
-ghost use Rattle.std.specs.Prelude.{IfOk, IfErr, OnOk, IsTrue, IsFalse};
+ghost use Rattle.std.specs.Prelude.{IfOk, IfErr, IfSome, OnOk, IsTrue, IsFalse};
 ghost use Rattle.std.specs.List.{before_first};
 ghost use Rattle.time_below.specs.Tree.{Tree, owned_tree};
 ghost use Rattle.time_describe.specs.Conversions.{composed, offset};
 ghost use Rattle.time_describe.specs.Items.{Adds, are_leaves};
 ghost use Rattle.time_describe.specs.Description.{tree_of, Fails, IsWithin, Says, SaysFault};
 ghost use Rattle.time_describe.specs.Strftime.{described, first_part, is_percent, read};
-ghost use Rattle.time_describe.specs.StrftimeOutcome.{AddsFront, AddsLetter, GoesOn, items_of_part};
+ghost use Rattle.time_describe.specs.StrftimeOutcome.{AddsFront, AddsLetter, BeginsParted, GoesOn};
+ghost use Rattle.time_describe.specs.StrftimeOutcome.{IsAt, items_of_part};
 
 use crate::fault::{Failure, Fault, InvalidStrftime};
-use crate::items::Items;
+use crate::items::{Items, Parted};
 use crate::literal::MOST_ITEMS;
 use crate::syntax::{Syntax, parse};
 use crate::text::first_and_rest;
@@ -224,6 +225,47 @@ fn put_front<I: Items>(
     Ok(behind + 1)
 }
 
+/// The date or the time of day that a text begins with, and the bytes of ASCII between its parts.
+fn parted_front(text: &[u8]) -> Option<(Parted, u8, u8)>
+    ensures spelled { IfSome result (λ x. BeginsParted text.now x.0 x.1 x.2) }
+    ensures first { IfSome result (λ x. x.1 < 128) }
+    ensures second { IfSome result (λ x. x.2 < 128) }
+{
+    let [b'%', one, first, b'%', two, second, b'%', three, ..] = text else {
+        return None;
+    };
+    if *first == b'%' || *second == b'%' || !first.is_ascii() || !second.is_ascii() {
+        return None;
+    }
+    match (*one, *two, *three) {
+        (b'Y', b'm', b'd') => Some((Parted::Date, *first, *second)),
+        (b'H', b'M', b'S') => Some((Parted::Time, *first, *second)),
+        _ => None,
+    }
+}
+
+/// Adds the date or the time of day at a position of the text, if one is there and its five items
+/// are not too many. Returns whether it did.
+fn put_parted_at<I: Items>(items: &mut I, text: &[u8], at: usize) -> Result<bool, AllocError>
+    requires { at < length text.now }
+    ensures put { IfOk result (λ is_put. IsTrue is_put → (before : List Tree)
+        → IsTrue (are_leaves before) → I.Holds text.now [] items.old before
+        → IsAt text.now (at + 8) (I.Holds text.now [] items.new) (read before 0 (drop at text.now))) }
+    ensures within { IfOk result (λ is_put. IsTrue is_put → at + 8 ≤ length text.now) }
+    ensures nothing { IfOk result (λ is_put. IsFalse is_put → items.new ≡ items.old) }
+    ensures refusal { IfErr result (λ _. IsTrue I.can_refuse) }
+    ensures lender { I.lender items.new ≡ I.lender items.old }
+{
+    let Some((whole, first, second)) = parted_front(&text[at..]) else {
+        return Ok(false);
+    };
+    if items.len() > MOST_ITEMS - 5 {
+        return Ok(false);
+    }
+    items.put_parted(whole, first, second)?;
+    Ok(true)
+}
+
 /// Reads the part at a position of the text, and returns the position after it.
 fn step<I: Items>(items: &mut I, text: &[u8], at: usize) -> Result<usize, Failure<StrftimeReason>>
     requires { at < length text.now }
@@ -245,6 +287,28 @@ fn step<I: Items>(items: &mut I, text: &[u8], at: usize) -> Result<usize, Failur
     Ok(at + len)
 }
 
+/// Reads the part at a position of the text, or a date or a time of day at once, and returns the
+/// position after it.
+fn read_on<I: Items>(
+    items: &mut I,
+    text: &[u8],
+    at: usize,
+) -> Result<usize, Failure<StrftimeReason>>
+    requires { at < length text.now }
+    ensures goes_on { (before : List Tree) → IsTrue (are_leaves before)
+        → I.Holds text.now [] items.old before
+        → GoesOn I.can_refuse text.now (I.Holds text.now [] items.new) result
+        (read before 0 (drop at text.now)) }
+    ensures further { IfOk result (λ next. at < next) }
+    ensures within { IfOk result (λ next. next ≤ length text.now) }
+    ensures lender { I.lender items.new ≡ I.lender items.old }
+{
+    if put_parted_at(items, text, at)? {
+        return Ok(at + 8);
+    }
+    step(items, text, at)
+}
+
 impl Syntax for Strftime {
     type Reason = StrftimeReason;
 
@@ -253,7 +317,7 @@ impl Syntax for Strftime {
     fn put_all<I: Items>(items: &mut I, text: &[u8]) -> Result<(), Failure<StrftimeReason>> {
         let mut at = 0;
         'steps: while at < text.len() {
-            at = step(items, text, at)?;
+            at = read_on(items, text, at)?;
         }
         Ok(())
     }

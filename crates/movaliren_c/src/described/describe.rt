@@ -12,7 +12,6 @@ ghost use Rattle.time_below.specs.Facts.{facts_of_offset_date_time, facts_of_tim
 use crate::answers::reason::{Reason, answer_number};
 use crate::described::item::Item;
 use crate::described::item_room::ItemRoom;
-use crate::described::join::join;
 use crate::described::made_item::NO_ITEM;
 use crate::described::syntax::{Numbered, ParseError, put_items};
 use crate::described::write_described;
@@ -130,10 +129,7 @@ fn describe<S: Syntax<Reason: Numbered>>(
 {
     let mut room = ItemRoom::new(items);
     match put_items::<S>(&mut room, text) {
-        Ok(()) if room.is_complete() => {
-            let count = room.count();
-            Ok(join(&mut items[..count], text))
-        }
+        Ok(()) if room.is_complete() => Ok(room.made()),
         Ok(()) => {
             *fault = ParseError::many(room.count());
             room.clear();

@@ -2,81 +2,129 @@
 //!
 //! Without `inline(always)` the compiler leaves calls of the functions that have it.
 ghost use Rattle.std.specs.Prelude.{◌≡◌, ◌+◌, ◌<◌, ◌≤◌, ◌∷◌, [], List, ℕ, Option, None, length};
-ghost use Rattle.std.specs.Prelude.{min, nat_le, slice_set};
-ghost use Rattle.movaliren_c.specs.Described.{DescribeNothing, HoldsIn, HoldsListsIn, IsItem};
+ghost use Rattle.std.specs.Prelude.{◌++◌, min, nat_le, slice_set};
+ghost use Rattle.movaliren_c.specs.Described.{DescribeNothing, HoldsIn, HoldsItems, HoldsListsIn};
+ghost use Rattle.movaliren_c.specs.Described.{IsItem, no_item};
 ghost use Rattle.movaliren_c.specs.Flat.{closed_at, flat, or_at};
-ghost use Rattle.time_below.specs.Tree.{Tree};
+ghost use Rattle.time_below.specs.Tree.{Tree, all_of, trees};
 ghost use Rattle.time_describe.specs.Items.{Adds};
 ghost use Rattle.time_describe.specs.Reading.{Frame};
 
 use crate::described::item::Item;
-use crate::described::made_item::{NO_ITEM, byte_item, item_of, text_item};
+use crate::described::join::join_last;
+use crate::described::made_item::{NO_ITEM, byte_item, item_of, parted_item, text_item};
 use std::alloc::AllocError;
 use time_below::format_description::Component;
-use time_describe::{Items, Nest};
+use time_describe::{Items, Nest, Parted};
 
-/// Items at the start of an array. Those that do not fit are counted alone. Those of lists that are
-/// not the first in their brackets are left out.
+/// Items at the start of an array, where each date and each time of day is one. Those that do not
+/// fit are counted alone. Those of lists that are not the first in their brackets are left out.
 #[derive(Drop)]
 pub struct ItemRoom<'a> {
     array: &'a mut [Item],
-    count: usize,
+    // How many were made of the items of the text, and how many more it has.
+    made: usize,
+    rest: usize,
     hidden_at: Option<usize>,
 }
 
 impl<'a> ItemRoom<'a> {
     /// No items.
     pub fn new(array: &'a mut [Item]) -> ItemRoom<'a>
-        ensures count { result.count ≡ 0 }
+        ensures made { result.made ≡ 0 }
+        ensures rest { result.rest ≡ 0 }
         ensures hidden { result.hidden_at ≡ None }
         ensures same_reference { result.array.ghost_name ≡ array.entry.ghost_name }
         ensures array { result.array.now ≡ array.old }
     {
         ItemRoom {
             array,
-            count: 0,
+            made: 0,
+            rest: 0,
             hidden_at: None,
         }
     }
 
-    /// How many items there are, up to the greatest `usize`.
+    /// How many items the text has, up to the greatest `usize`.
     pub fn count(&self) -> usize
-        ensures { result ≡ self.now.count }
+        ensures { result ≡ min (self.now.made + self.now.rest) 0xffff_ffff_ffff_ffff }
     {
-        self.count
+        self.made.saturating_add(self.rest)
     }
 
-    /// Whether all of them are in the array.
+    /// How many items are in the array, where it has room for all that the text has.
+    pub fn made(&self) -> usize
+        ensures { result ≡ self.now.made }
+    {
+        self.made
+    }
+
+    /// Whether the array has room for all that the text has.
     pub fn is_complete(&self) -> bool
-        ensures value { result ≡ nat_le self.now.count (length self.now.array.now) }
+        ensures value { result ≡ nat_le (min (self.now.made + self.now.rest) 0xffff_ffff_ffff_ffff)
+            (length self.now.array.now) }
         ensures size { length self.now.array.now < 0xffff_ffff_ffff_ffff }
     {
-        self.count <= self.array.len()
+        self.count() <= self.array.len()
     }
 
     /// Makes the first item of the array none.
     #[tactic(auto, using(crate::proofs::ItemLemmas::cleared))]
     pub fn clear(&mut self)
         ensures cleared { DescribeNothing self.new.array.now }
-        ensures count { self.new.count ≡ self.old.count }
+        ensures made { self.new.made ≡ self.old.made }
+        ensures rest { self.new.rest ≡ self.old.rest }
         ensures len { length self.new.array.now ≡ length self.old.array.now }
         ensures same_reference { self.new.array.ghost_name ≡ self.old.array.ghost_name }
     {
-        store(self.array, 0, NO_ITEM);
+        make_none(self.array);
+    }
+
+    /// Adds an item behind those that were made, if the array has room for it. It shows what so many
+    /// items of the text do, and one more.
+    fn push(&mut self, item: Item, others: usize)
+        ensures pushed { (text : List ℕ) (all more : List Tree) → length more ≡ others + 1
+            → IsItem text item (all_of (trees more))
+            → HoldsItems text self.old.array.now self.old.made self.old.rest all
+            → HoldsItems text self.new.array.now self.new.made self.new.rest (all ++ more) }
+        ensures hidden { self.new.hidden_at ≡ self.old.hidden_at }
+        ensures same_reference { self.new.array.ghost_name ≡ self.old.array.ghost_name }
+    {
+        self.rest = self.rest.saturating_add(others);
+        if self.made < self.array.len() {
+            self.array[self.made] = item;
+            self.made += 1;
+        } else {
+            self.rest = self.rest.saturating_add(1);
+        }
     }
 
     /// Adds an item behind all others, unless it is left out.
     fn put(&mut self, item: Item)
         ensures put { (text : List ℕ) (fs : List Frame) (tree : Tree) → IsItem text item tree → flat tree ≡ tree ∷ []
-            → Adds (λ room all. HoldsIn text fs room.array.now room.count room.hidden_at all) self.old self.new (tree ∷ []) }
+            → Adds (λ room all. HoldsIn text fs room.array.now room.made room.rest room.hidden_at all) self.old self.new (tree ∷ []) }
         ensures same_reference { self.new.array.ghost_name ≡ self.old.array.ghost_name }
     {
         if self.hidden_at.is_some() {
             return;
         }
-        let (at, room) = (self.count, self.array.len());
-        store(self.array, at, item);
-        self.count = one_more(at, room);
+        self.push(item, 0);
+    }
+
+    /// Makes one item of the last five where they are a date or a time of day: the last one is then
+    /// of the kind of a day or of a second.
+    #[tactic(auto, using(crate::proofs::ItemLemmas::fewer_held))]
+    fn join(&mut self, kind: u32)
+        ensures same { (text : List ℕ) (fs : List Frame) (all : List Tree)
+            → HoldsIn text fs self.old.array.now self.old.made self.old.rest self.old.hidden_at all
+            → HoldsIn text fs self.new.array.now self.new.made self.new.rest self.new.hidden_at all }
+        ensures same_reference { self.new.array.ghost_name ≡ self.old.array.ghost_name }
+    {
+        if kind == 1 || kind == 27 {
+            let made = join_last(self.array, self.made);
+            self.rest = self.rest.saturating_add(self.made - made);
+            self.made = made;
+        }
     }
 }
 
@@ -101,35 +149,22 @@ fn closed_at(hidden_at: Option<usize>, depth: usize) -> Option<usize>
     }
 }
 
-/// One item more than so many, up to the greatest `usize`. Where there is room for it, no sum is
-/// tested.
-fn one_more(count: usize, room: usize) -> usize
-    ensures { result ≡ min (count + 1) 0xffff_ffff_ffff_ffff }
-{
-    if count < room {
-        count + 1
-    } else {
-        count.saturating_add(1)
-    }
-}
-
-/// Stores an item at a place of the array, if it has that place.
-fn store(array: &mut [Item], at: usize, item: Item)
-    ensures stored { at < length array.old → array.new ≡ slice_set array.old at item }
+/// Makes the first item of an array none.
+fn make_none(array: &mut [Item])
+    ensures stored { 0 < length array.old → array.new ≡ slice_set array.old 0 no_item }
     ensures len { length array.new ≡ length array.old }
-    ensures size { length array.old ≤ 0xffff_ffff_ffff_ffff }
 {
-    if at < array.len() {
-        array[at] = item;
+    if !array.is_empty() {
+        array[0] = NO_ITEM;
     }
 }
 
 impl Items for ItemRoom<'_> {
     ghost use Rattle.std.specs.Prelude.{Some, false};
 
-    ghost Holds = { λ text fs room items. HoldsIn text fs room.array.now room.count room.hidden_at items };
+    ghost Holds = { λ text fs room items. HoldsIn text fs room.array.now room.made room.rest room.hidden_at items };
 
-    ghost HoldsLists = { λ text fs _ items room lists. HoldsListsIn text fs items room.array.now room.count room.hidden_at lists };
+    ghost HoldsLists = { λ text fs _ items room lists. HoldsListsIn text fs items room.array.now room.made room.rest room.hidden_at lists };
 
     ghost can_refuse = { false };
 
@@ -137,7 +172,9 @@ impl Items for ItemRoom<'_> {
 
     #[inline(always)]
     fn put_component(&mut self, component: Component) -> Result<(), AllocError> {
-        self.put(item_of(component));
+        let item = item_of(component);
+        self.put(item);
+        self.join(item.kind);
         Ok(())
     }
 
@@ -151,9 +188,14 @@ impl Items for ItemRoom<'_> {
         Ok(())
     }
 
+    fn put_parted(&mut self, whole: Parted, first: u8, second: u8) -> Result<(), AllocError> {
+        self.push(parted_item(whole, first, second), 4);
+        Ok(())
+    }
+
     #[tactic(auto, using(crate::proofs::ItemLemmas::counted_leaves))]
     fn len(&self) -> usize {
-        self.count
+        self.count()
     }
 
     #[tactic(auto, using(crate::proofs::ItemLemmas::begun))]

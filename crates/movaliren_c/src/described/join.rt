@@ -1,49 +1,46 @@
 //! Dates and times of day among the items of a text, each in one item.
-ghost use Rattle.std.specs.Prelude.{◌≡◌, ◌≤◌, ◌<◌, ◌^◌, IfSome, IsTrue, List, length, take};
+ghost use Rattle.std.specs.Prelude.{◌≡◌, ◌≤◌, ◌<◌, ◌∷◌, ◌^◌, [], ℕ, IfSome, IsTrue, List, Ok, length};
+ghost use Rattle.std.specs.Prelude.{take};
 ghost use Rattle.movaliren_c.specs.Described.{AreParts, Describes, IsUsual, Joins};
-ghost use Rattle.time_below.specs.Tree.{Tree};
+ghost use Rattle.movaliren_c.specs.Items.{item_tree};
+ghost use Rattle.time_below.specs.Tree.{Tree, byte_literal};
 
-use crate::described::item::{Item, byte_of, head_of};
+use crate::described::item::{Item, head_of};
 use crate::described::made_item::run_item;
 
-/// Makes one item of each five that are a date or a time of day, and moves the others to the front
-/// in their order. Returns how many there are then.
-pub fn join(items: &mut [Item], texts: &[u8]) -> usize
-    ensures same { (all : List Tree) → Describes texts.now items.old all
-        → Describes texts.now (take result items.new) all }
-    ensures fewer { result ≤ length items.old }
+/// Makes one item of the last five of so many, if they are a date or a time of day. Returns how many
+/// there are then.
+pub fn join_last(items: &mut [Item], made: usize) -> usize
+    ensures same { made ≤ length items.old → (text : List ℕ) (all : List Tree)
+        → Describes text (take made items.old) all → Describes text (take result items.new) all }
+    ensures fewer { result ≤ made }
     ensures len { length items.new ≡ length items.old }
 {
-    let (mut from, mut to) = (0, 0);
-    'items: while from < items.len() {
-        match joined(&items[from..], texts) {
-            Some(item) => {
-                items[to] = item;
-                from += 5;
-            }
-            None => {
-                items[to] = items[from];
-                from += 1;
-            }
-        }
-        to += 1;
+    if made < 5 || made > items.len() {
+        return made;
     }
-    to
+    match joined(&items[made - 5..made]) {
+        Some(whole) => {
+            items[made - 5] = whole;
+            made - 4
+        }
+        None => made,
+    }
 }
 
 /// The date or the time of day that the first five items are, if they are one with bytes of ASCII
 /// between its parts.
-fn joined(items: &[Item], texts: &[u8]) -> Option<Item>
+fn joined(items: &[Item]) -> Option<Item>
     ensures five { IfSome result (λ _. 5 ≤ length items.now) }
-    ensures joins { IfSome result (λ item. Joins texts.now (take 5 items.now) item) }
+    ensures joins { IfSome result (λ item. (text : List ℕ) → Joins text (take 5 items.now) item) }
 {
     let [first, before_second, second, before_third, third, ..] = items else {
         return None;
     };
     let kind = kind_of(first, second, third)?;
-    let first_byte = byte_of(before_second, texts)?;
-    let second_byte = byte_of(before_third, texts)?;
-    run_item(kind, first_byte, second_byte)
+    let first_byte = ascii_in(before_second)?;
+    let second_byte = ascii_in(before_third)?;
+    Some(run_item(kind, first_byte, second_byte))
 }
 
 /// The kind of the item that has these three as its parts, if there is one.
@@ -66,4 +63,16 @@ fn is_usual(item: &Item, kind: u64) -> bool
     ensures { IsTrue result → IsUsual item.now kind }
 {
     head_of(item) == kind
+}
+
+/// The byte that an item is, if it is one of ASCII.
+fn ascii_in(item: &Item) -> Option<u8>
+    ensures is { IfSome result (λ byte. (text : List ℕ)
+        → item_tree text item.now ≡ Ok (byte_literal (byte ∷ []))) }
+    ensures small { IfSome result (λ byte. byte < 128) }
+{
+    if item.kind == 254 && item.byte.is_ascii() {
+        return Some(item.byte);
+    }
+    None
 }

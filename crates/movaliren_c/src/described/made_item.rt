@@ -1,16 +1,18 @@
 //! The items of components and literals.
 //!
 //! Without `inline(always)` the compiler leaves calls of the functions that have it.
-ghost use Rattle.std.specs.Prelude.{◌≡◌, ◌≤◌, ◌<◌, ◌+◌, ◌∷◌, [], ℕ, IfSome, List, MatchOption, Ok};
-ghost use Rattle.std.specs.Prelude.{false, length, slice_range};
-ghost use Rattle.movaliren_c.specs.Described.{IsItem, IsItemOf, is_shown};
+ghost use Rattle.std.specs.Prelude.{◌≡◌, ◌≤◌, ◌<◌, ◌+◌, ◌∷◌, [], ℕ, List, MatchOption, Ok, false};
+ghost use Rattle.std.specs.Prelude.{length, slice_range};
+ghost use Rattle.movaliren_c.specs.Described.{IsItem, IsItemOf, is_shown, run_of};
 ghost use Rattle.movaliren_c.specs.Items.{component_at, component_of, digits_at, padding_at};
-ghost use Rattle.time_below.specs.Tree.{of_component};
+ghost use Rattle.time_below.specs.Tree.{all_of, of_component, trees};
+ghost use Rattle.time_describe.specs.Items.{parted};
 ghost use Rattle.time_describe.specs.Literal.{literal_of};
 
 use crate::described::item::Item;
 use time_below::format_description::Component;
 use time_below::format_description::modifier::{Padding, SubsecondDigits};
+use time_describe::Parted;
 
 /// A text of no bytes.
 const NO_TEXT: Item = Item {
@@ -152,12 +154,15 @@ pub fn byte_item(byte: u8) -> Item
     }
 }
 
-/// The item of so many bytes of the text, from a place on.
-#[tactic(auto, using(crate::proofs::ItemLemmas::text_is))]
-pub fn text_item(_text: &[u8], start: usize, len: usize) -> Item
-    requires { start + len ≤ length _text.now }
-    ensures { IsItem _text.now result (literal_of (slice_range _text.now start (start + len))) }
+/// The item of so many bytes of the text, from a place on. One byte alone stands in the item.
+#[tactic(auto, using(crate::proofs::ItemLemmas::text_is, crate::proofs::ItemLemmas::one_byte_is))]
+pub fn text_item(text: &[u8], start: usize, len: usize) -> Item
+    requires { start + len ≤ length text.now }
+    ensures { IsItem text.now result (literal_of (slice_range text.now start (start + len))) }
 {
+    if len == 1 {
+        return byte_item(text[start]);
+    }
     Item {
         kind: 255,
         start,
@@ -166,19 +171,27 @@ pub fn text_item(_text: &[u8], start: usize, len: usize) -> Item
     }
 }
 
-/// The date or the time of day of this kind with these bytes between its parts, if they are ASCII.
-pub fn run_item(kind: u32, first: u8, second: u8) -> Option<Item>
-    ensures kind { IfSome result (λ item. item.kind ≡ kind) }
-    ensures first { IfSome result (λ item. (item.start ≡ first) × (first < 128)) }
-    ensures second { IfSome result (λ item. (item.len ≡ second) × (second < 128)) }
+/// The date or the time of day of this kind, with these bytes between its parts.
+pub fn run_item(kind: u32, first: u8, second: u8) -> Item
+    ensures { result ≡ run_of kind first second }
 {
-    if !first.is_ascii() || !second.is_ascii() {
-        return None;
-    }
-    Some(Item {
+    Item {
         kind,
         start: usize::from(first),
         len: usize::from(second),
         ..NO_ITEM
-    })
+    }
+}
+
+/// The item of a date or of a time of day, with these bytes of ASCII between its parts.
+#[tactic(auto, using(crate::proofs::JoinLemmas::date_is, crate::proofs::JoinLemmas::time_is))]
+pub fn parted_item(whole: Parted, first: u8, second: u8) -> Item
+    requires first { first < 128 }
+    requires second { second < 128 }
+    ensures { (text : List ℕ) → IsItem text result (all_of (trees (parted whole first second))) }
+{
+    match whole {
+        Parted::Date => run_item(253, first, second),
+        Parted::Time => run_item(252, first, second),
+    }
 }

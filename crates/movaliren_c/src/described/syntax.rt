@@ -1,5 +1,5 @@
 //! What is wrong in a text that is no description, as C has it, and the items of one that is.
-ghost use Rattle.std.specs.Prelude.{◌≡◌, ℕ, None, Err, OnOk, IfErr};
+ghost use Rattle.std.specs.Prelude.{◌≡◌, ◌+◌, ℕ, None, Err, OnOk, IfErr};
 ghost use Rattle.movaliren_c.specs.Described.{IsHeld, bracket_number, fault_at, items_in, many};
 ghost use Rattle.movaliren_c.specs.Described.{strftime_number};
 
@@ -101,11 +101,11 @@ pub fn put_items<S: Syntax<Reason: Numbered>>(
     items: &mut ItemRoom<'_>,
     text: &[u8],
 ) -> Result<(), ParseError>
-    requires none { items.old.count ≡ 0 }
+    requires none { items.old.made + items.old.rest ≡ 0 }
     requires shown { items.old.hidden_at ≡ None }
     ensures found { OnOk result (IsHeld text.now
         (items_in S.Reason.number text.now (S.described text.now))
-        items.new.array.now items.new.count) }
+        items.new.array.now items.new.made items.new.rest) }
     ensures fault { IfErr result (λ f. items_in S.Reason.number text.now (S.described text.now)
         ≡ Err f) }
     ensures same_reference { items.new.array.ghost_name ≡ items.old.array.ghost_name }

@@ -7,7 +7,7 @@ use Rattle.movaliren_c.proofs.described.syntax.put_items.Goals as goal
 pub returns-in-Ok-clause-found : goal.returns-in-Ok-clause-found
 returns-in-Ok-clause-found g c =
     let room = c.describe.new.items in
-    all_held g.S.Reason.Numbered.number c.args.text.now (g.S.Syntax.described c.args.text.now) room.array.now room.count room.hidden_at c.in-Ok.ensures.found
+    all_held g.S.Reason.Numbered.number c.args.text.now (g.S.Syntax.described c.args.text.now) room.array.now room.made room.rest room.hidden_at c.in-Ok.ensures.found
 
 pub returns-in-Err-Invalid-clause-fault : goal.returns-in-Err-Invalid-clause-fault
 returns-in-Err-Invalid-clause-fault g c =
