@@ -8,8 +8,9 @@ There are 420 descriptions and 380 configurations, and of each 500 values, or EA
 of tools/read_trips/ is run by `rt try` in a copy of the crates. For each type it prints how many plans or configurations
 and values there were, how many texts were not read, and how many values are written otherwise than the text that was read.
 The last line is `N texts, M wrong`: a text that is written is wrong if it is not read, and any text is wrong if the value
-that was read of it is written otherwise, or if the lenient reader of a plan does not read the same value. Takes some
-minutes, and with few values the time of a build.
+that was read of it is written otherwise, or if the lenient reader of a plan does not read the same value. A text of an
+offset that shows a sign and no seconds, as `-0000` of -00:00:30, is counted apart where it is not read, since no reader
+takes it. Takes some minutes, half an hour with 2,000 values, and with few values the time of a build.
 """
 import pathlib
 import re
