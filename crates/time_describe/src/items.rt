@@ -1,6 +1,6 @@
 //! Where the items of a text go.
-ghost use Rattle.std.specs.Prelude.{◌≡◌, ◌+◌, ◌<◌, ◌≤◌, ◌∷◌, ◌++◌, [], ℕ, List, Bool, Option, length};
-ghost use Rattle.std.specs.Prelude.{min, slice_range, IsTrue, IfErr, OnOk};
+ghost use Rattle.std.specs.Prelude.{◌≡◌, ◌+◌, ◌<◌, ◌≤◌, ◌∷◌, ◌++◌, [], ℕ, List, Bool, Option};
+ghost use Rattle.std.specs.Prelude.{length, min, slice_range, IsTrue, IfErr, OnOk};
 ghost use base.Fml.{GName};
 ghost use Rattle.time_below.specs.Tree.{Tree, trees, of_component, all_of};
 ghost use Rattle.time_describe.specs.Items.{Adds, are_leaves, is_nil, parted, three};

@@ -250,7 +250,8 @@ fn put_parted_at<I: Items>(items: &mut I, text: &[u8], at: usize) -> Result<bool
     requires { at < length text.now }
     ensures put { IfOk result (λ is_put. IsTrue is_put → (before : List Tree)
         → IsTrue (are_leaves before) → I.Holds text.now [] items.old before
-        → IsAt text.now (at + 8) (I.Holds text.now [] items.new) (read before 0 (drop at text.now))) }
+        → IsAt text.now (at + 8) (I.Holds text.now [] items.new)
+        (read before 0 (drop at text.now))) }
     ensures within { IfOk result (λ is_put. IsTrue is_put → at + 8 ≤ length text.now) }
     ensures nothing { IfOk result (λ is_put. IsFalse is_put → items.new ≡ items.old) }
     ensures refusal { IfErr result (λ _. IsTrue I.can_refuse) }

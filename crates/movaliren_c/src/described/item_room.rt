@@ -80,8 +80,8 @@ impl<'a> ItemRoom<'a> {
         make_none(self.array);
     }
 
-    /// Adds an item behind those that were made, if the array has room for it. It shows what so many
-    /// items of the text do, and one more.
+    /// Adds an item behind those that were made, if the array has room for it. It shows what so
+    /// many items of the text do, and one more.
     fn push(&mut self, item: Item, others: usize)
         ensures pushed { (text : List ℕ) (all more : List Tree) → length more ≡ others + 1
             → IsItem text item (all_of (trees more))

@@ -1,6 +1,6 @@
 //! Dates and times of day among the items of a text, each in one item.
-ghost use Rattle.std.specs.Prelude.{◌≡◌, ◌≤◌, ◌<◌, ◌∷◌, ◌^◌, [], ℕ, IfSome, IsTrue, List, Ok, length};
-ghost use Rattle.std.specs.Prelude.{take};
+ghost use Rattle.std.specs.Prelude.{◌≡◌, ◌≤◌, ◌<◌, ◌∷◌, ◌^◌, [], ℕ, IfSome, IsTrue, List, Ok};
+ghost use Rattle.std.specs.Prelude.{length, take};
 ghost use Rattle.movaliren_c.specs.Described.{AreParts, Describes, IsUsual, Joins};
 ghost use Rattle.movaliren_c.specs.Items.{item_tree};
 ghost use Rattle.time_below.specs.Tree.{Tree, byte_literal};
@@ -8,8 +8,8 @@ ghost use Rattle.time_below.specs.Tree.{Tree, byte_literal};
 use crate::described::item::{Item, head_of};
 use crate::described::made_item::run_item;
 
-/// Makes one item of the last five of so many, if they are a date or a time of day. Returns how many
-/// there are then.
+/// Makes one item of the last five of so many, if they are a date or a time of day. Returns how
+/// many there are then.
 pub fn join_last(items: &mut [Item], made: usize) -> usize
     ensures same { made ≤ length items.old → (text : List ℕ) (all : List Tree)
         → Describes text (take made items.old) all → Describes text (take result items.new) all }
