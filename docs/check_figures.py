@@ -49,7 +49,7 @@ def said_of_tables():
     of_crate, of_fmt = ratios(lists, HERE, CRATE).values(), ratios(lists, HERE, "{fmt}").values()
     of_list = [row[HERE] / lists[name][HERE] for name, row in plans.items() if name in lists]
     made, gain = plans["the plan of 11 items is made"][HERE], lists[LIST][HERE] - plans[LIST][HERE]
-    utc, names, anew = calls["rfc3339_utc"], calls["items_format:names"], calls["format_strftime_local:11-items"]
+    utc, names = calls["rfc3339_utc"], calls["items_format:names"]
     widths = {"three decimals": "RFC 3339, three", "six": "RFC 3339, six", "nine": "RFC 3339, nine digits"}
     same, other = ([logs[f"{short}, {second} second"][HERE] / usual[name][HERE] for short, name in widths.items()] for second in ("the same", "another"))
     alone = {"RFC 3339": "RFC 3339, nine digits", "a list of 11": LIST}
@@ -74,7 +74,6 @@ def said_of_tables():
         (f"takes {calls['format_strftime_utc:11-items']['C']}, of which {calls['items_parse_strftime:11-items']['C']} are the reading", True),
         (f"takes {calls['rfc3339']['C']} with the `gmtime_r` that makes them, which takes {calls['gmtime_r']['C']} alone", True),
         (f"take {names['C']} with the `gmtime_r`, and {names['`gmtime_r`, {fmt}']} by {{fmt}}", True),
-        (f"takes {anew['C']}, and {anew['`gmtime_r`, {fmt}']} by {{fmt}}", True),
         ("costs about 110 to 230 instructions more", 105 < min(strings) and max(strings) < 235),
         (f"1 MB of one literal takes {round(kept['one literal']['1000 kB'] / 1000)} million", True),
         ("Movaliren has the fewest in each row", fewest),
