@@ -6,15 +6,17 @@
 //!
 //! `inline(never)` keeps long or rare bodies out of their callers.
 ghost use Rattle.std.specs.Prelude.{◌≡◌, ◌+◌, ◌<◌, ◌≤◌, ℕ, List, [], length, drop, slice_range, Ok};
-ghost use Rattle.std.specs.Prelude.{IfOk, IfErr, IfSome, OnOk, IsTrue, IsFalse};
+ghost use Rattle.std.specs.Prelude.{IfOk, IfErr, IfNone, IfSome, OnOk, IsTrue, IsFalse};
 ghost use Rattle.std.specs.List.{before_first};
 ghost use Rattle.time_below.specs.Tree.{Tree, owned_tree};
 ghost use Rattle.time_describe.specs.Conversions.{composed, offset};
 ghost use Rattle.time_describe.specs.Items.{Adds, are_leaves};
 ghost use Rattle.time_describe.specs.Description.{tree_of, Fails, IsWithin, Says, SaysFault};
+ghost use Rattle.time_describe.specs.Limit.{most_items};
 ghost use Rattle.time_describe.specs.Strftime.{described, first_part, is_percent, read};
 ghost use Rattle.time_describe.specs.StrftimeOutcome.{AddsFront, AddsLetter, BeginsParted, GoesOn};
 ghost use Rattle.time_describe.specs.StrftimeOutcome.{IsAt, items_of_part};
+ghost use Rattle.time_describe.specs.declared.items.Parted.{Parted};
 
 use crate::fault::{Failure, Fault, InvalidStrftime};
 use crate::items::{Items, Parted};
@@ -230,6 +232,8 @@ fn parted_front(text: &[u8]) -> Option<(Parted, u8, u8)>
     ensures spelled { IfSome result (λ x. BeginsParted text.now x.0 x.1 x.2) }
     ensures first { IfSome result (λ x. x.1 < 128) }
     ensures second { IfSome result (λ x. x.2 < 128) }
+    ensures none { IfNone result ((w : Parted) (a b : ℕ) → a < 128 → b < 128
+        → ¬ BeginsParted text.now w a b) }
 {
     let [b'%', one, first, b'%', two, second, b'%', three, ..] = text else {
         return None;
@@ -254,6 +258,10 @@ fn put_parted_at<I: Items>(items: &mut I, text: &[u8], at: usize) -> Result<bool
         (read before 0 (drop at text.now))) }
     ensures within { IfOk result (λ is_put. IsTrue is_put → at + 8 ≤ length text.now) }
     ensures nothing { IfOk result (λ is_put. IsFalse is_put → items.new ≡ items.old) }
+    ensures taken { IfOk result (λ is_put. IsFalse is_put → (before : List Tree)
+        → IsTrue (are_leaves before) → I.Holds text.now [] items.old before
+        → length before + 5 ≤ most_items → (w : Parted) (a b : ℕ) → a < 128 → b < 128
+        → ¬ BeginsParted (drop at text.now) w a b) }
     ensures refusal { IfErr result (λ _. IsTrue I.can_refuse) }
     ensures lender { I.lender items.new ≡ I.lender items.old }
 {
