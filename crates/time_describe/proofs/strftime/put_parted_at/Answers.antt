@@ -1,6 +1,5 @@
-use Rattle.std.proofs.Common.{◌≡◌, ◌+◌, ◌≤◌, ◌++◌, ℕ, List, length, drop, ap, ◌∙◌, subst, arith}
+use Rattle.std.proofs.Common.{◌+◌, ◌≤◌, ◌++◌, ℕ, List, length, drop, ap, ◌∙◌, subst, arith}
 use Rattle.std.proofs.lemmas.List.{drop-drop}
-use Rattle.time_below.specs.Tree.{Tree}
 use Rattle.time_describe.specs.Items.{parted}
 use Rattle.time_describe.specs.Limit.{most_items}
 use Rattle.time_describe.specs.Strftime.{read}
