@@ -9,13 +9,15 @@ ghost use Rattle.time_read.specs.Fault.{IsFirstFault, IsSecond60, SpellsSome};
 ghost use Rattle.time_read.specs.Lenient.{Rfc3339Means};
 ghost use Rattle.time_read.specs.Profiles.{ReadsAs};
 ghost use Rattle.time_read.specs.Refused.{IsRefused};
-ghost use Rattle.time_read.specs.declared.fault.Profile.TheVariants as profile;
 
 use crate::digits::digit;
 use crate::fault::{NotRead, Profile};
 use crate::places::{SECONDS, place_of};
 use crate::value::{Lenient, Reads, Strict, value_of};
 use time_below::OffsetDateTime;
+
+// The bytes of a text without decimals in UTC, `2026-11-22T09:55:06Z`. No text has fewer.
+const LEAST: usize = 20;
 
 // The value of a text, or the position at which it is refused.
 #[inline(always)]
@@ -29,23 +31,27 @@ fn value_or_place<P: Reads>(text: &[u8]) -> Result<OffsetDateTime, NotRead>
     }
 }
 
-// The same by the grammar alone. It is a call, so that a text that does not begin with a digit is
-// refused before registers are saved.
+// The same of a text that is too short to have a value.
 #[inline(never)]
-fn strictly(text: &[u8]) -> Result<OffsetDateTime, NotRead>
-    ensures read { IfOk result (λ v. ReadsAs profile.Strict v text.now) }
-    ensures place { IfErr result (λ e. IsRefused (ReadsAs profile.Strict) SECONDS text.now e) }
+fn place_in_short<P: Reads>(text: &[u8]) -> Result<OffsetDateTime, NotRead>
+    ensures read { IfOk result (λ v. ReadsAs P.PROFILE v text.now) }
+    ensures place { IfErr result (λ e. IsRefused (ReadsAs P.PROFILE) SECONDS text.now e) }
 {
-    value_or_place::<Strict>(text)
+    value_or_place::<P>(text)
 }
 
-// The same by what other writers mean.
+// The same of any text. Where it is long enough, the compiler leaves out the test of the length at
+// each field. It is a call, so that a text that does not begin with a digit is refused before
+// registers are saved.
 #[inline(never)]
-fn leniently(text: &[u8]) -> Result<OffsetDateTime, NotRead>
-    ensures read { IfOk result (λ v. ReadsAs profile.Lenient v text.now) }
-    ensures place { IfErr result (λ e. IsRefused (ReadsAs profile.Lenient) SECONDS text.now e) }
+fn read_as<P: Reads>(text: &[u8]) -> Result<OffsetDateTime, NotRead>
+    ensures read { IfOk result (λ v. ReadsAs P.PROFILE v text.now) }
+    ensures place { IfErr result (λ e. IsRefused (ReadsAs P.PROFILE) SECONDS text.now e) }
 {
-    value_or_place::<Lenient>(text)
+    if text.len() < LEAST {
+        return place_in_short::<P>(text);
+    }
+    value_or_place::<P>(text)
 }
 
 /// The value that a text of RFC 3339, section 5.6, spells: capital letters, one to nine decimals,
@@ -61,7 +67,7 @@ pub fn read(text: &[u8]) -> Result<OffsetDateTime, NotRead>
     ensures second_60 { IfErr result (λ e. IsTrue e.is_second_60 ↔ IsSecond60 17 e.at text.now) }
 {
     match digit(text, 0, 9) {
-        Ok(_) => strictly(text),
+        Ok(_) => read_as::<Strict>(text),
         Err(fault) => Err(place_of(text, fault, Profile::Strict)),
     }
 }
@@ -80,7 +86,7 @@ pub fn read_lenient(text: &[u8]) -> Result<OffsetDateTime, NotRead>
     ensures second_60 { IfErr result (λ e. IsTrue e.is_second_60 ↔ IsSecond60 17 e.at text.now) }
 {
     match digit(text, 0, 9) {
-        Ok(_) => leniently(text),
+        Ok(_) => read_as::<Lenient>(text),
         Err(fault) => Err(place_of(text, fault, Profile::Lenient)),
     }
 }
