@@ -13,7 +13,7 @@ ghost use Rattle.time_read.specs.Lenient.{Rfc3339Means};
 
 use crate::fault::{NotRead, Profile};
 use crate::places::place_of;
-use crate::rfc3339::read_lenient;
+use crate::rfc3339::{LEAST, read_lenient};
 use crate::value::{after_date, date};
 use time_below::{Date, Month, OffsetDateTime};
 
@@ -50,7 +50,7 @@ impl LenientReader {
         ensures second_60 { IfErr result (λ e.
             IsTrue e.is_second_60 ↔ IsSecond60 17 e.at text.now) }
     {
-        if text.len() < LENGTH || !self.keeps(text) {
+        if text.len() < LEAST || !self.keeps(text) {
             return read_lenient(text);
         }
         match after_date(self.date, &text[LENGTH..], Profile::Lenient) {

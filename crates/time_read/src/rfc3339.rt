@@ -17,7 +17,7 @@ use crate::value::{Lenient, Reads, Strict, value_of};
 use time_below::OffsetDateTime;
 
 // The bytes of a text without decimals in UTC, `2026-11-22T09:55:06Z`. No text has fewer.
-const LEAST: usize = 20;
+pub(crate) const LEAST: usize = 20;
 
 // The value of a text, or the position at which it is refused.
 #[inline(always)]
