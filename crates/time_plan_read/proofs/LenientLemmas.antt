@@ -4,10 +4,13 @@ use Rattle.std.specs.Prelude.{codes}
 use Rattle.std.proofs.lemmas.List.{append-nil}
 use Rattle.time_below.specs.declared.format_description.component.Component.{Component}
 use Rattle.time_below.specs.Facts.{Facts}
-use Rattle.time_below.specs.Tree.{Tree, Trees, all_of, end, more, of_component, text_literal}
+use Rattle.time_below.specs.Tree.{Tree, Trees, all_of, byte_literal, end, first_of, more, nothing, of_component, text_literal}
+use Rattle.time_fmt.specs.Description.{tree_outcome, trees_outcome}
+use Rattle.time_fmt.specs.Outcome.{Outcome, done}
 use Rattle.time_plan.specs.Shown.{shown_tree}
+use Rattle.time_plan_read.proofs.Texts.{are_both}
 use Rattle.time_plan_read.specs.Left.{Takes, TakesPart, three_tree}
-use Rattle.time_plan_read.specs.Lenient.{BeginsByZ, HasZero, IsRead, SpellsAll}
+use Rattle.time_plan_read.specs.Lenient.{BeginsByZ, HasZero, IsRead, Spells, SpellsAll, lower}
 use Rattle.time_plan_read.specs.Parts.{AreSame, parts_tree, ref_bytes}
 use Rattle.time_plan_read.specs.declared.runs.Parts.{Parts}
 use Rattle.time_plan_read.specs.declared.any_step.StepParts.{StepParts}
@@ -126,3 +129,29 @@ read_at_z ts f text front behind rest parts has_z has_zero = inr (record {
   has_z = has_z;
   has_zero = has_zero;
 })
+
+-- ---- what is written of a value is like itself
+
+mutual
+  written_spelled : (t : Tree) (f : Facts) (text : List ℕ) → tree_outcome t f ≡ done text → Spells t f text
+  written_spelled (byte_literal bytes) f text is = ap (λ (o : Outcome). lower o.bytes) is
+  written_spelled (text_literal bytes) f text is = ap (λ (o : Outcome). lower o.bytes) is
+  written_spelled (of_component c) f text is = record { own = text; written = is; alike = refl }
+  written_spelled (all_of ts) f text is = all_written_spelled ts f text is
+  written_spelled (first_of end) f text is = sym (ap (λ (o : Outcome). o.bytes) is)
+  written_spelled (first_of (more t ts)) f text is = written_spelled t f text is
+  written_spelled nothing f text is = sym (ap (λ (o : Outcome). o.bytes) is)
+
+  all_written_spelled : (ts : Trees) (f : Facts) (text : List ℕ) → trees_outcome ts f ≡ done text → SpellsAll ts f text
+  all_written_spelled end f text is = sym (ap (λ (o : Outcome). o.bytes) is)
+  all_written_spelled (more t ts) f text is =
+      let both = are_both (tree_outcome t f) (trees_outcome ts f) text is in record {
+        front = (tree_outcome t f).bytes;
+        rest = (trees_outcome ts f).bytes;
+        parts = both.text_is;
+        first = written_spelled t f (tree_outcome t f).bytes both.first;
+        second = all_written_spelled ts f (trees_outcome ts f).bytes both.second;
+      }
+
+pub written_read : (ts : Trees) (f : Facts) (text : List ℕ) → trees_outcome ts f ≡ done text → IsRead ts f text
+written_read ts f text is = inl (all_written_spelled ts f text is)

@@ -15,7 +15,6 @@ ghost use Rattle.time_provide.specs.Real.{AreReal};
 
 use crate::any_step::ReadStep;
 use crate::compare::{difference, stepwise_difference};
-use crate::reader::StepsReader;
 use crate::steps::read_steps;
 use crate::text_fields::TextFields;
 use time_fmt::{ComponentProvider, Formattable};
@@ -85,29 +84,33 @@ impl Described for Plan {
     }
 }
 
-impl<T: ReadStep, R> Described for StepsReader<'_, T, R> {
+/// Steps of any kind, and what their literals may lie in.
+#[derive(Drop)]
+pub(crate) struct Steps<'a, T>(pub(crate) &'a [T], pub(crate) &'a [u8]);
+
+impl<T: ReadStep> Described for Steps<'_, T> {
     type Step = T;
 
-    ghost outcome_of = { λ it. trees_outcome (trees (map (T.tree_of it.texts.now) it.steps.now)) };
+    ghost outcome_of = { λ it. trees_outcome (trees (map (T.tree_of it.1.now) it.0.now)) };
 
     ghost shown = { λ _. untold ∷ [] };
 
     fn steps(&self) -> &[T] {
-        self.steps
+        self.0
     }
 
     fn texts(&self) -> &[u8] {
-        self.texts
+        self.1
     }
 
     fn read_steps<'a>(&self, text: &'a [u8], fields: &mut TextFields) -> Option<&'a [u8]> {
-        read_steps(self.steps, self.texts, text, fields)
+        read_steps(self.0, self.1, text, fields)
     }
 
     fn difference<V: ComponentProvider>(&self, text: &[u8], value: &V) -> Option<usize>
     where
         V::State: Drop,
     {
-        stepwise_difference(self.steps, self.texts, text, value)
+        stepwise_difference(self.0, self.1, text, value)
     }
 }

@@ -6,6 +6,7 @@ ghost use Rattle.time_plan_read.specs.Lenient.{BeginsByZ, HasZero, IsRead, Spell
 
 use crate::any_step::ReadStep;
 use crate::blame::stop_of_numbers;
+use crate::described::Steps;
 use crate::fault::{Mismatch, NotRead, Stop, not_read};
 use crate::left::Left;
 use crate::names::after;
@@ -61,8 +62,9 @@ fn stop_behind(stop: Stop, zero: &[u8], rest: &[u8]) -> Stop {
 }
 
 impl<T: ReadStep, V: Readable> LenientReader<'_, T, V> {
-    /// The value whose text this text is like, or the first fault of the text.
-    #[tactic(auto, using(crate::proofs::LenientLemmas::plainly_read, crate::proofs::LenientLemmas::read_at_z))]
+    /// The value whose text this text is like, or the first fault of the text. Most texts are what
+    /// is written of their value, and are read as the strict reader does.
+    #[tactic(auto, using(crate::proofs::LenientLemmas::written_read, crate::proofs::LenientLemmas::plainly_read, crate::proofs::LenientLemmas::read_at_z))]
     pub fn read(&self, text: &[u8]) -> Result<V, NotRead>
     where
         V::State: Drop,
@@ -72,6 +74,10 @@ impl<T: ReadStep, V: Readable> LenientReader<'_, T, V> {
             (V.facts value) text.now) }
         ensures inside { IfErr result (λ fault. fault.at ≤ length text.now) }
     {
+        let described = Steps(self.steps, self.texts);
+        if let Some(value) = self.reading.value(&described, text) {
+            return Ok(value);
+        }
         let stop = match self.value_of(Left::of(text)) {
             Ok(value) => return Ok(value),
             Err(stop) => stop,

@@ -15,6 +15,7 @@ use crate::any_step::ReadStep;
 use crate::behind::StepsFrom;
 use crate::clock::clear_finer_time;
 use crate::complete::are_dates_and_times;
+use crate::described::Steps;
 use crate::fault::{NoReader, NotRead};
 use crate::kinds::{Kinds, shown_by};
 use crate::lenient::LenientReader;
@@ -241,7 +242,8 @@ impl<T: ReadStep, V: Readable> StepsReader<'_, T, V> {
             ≡ done text.now) }
         ensures inside { IfErr result (λ fault. fault.at ≤ length text.now) }
     {
-        self.reading.read(self, text)
+        let described = Steps(self.steps, self.texts);
+        self.reading.read(&described, text)
     }
 }
 

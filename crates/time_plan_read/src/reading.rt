@@ -57,6 +57,26 @@ impl<V: Readable> Reading<V> {
         Reading::new(self.kinds, self.base)
     }
 
+    /// The value that is written as this text, if there is one.
+    #[inline(always)]
+    pub(crate) fn value<D: Described>(&self, described: &D, text: &[u8]) -> Option<V>
+    where
+        V::State: Drop,
+        V: Drop,
+        ensures written { IfSome result (λ value.
+            D.outcome_of described.now (V.facts value) ≡ done text.now) }
+        ensures complete { (value : V) → AreKinds (D.shown described.now) [] self.now.kinds.0
+            → AreDatesAndTimes V.SUPPLIES_DATE V.SUPPLIES_TIME (D.shown described.now)
+            → AreReal (V.facts value) → HasFourDigits (V.facts value)
+            → D.outcome_of described.now (V.facts value) ≡ done text.now → IsSome result }
+    {
+        let mut fields = self.base;
+        if !is_end(described.read_steps(text, &mut fields)) {
+            return None;
+        }
+        self.value_of(described, text, &fields)
+    }
+
     /// The value that is written as this text, or the first fault of the text.
     #[inline(always)]
     pub(crate) fn read<D: Described>(&self, described: &D, text: &[u8]) -> Result<V, NotRead>
@@ -71,11 +91,7 @@ impl<V: Readable> Reading<V> {
             → D.outcome_of described.now (V.facts value) ≡ done text.now → IsOk result }
         ensures inside { IfErr result (λ fault. fault.at ≤ length text.now) }
     {
-        let mut fields = self.base;
-        if !is_end(described.read_steps(text, &mut fields)) {
-            return Err(self.fault_of(described, text, true));
-        }
-        match self.value_of(described, text, &fields) {
+        match self.value(described, text) {
             Some(value) => Ok(value),
             None => Err(self.fault_of(described, text, true)),
         }
