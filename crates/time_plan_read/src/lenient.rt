@@ -62,8 +62,9 @@ fn stop_behind(stop: Stop, zero: &[u8], rest: &[u8]) -> Stop {
 }
 
 impl<T: ReadStep, V: Readable> LenientReader<'_, T, V> {
-    /// The value whose text this text is like, or the first fault of the text. Most texts are what
-    /// is written of their value, and are read as the strict reader does.
+    /// The value whose text this text is like, or the first fault of the text.
+    ///
+    /// A text that the steps write is read as by the strict reader. Any other text costs far more.
     #[tactic(auto, using(crate::proofs::LenientLemmas::written_read, crate::proofs::LenientLemmas::plainly_read, crate::proofs::LenientLemmas::read_at_z))]
     pub fn read(&self, text: &[u8]) -> Result<V, NotRead>
     where

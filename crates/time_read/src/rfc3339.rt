@@ -41,8 +41,8 @@ fn place_in_short<P: Reads>(text: &[u8]) -> Result<OffsetDateTime, NotRead>
 }
 
 // The same of any text. Where it is long enough, the compiler leaves out the test of the length at
-// each field. It is a call, so that a text that does not begin with a digit is refused before
-// registers are saved.
+// each field up to the seconds. It is a call, so that a text that does not begin with a digit is
+// refused before registers are saved.
 #[inline(never)]
 fn read_as<P: Reads>(text: &[u8]) -> Result<OffsetDateTime, NotRead>
     ensures read { IfOk result (λ v. ReadsAs P.PROFILE v text.now) }
