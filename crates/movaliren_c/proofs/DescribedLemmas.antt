@@ -17,6 +17,7 @@ use Rattle.movaliren_c.specs.declared.answers.reason.Reason.TheVariants as reaso
 use Rattle.movaliren_c.specs.declared.described.item.Item.{Item}
 use Rattle.time_below.specs.Facts.{Facts}
 use Rattle.time_below.specs.Tree.{Tree, trees, all_of, byte_literal, of_component}
+use Rattle.time_below.specs.UsualParts.{year_part, month_part, day_part, hour_part, minute_part, second_part}
 use Rattle.time_below.specs.Width.{component_width, is_guaranteed_text, tree_width, trees_width}
 use Rattle.time_below.specs.declared.format_description.component.Component.{Component}
 use Rattle.time_fmt.specs.Description.{tree_outcome, trees_outcome}
@@ -29,7 +30,7 @@ use Rattle.time_fmt.specs.Sink.{Buffer, Puts}
 use Rattle.time_fmt.specs.Steps.{IsWrittenUpTo}
 use Rattle.time_fmt.specs.declared.runs.Run.TheVariants as run
 use Rattle.time_fmt.proofs.Engine.{joined, width_joined}
-use Rattle.time_fmt.specs.Runs.{year_part, month_part, day_part, hour_part, minute_part, second_part, three_parts}
+use Rattle.time_fmt.specs.Runs.{three_parts}
 use Rattle.time_fmt.proofs.GuaranteeLemmas.{ascii_test, empty_utf8, text_of_component}
 use Rattle.time_fmt.proofs.RunLemmas.{three_are_text}
 use Rattle.time_fmt.proofs.WriteLemmas.{join_done, join_nothing}

@@ -12,6 +12,7 @@ use Rattle.movaliren_c.specs.declared.answers.reason.Reason.{Reason}
 use Rattle.movaliren_c.specs.declared.described.item.Item.{Item}
 use Rattle.time_below.specs.Facts.{Facts}
 use Rattle.time_below.specs.Tree.{Tree, trees, all_of, byte_literal, of_component}
+use Rattle.time_below.specs.UsualParts.{year_part, month_part, day_part, hour_part, minute_part, second_part}
 use Rattle.time_below.specs.declared.format_description.component.Component.{Component}
 use Rattle.time_describe.specs.Items.{parted, three}
 use Rattle.time_describe.specs.Literal.{literal_of}
@@ -21,7 +22,7 @@ use Rattle.time_fmt.proofs.Engine.{joined}
 use Rattle.time_fmt.proofs.WriteLemmas.{join_nothing}
 use Rattle.time_fmt.specs.Description.{tree_outcome, trees_outcome}
 use Rattle.time_fmt.specs.Outcome.{Outcome, done, join}
-use Rattle.time_fmt.specs.Runs.{year_part, month_part, day_part, hour_part, minute_part, second_part, three_parts}
+use Rattle.time_fmt.specs.Runs.{three_parts}
 
 -- ---- values of two lists
 

@@ -18,6 +18,7 @@ pub mod Text
 pub mod TimeOfDay
 pub mod TimeText
 pub mod Tree
+pub mod UsualParts
 pub mod WeekDate
 pub mod Weekday
 pub mod Width

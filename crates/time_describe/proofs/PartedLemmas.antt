@@ -4,8 +4,9 @@ use Rattle.std.specs.Prelude.{◌==◌}
 use Rattle.std.proofs.lemmas.List.{length-append}
 use Rattle.time_below.specs.declared.format_description.component.Component.{Component}
 use Rattle.time_below.specs.Tree.{Tree, of_component}
+use Rattle.time_below.specs.UsualParts.{year_part, month_part, day_part, hour_part, minute_part, second_part}
 use Rattle.time_describe.specs.Conversions.{component_of, number, word}
-use Rattle.time_describe.specs.Items.{are_leaves, day, hour, minute, month, parted, second, three, year}
+use Rattle.time_describe.specs.Items.{are_leaves, parted, three}
 use Rattle.time_describe.specs.Limit.{most_items}
 use Rattle.time_describe.specs.Literal.{literal_of}
 use Rattle.time_describe.specs.Strftime.{read}
@@ -29,8 +30,8 @@ three_leaves p q r a b =
     (literal_before (b ∷ []) (of_component r ∷ []) refl)
 
 pub parted_leaves : (w : Parted) (a b : ℕ) → IsTrue (are_leaves (parted w a b))
-parted_leaves whole.Date a b = three_leaves year month day a b
-parted_leaves whole.Time a b = three_leaves hour minute second a b
+parted_leaves whole.Date a b = three_leaves year_part month_part day_part a b
+parted_leaves whole.Time a b = three_leaves hour_part minute_part second_part a b
 
 letter_next : (before : List Tree) (c : ℕ) (bs : List ℕ) (x : Component) → component_of c ≡ Some x → length before + 1 ≤ most_items
     → read before 0 (37 ∷ c ∷ bs) ≡ read (before ++ of_component x ∷ []) 0 bs
@@ -69,8 +70,8 @@ three_read before c d e a b rest x y z is_x is_y is_z plain_a plain_b few =
 spelled_read : (w : Parted) (before : List Tree) (a b : ℕ) (rest : List ℕ) → (a == 37) ≡ false → (b == 37) ≡ false → length before + 5 ≤ most_items
     → read before 0 (37 ∷ (letters w).0 ∷ a ∷ 37 ∷ (letters w).1 ∷ b ∷ 37 ∷ (letters w).2 ∷ rest) ≡ read (before ++ parted w a b) 0 rest
 unfolding number word
-spelled_read whole.Date before a b rest plain_a plain_b few = three_read before 89 109 100 a b rest year month day refl refl refl plain_a plain_b few
-spelled_read whole.Time before a b rest plain_a plain_b few = three_read before 72 77 83 a b rest hour minute second refl refl refl plain_a plain_b few
+spelled_read whole.Date before a b rest plain_a plain_b few = three_read before 89 109 100 a b rest year_part month_part day_part refl refl refl plain_a plain_b few
+spelled_read whole.Time before a b rest plain_a plain_b few = three_read before 72 77 83 a b rest hour_part minute_part second_part refl refl refl plain_a plain_b few
 
 -- reading goes on behind it
 pub parted_read : (before : List Tree) (text : List ℕ) (w : Parted) (a b : ℕ) → BeginsParted text w a b → length before + 5 ≤ most_items

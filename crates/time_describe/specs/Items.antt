@@ -1,9 +1,8 @@
 -- Items that are added to a list.
 use Rattle.std.specs.Prelude.{ℕ, Bool, true, false, ◌&&◌, List, [], ◌∷◌, ◌++◌}
 use Rattle.time_below.specs.declared.format_description.component.Component.{Component}
-use Rattle.time_below.specs.declared.format_description.component.Component.TheVariants as component
-use Rattle.time_below.specs.declared.format_description.modifier.Padding.TheVariants as padding
 use Rattle.time_below.specs.Tree.{Tree, all_of, first_of, nothing, of_component}
+use Rattle.time_below.specs.UsualParts.{year_part, month_part, day_part, hour_part, minute_part, second_part}
 use Rattle.time_describe.specs.Literal.{literal_of}
 use Rattle.time_describe.specs.declared.items.Parted.{Parted}
 use Rattle.time_describe.specs.declared.items.Parted.TheVariants as whole
@@ -28,30 +27,11 @@ abbrev pub are_leaves : List Tree → Bool
 are_leaves [] = true
 are_leaves (t ∷ ts) = is_leaf t && are_leaves ts
 
--- numbers with zeros before them
-abbrev pub year : Component
-year = component.CalendarYearFullExtendedRange (record { padding = padding.Zero; sign_is_mandatory = false })
-
-abbrev pub month : Component
-month = component.MonthNumerical (record { padding = padding.Zero })
-
-abbrev pub day : Component
-day = component.Day (record { padding = padding.Zero })
-
-abbrev pub hour : Component
-hour = component.Hour24 (record { padding = padding.Zero })
-
-abbrev pub minute : Component
-minute = component.Minute (record { padding = padding.Zero })
-
-abbrev pub second : Component
-second = component.Second (record { padding = padding.Zero })
-
 -- three components, with a byte between each two
 abbrev pub three : Component → ℕ → Component → ℕ → Component → List Tree
 three p a q b r = of_component p ∷ literal_of (a ∷ []) ∷ of_component q ∷ literal_of (b ∷ []) ∷ of_component r ∷ []
 
 -- a date or a time of day, with these bytes between its parts
 abbrev pub parted : Parted → ℕ → ℕ → List Tree
-parted whole.Date a b = three year a month b day
-parted whole.Time a b = three hour a minute b second
+parted whole.Date a b = three year_part a month_part b day_part
+parted whole.Time a b = three hour_part a minute_part b second_part

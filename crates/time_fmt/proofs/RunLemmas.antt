@@ -8,12 +8,12 @@ use Rattle.time_below.specs.declared.format_description.component.Component.{Com
 use Rattle.time_below.specs.declared.format_description.modifier.Padding.TheVariants as padding
 use Rattle.time_below.specs.Facts.{Facts, the_date, the_time}
 use Rattle.time_below.specs.Tree.{of_component, text_literal, more, end}
+use Rattle.time_below.specs.UsualParts.{year_part, month_part, day_part, hour_part, minute_part, second_part}
 use Rattle.time_below.specs.Width.{is_guaranteed_text}
 use Rattle.time_fmt.specs.Description.{tree_outcome}
 use Rattle.time_fmt.specs.Ends.{Ends}
 use Rattle.time_fmt.specs.Guarantee.{IsTextIf}
 use Rattle.time_fmt.specs.Kind.{kind_text, extended_year}
-use Rattle.time_fmt.specs.Runs as runs
 use Rattle.time_fmt.specs.Runs.{date_run, run_tree, three_parts, time_run}
 use Rattle.time_fmt.specs.Sink.{Buffer, Puts}
 use Rattle.time_fmt.specs.declared.runs.Run.{Run}
@@ -34,13 +34,13 @@ length-year year small = omega (arith, signed_four_to_six)
 -- a date that was written is its year, its month and its day
 pub date_ends : {count : ℕ} (x y : ℕ) (f : Facts) (old new : Buffer) → is_some f.date ≡ true → count ≤ 13
     → Puts old new count (date_run x y (the_date f))
-    → Ends 13 old new (Ok tt) (tree_outcome (three_parts runs.year_part x runs.month_part y runs.day_part) f)
+    → Ends 13 old new (Ok tt) (tree_outcome (three_parts year_part x month_part y day_part) f)
 date_ends x y f old new there most put = grind (arith, whole_text, append-nil)
 
 -- so is a time of day its hour, its minute and its second
 pub time_ends : {count : ℕ} (x y : ℕ) (f : Facts) (old new : Buffer) → is_some f.time ≡ true → count ≤ 8
     → Puts old new count (time_run x y (the_time f))
-    → Ends 8 old new (Ok tt) (tree_outcome (three_parts runs.hour_part x runs.minute_part y runs.second_part) f)
+    → Ends 8 old new (Ok tt) (tree_outcome (three_parts hour_part x minute_part y second_part) f)
 time_ends x y f old new there most put = grind (arith, whole_text, append-nil)
 
 -- ---- texts
@@ -63,6 +63,6 @@ three_are_text p q r first second f is_first is_second =
 pub run_text : (r : Run) (f : Facts) → IsTextIf (is_guaranteed_text (run_tree r)) (tree_outcome (run_tree r) f)
 run_text run.Empty f = λ _. empty_utf8
 run_text (run.Date b) f =
-    three_are_text runs.year_part runs.month_part runs.day_part b.first b.second f b.first_is_text b.second_is_text
+    three_are_text year_part month_part day_part b.first b.second f b.first_is_text b.second_is_text
 run_text (run.Time b) f =
-    three_are_text runs.hour_part runs.minute_part runs.second_part b.first b.second f b.first_is_text b.second_is_text
+    three_are_text hour_part minute_part second_part b.first b.second f b.first_is_text b.second_is_text

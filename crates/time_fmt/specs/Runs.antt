@@ -1,11 +1,11 @@
 -- Dates and times of day with a byte between each two parts.
 use Rattle.std.specs.Prelude.{ℕ, false, List, [], ◌∷◌, ◌++◌}
 use Rattle.time_below.specs.declared.format_description.component.Component.{Component}
-use Rattle.time_below.specs.declared.format_description.component.Component.TheVariants as component
 use Rattle.time_below.specs.declared.format_description.modifier.Padding.TheVariants as padding
 use Rattle.time_below.specs.Facts.{DateFacts}
 use Rattle.time_below.specs.TimeOfDay.{TimeOfDay}
 use Rattle.time_below.specs.Tree.{Tree, text_literal, of_component, all_of, nothing, end, more}
+use Rattle.time_below.specs.UsualParts.{year_part, month_part, day_part, hour_part, minute_part, second_part}
 use Rattle.time_fmt.specs.declared.runs.Run.{Run}
 use Rattle.time_fmt.specs.declared.runs.Run.TheVariants as run
 use Rattle.time_fmt.specs.Kind.{kind_text, extended_year}
@@ -26,25 +26,6 @@ date_run x y d = year_text d ++ two_after x d.month y d.day
 -- the hour, the minute and the second
 abbrev pub time_run : ℕ → ℕ → TimeOfDay → List ℕ
 time_run x y t = padded_text padding.Zero 2 t.hour ++ two_after x t.minute y t.second
-
--- the parts of a date and of a time of day, with zeros before their numbers and no sign that is not needed
-abbrev pub year_part : Component
-year_part = component.CalendarYearFullExtendedRange (record { padding = padding.Zero; sign_is_mandatory = false })
-
-abbrev pub month_part : Component
-month_part = component.MonthNumerical (record { padding = padding.Zero })
-
-abbrev pub day_part : Component
-day_part = component.Day (record { padding = padding.Zero })
-
-abbrev pub hour_part : Component
-hour_part = component.Hour24 (record { padding = padding.Zero })
-
-abbrev pub minute_part : Component
-minute_part = component.Minute (record { padding = padding.Zero })
-
-abbrev pub second_part : Component
-second_part = component.Second (record { padding = padding.Zero })
 
 -- three components, and a text of one byte between each two
 abbrev pub three_parts : Component → ℕ → Component → ℕ → Component → Tree

@@ -1,7 +1,8 @@
 -- What a step shows of a value before its literal.
 use Rattle.time_below.specs.declared.format_description.component.Component.{Component}
 use Rattle.time_below.specs.Tree.{Tree, of_component}
-use Rattle.time_fmt.specs.Runs.{year_part, month_part, day_part, hour_part, minute_part, second_part, run_tree}
+use Rattle.time_below.specs.UsualParts.{year_part, month_part, day_part, hour_part, minute_part, second_part}
+use Rattle.time_fmt.specs.Runs.{run_tree}
 use Rattle.time_plan.specs.declared.shown.RunPart.{RunPart}
 use Rattle.time_plan.specs.declared.shown.RunPart.TheVariants as part
 use Rattle.time_plan.specs.declared.shown.Shown.{Shown}
