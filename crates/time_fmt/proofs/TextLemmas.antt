@@ -1,10 +1,11 @@
 -- How long each kind of text is.
-use Rattle.std.proofs.Common.{◌≡◌, ℕ, ◌+◌, ◌-◌, ◌^◌, ◌<◌, ◌≤◌, Bool, true, List, [], ◌++◌}
+use Rattle.std.proofs.Common.{◌≡◌, ℕ, ◌+◌, ◌-◌, ◌^◌, ◌<◌, ◌≤◌, ℤ, pos, Bool, true, List, [], ◌++◌}
 use Rattle.std.proofs.Common.{IsTrue, length, replicate, refl, sym, ◌∙◌, decimal, arith, length-append, append_assoc}
 use Rattle.std.specs.List.{list_all}
-use Rattle.std.specs.Prelude.{slice_index_or, nat_lt, ◌||◌}
+use Rattle.std.specs.Prelude.{slice_index_or, nat_lt, int_lt, unsigned_abs, ◌||◌}
 use Rattle.std.proofs.lemmas.Bool.{and_parts, le-ltb, leb-true, lt-ltb}
 use Rattle.std.proofs.lemmas.Fmt.{length-decimal-le}
+use Rattle.std.proofs.lemmas.Int.{ints}
 use Rattle.std.proofs.lemmas.List.{length-replicate}
 use Rattle.std.proofs.Math.ListN.{length-take}
 use Rattle.time_below.specs.declared.format_description.modifier.Padding.{Padding}
@@ -62,6 +63,11 @@ whole_year p n low high =
 
 pub whole_century : (p : Padding) (n : ℕ) → 100 ≤ n → n < 2 ^ 64 → padded_text p 2 n ≡ decimal n
 whole_century p n low high = let long = decimal_longer 2 n low high in no_padding p 2 n (omega arith)
+
+-- a year of four digits has the sign that is wanted
+pub small_year : (is_wanted : Bool) (year : ℤ) → unsigned_abs year ≤ 9_999
+    → (is_wanted || int_lt (pos 9_999) year) ≡ is_wanted
+small_year is_wanted year h = grind (arith, common_steps, ints)
 
 -- a century of two digits has the sign that is wanted, and a longer one has a sign
 pub small_century : (is_wanted : Bool) (n : ℕ) → n < 100 → (is_wanted || nat_lt 99 n) ≡ is_wanted

@@ -50,6 +50,7 @@ impl TextKind for WeekdayName {
     ghost kind = { λ text. kind.weekday (days_from_monday text.0) };
 
     // By constants: a copy of the padded name costs a fifth more.
+    #[inline(always)]
     fn put<S: Sink>(self, output: &mut S) -> usize {
         let mut taken = output.take_out();
         let count = match self.0 {

@@ -4,7 +4,7 @@
 //! `cold` keeps long or rare bodies out of their callers.
 #![tactic(auto, using(crate::proofs::TextLemmas::signed_lengths))]
 
-ghost use Rattle.std.specs.Prelude.{◌≡◌, ◌<◌, ◌≤◌, IfErr, IfOk, length, unsigned_abs};
+ghost use Rattle.std.specs.Prelude.{◌<◌, length};
 ghost use Rattle.time_fmt.specs.Kind.{kind_text, extended_year, standard_year};
 ghost use Rattle.time_fmt.specs.Sink.{Fits, Puts};
 ghost use Rattle.time_fmt.specs.Text.{padded_text};
@@ -14,7 +14,7 @@ use crate::sink::Sink;
 use crate::writers::{fmt_sign, format_four_digits, write_many};
 use time_below::format_description::modifier::Padding;
 use time_digits::num_fmt::four_to_six_digits;
-use time_digits::{ru16, ru32};
+use time_digits::{ri32, ru16, ru32};
 use time_provide::ranges::{StandardYear, Year};
 
 /// A year in four places, or all its digits after a sign.
@@ -50,10 +50,16 @@ pub struct FourDigitYear {
 impl TextKind for FourDigitYear {
     ghost kind = { λ text. standard_year text.padding text.sign_is_mandatory text.year };
 
+    // As any year: without a sign it is written with no test for one.
     #[inline(always)]
+    #[tactic(auto, using(crate::proofs::TextLemmas::small_year, crate::proofs::TextLemmas::signed_lengths))]
     fn put<S: Sink>(self, output: &mut S) -> usize {
-        let sign = fmt_sign(output, self.year.get() < 0, self.sign_is_mandatory);
-        sign + format_four_digits(output, self.year.abs(), self.padding)
+        let year = FullYear {
+            padding: self.padding,
+            sign_is_mandatory: self.sign_is_mandatory,
+            year: ri32::within(i32::from(self.year.get())),
+        };
+        year.put(output)
     }
 }
 
