@@ -275,34 +275,9 @@ fn put_parted_at<I: Items>(items: &mut I, text: &[u8], at: usize) -> Result<bool
     Ok(true)
 }
 
-/// Reads the part at a position of the text, and returns the position after it.
-fn step<I: Items>(items: &mut I, text: &[u8], at: usize) -> Result<usize, Failure<StrftimeReason>>
-    requires { at < length text.now }
-    ensures goes_on { (before : List Tree) → IsTrue (are_leaves before)
-        → I.Holds text.now [] items.old before
-        → GoesOn I.can_refuse text.now (I.Holds text.now [] items.new) result
-        (read before 0 (drop at text.now)) }
-    ensures further { IfOk result (λ next. at < next) }
-    ensures within { IfOk result (λ next. next ≤ length text.now) }
-    ensures lender { I.lender items.new ≡ I.lender items.old }
-{
-    let len = put_front(items, text, at)?;
-    if items.len() > MOST_ITEMS {
-        return Err(Failure::Invalid(Fault {
-            reason: StrftimeReason::TooManyItems,
-            left: text.len() - at,
-        }));
-    }
-    Ok(at + len)
-}
-
 /// Reads the part at a position of the text, or a date or a time of day at once, and returns the
 /// position after it.
-fn read_on<I: Items>(
-    items: &mut I,
-    text: &[u8],
-    at: usize,
-) -> Result<usize, Failure<StrftimeReason>>
+fn step<I: Items>(items: &mut I, text: &[u8], at: usize) -> Result<usize, Failure<StrftimeReason>>
     requires { at < length text.now }
     ensures goes_on { (before : List Tree) → IsTrue (are_leaves before)
         → I.Holds text.now [] items.old before
@@ -315,7 +290,14 @@ fn read_on<I: Items>(
     if put_parted_at(items, text, at)? {
         return Ok(at + 8);
     }
-    step(items, text, at)
+    let len = put_front(items, text, at)?;
+    if items.len() > MOST_ITEMS {
+        return Err(Failure::Invalid(Fault {
+            reason: StrftimeReason::TooManyItems,
+            left: text.len() - at,
+        }));
+    }
+    Ok(at + len)
 }
 
 impl Syntax for Strftime {
@@ -326,7 +308,7 @@ impl Syntax for Strftime {
     fn put_all<I: Items>(items: &mut I, text: &[u8]) -> Result<(), Failure<StrftimeReason>> {
         let mut at = 0;
         'steps: while at < text.len() {
-            at = read_on(items, text, at)?;
+            at = step(items, text, at)?;
         }
         Ok(())
     }

@@ -1,4 +1,4 @@
-use Rattle.std.proofs.Common.{◌≡◌, ◌+◌, ◌<◌, ◌≤◌, ◌++◌, ℕ, Bool, List, length, drop, ap, ◌∙◌, refl, arith}
+use Rattle.std.proofs.Common.{◌≡◌, ◌+◌, ◌<◌, ◌≤◌, ◌++◌, ℕ, Bool, List, [], length, drop, ap, ◌∙◌, refl, subst, sym, arith}
 use Rattle.std.proofs.lemmas.Result.{err_from_is_err_and}
 use Rattle.std.proofs.lemmas.List.{drop-drop, length-drop}
 use Rattle.time_below.specs.Tree.{Tree}
@@ -22,7 +22,7 @@ failed can_refuse (Invalid fault) before text some h = part_refused before text 
 
 pub returns-in_err-len-clause-goes_on : goal.returns-in_err-len-clause-goes_on
 returns-in_err-len-clause-goes_on g c =
-    let p = err_from_is_err_and c.from_residual.result c.from_residual.ensures.1 in
+    let p = err_from_is_err_and c.from_residual-in_err-len.result c.from_residual-in_err-len.ensures.1 in
     let text = c.args.text.now in
     rw (p.1, p.2) (λ before leaves held. failed g.I.Items.can_refuse c.in_err-len.field-0.0 before (drop c.args.at text) (some text c.args.at c.requires) c.in_err-len.ensures.fails)
 
@@ -31,9 +31,10 @@ returns-then-len-gt-MOST_ITEMS-clause-goes_on g c = λ before leaves held.
     let text = c.args.text.now in
     let at = c.args.at in
     let w = c.in_ok-len.ensures.put in
+    let kept = subst (λ it. g.I.Items.Holds text [] it before) (sym (c.in_ok-put_parted_at.ensures.nothing c.if-branch.false)) held in
     let now = before ++ w.front.items in
     let all = leaves_more before w.front.items leaves w.leaves in
-    let len = c.len.ensures text now all (w.added before held) in
+    let len = c.len.ensures text now all (w.added before kept) in
     let many : most_items < length now = omega (arith, len, c.if-len-gt-MOST_ITEMS.true) in
     part_exceeds before now (drop at text) w.front (some text at c.requires) w.is refl many
     ∙ ap (λ (k : ℕ). fails TooManyItems k) (length-drop at text)
@@ -43,8 +44,9 @@ returns-clause-goes_on g c = λ before leaves held.
     let text = c.args.text.now in
     let at = c.args.at in
     let w = c.in_ok-len.ensures.put in
+    let kept = subst (λ it. g.I.Items.Holds text [] it before) (sym (c.in_ok-put_parted_at.ensures.nothing c.if-branch.false)) held in
     let now = before ++ w.front.items in
-    let holds = w.added before held in
+    let holds = w.added before kept in
     let all = leaves_more before w.front.items leaves w.leaves in
     let len = c.len.ensures text now all holds in
     let few : length now ≤ most_items = omega (arith, len, c.if-len-gt-MOST_ITEMS.false) in
