@@ -3,8 +3,8 @@
 //! Its attributes make a read one function with what is met often, as those of `steps` do.
 ghost use Rattle.std.specs.Prelude.{◌≡◌, ◌≤◌, ℕ, true, List, ◌++◌, IfSome, IfNone, IsNone, IsSome};
 ghost use Rattle.std.specs.Prelude.{IsSomeAnd, length, map, take};
-ghost use Rattle.time_below.specs.Tree.{Tree, Trees, more, trees};
-ghost use Rattle.time_below.specs.Width.{tree_width, trees_width};
+ghost use Rattle.time_below.specs.Tree.{Trees, more, trees};
+ghost use Rattle.time_below.specs.Width.{trees_width};
 ghost use Rattle.time_fmt.specs.Description.{tree_outcome, trees_outcome};
 ghost use Rattle.time_fmt.specs.Outcome.{done};
 ghost use Rattle.time_plan.specs.Shown.{shown_tree};
@@ -88,8 +88,8 @@ where
     }
 }
 
-/// The most bytes that a step shows before its literal.
-const SHOWN_ROOM: usize = 32;
+/// The bytes of an array for what a step shows before its literal, which has at most 18.
+pub(crate) const SHOWN_ROOM: usize = 32;
 
 /// The same for steps of any width, one by one. Literals are compared where they lie.
 #[inline(never)]

@@ -59,7 +59,7 @@ pub(crate) fn some_digits(
 }
 
 /// How many spaces stand before a number in so many places.
-fn spaces(text: &[u8], places: usize) -> usize {
+pub(crate) fn spaces(text: &[u8], places: usize) -> usize {
     let mut count = 0usize;
     for byte in text {
         if *byte != b' ' || places <= count.saturating_add(1) {

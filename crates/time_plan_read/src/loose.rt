@@ -3,6 +3,7 @@
 //! What is read here is compared later: whatever a function of this file answers, a text is read
 //! only where its pieces are like those of the value.
 use crate::components::{read_component, read_name, read_number};
+use crate::digits::spaces;
 use crate::names::half_day;
 use crate::shapes::{Shape, shape_of};
 use crate::text_fields::TextFields;
@@ -12,8 +13,8 @@ use time_below::format_description::modifier::{Padding, SubsecondDigits};
 /// The most letters that a name has.
 const NAME: usize = 9;
 
-/// The most spaces that stand in the place of zeros.
-const SPACES: usize = 2;
+/// The most places of a number in which spaces may stand for zeros.
+const PLACES: usize = 3;
 
 /// The shape of the same number with no zeros and no spaces, if it is a number whose places may be
 /// read so.
@@ -60,18 +61,6 @@ fn read_name_loosely(component: Component, text: &[u8], fields: &mut TextFields)
     }
 }
 
-/// How many spaces a text begins with, up to as many as may stand in the place of zeros.
-fn spaces(text: &[u8]) -> usize {
-    let mut count = 0usize;
-    for byte in text {
-        if *byte != b' ' || SPACES <= count {
-            break;
-        }
-        count = count.saturating_add(1);
-    }
-    count
-}
-
 /// Reads a component leniently, and returns how many bytes its piece has. So many digits follow it
 /// at once. A number before other digits is read as it is written, since nothing else tells where
 /// it ends.
@@ -97,7 +86,7 @@ pub(crate) fn read_loosely(
 /// has.
 fn read_bare(component: Component, text: &[u8], fields: &mut TextFields) -> Option<usize> {
     let shape = unpadded(shape_of(component))?;
-    let count = spaces(text);
+    let count = spaces(text, PLACES);
     let digits = read_number(component, shape, 0, text.get(count..)?, fields)?;
     Some(digits.saturating_add(count))
 }

@@ -11,7 +11,7 @@ ghost use Rattle.time_plan_read.specs.Parts.{ref_bytes};
 use crate::alike::are_alike;
 use crate::any_step::{LiteralRef, ReadStep, StepParts};
 use crate::behind::{StepsFrom, digits_before};
-use crate::compare::{same_bytes, shown_in_room};
+use crate::compare::{SHOWN_ROOM, same_bytes, shown_in_room};
 use crate::components::read_component;
 use crate::fault::{Mismatch, Stop};
 use crate::kinds::{Kinds, kind_of};
@@ -222,9 +222,6 @@ pub(crate) fn read_pieces<T: ReadStep>(
     Ok(left.len())
 }
 
-/// The most bytes that a component shows.
-const ROOM: usize = 32;
-
 /// What is left behind the piece of a component, if it is like what is written of a value.
 fn behind_piece<'a, V: ComponentProvider>(
     component: Component,
@@ -238,7 +235,7 @@ fn behind_piece<'a, V: ComponentProvider>(
     ensures takes { IfSome result (λ rest. Takes (of_component component) (V.facts value.now)
         (left_bytes left.entry) (left_bytes rest)) }
 {
-    let mut room = [0u8; ROOM];
+    let mut room = [0u8; SHOWN_ROOM];
     let own = shown_in_room::<Brand, V>(&Shown::Component(component), &mut room, value, state)?;
     let mut unused = TextFields::default();
     let (piece, rest) = piece_of(component, behind, left, &mut unused, true)?;

@@ -1,5 +1,5 @@
 //! Readers of the texts of a plan, and of steps of any kind.
-ghost use Rattle.std.specs.Prelude.{◌≡◌, ◌≤◌, ◌↔◌, ◌++◌, [], IfErr, IfOk, IsOk, IsTrue, length};
+ghost use Rattle.std.specs.Prelude.{◌≡◌, ◌≤◌, ◌↔◌, [], IfErr, IfOk, IsOk, IsTrue, length};
 ghost use Rattle.std.specs.Prelude.{map};
 ghost use Rattle.time_below.specs.Tree.{trees};
 ghost use Rattle.time_fmt.specs.Description.{trees_outcome};
@@ -24,7 +24,6 @@ use crate::reading::Reading;
 use crate::text_fields::TextFields;
 use crate::values::Readable;
 use std::default::Default;
-use std::marker::PhantomData;
 use time_below::format_description::Group;
 use time_fmt::{ComponentProvider, Formattable};
 use time_plan::{Plan, Run, Shown, Step};

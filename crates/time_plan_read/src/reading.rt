@@ -1,7 +1,7 @@
 //! Reading the texts of a description.
 //!
 //! Its attributes make a read one function with what is met often, as those of `steps` do.
-ghost use Rattle.std.specs.Prelude.{◌≡◌, ◌≤◌, ◌++◌, true, [], IfErr, IfOk, IfSome, IsOk, IsSome};
+ghost use Rattle.std.specs.Prelude.{◌≡◌, ◌≤◌, true, [], IfErr, IfOk, IfSome, IsOk, IsSome};
 ghost use Rattle.std.specs.Prelude.{IsSomeAnd, IsTrue, length};
 ghost use Rattle.time_fmt.specs.Outcome.{done};
 ghost use Rattle.time_plan_read.specs.DatesAndTimes.{AreDatesAndTimes, HasFourDigits, are_runs};
@@ -43,7 +43,8 @@ impl<V: Readable> Reading<V> {
     /// The reading of these components, which are completed by these numbers.
     pub(crate) fn new(kinds: Kinds, base: TextFields) -> Reading<V>
         requires { HasUnset base }
-        ensures { result.kinds ≡ kinds }
+        ensures kinds { result.kinds ≡ kinds }
+        ensures base { result.base ≡ base }
     {
         Reading {
             kinds,
@@ -53,7 +54,10 @@ impl<V: Readable> Reading<V> {
     }
 
     /// The same once more.
-    pub(crate) fn again(&self) -> Reading<V> {
+    pub(crate) fn again(&self) -> Reading<V>
+        ensures kinds { result.kinds ≡ self.now.kinds }
+        ensures base { result.base ≡ self.now.base }
+    {
         Reading::new(self.kinds, self.base)
     }
 
