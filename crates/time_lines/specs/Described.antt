@@ -1,5 +1,5 @@
 -- Which moments the texts of descriptions have, read back.
-use Rattle.std.specs.Prelude.{ℕ, zero, suc, ℤ, pos, ◌≡◌, ◌==◌, ◌+◌, ◌&&◌, ◌||◌, ◌+ℤ◌, ◌-ℤ◌, ◌≤ℤ◌, ◌<ℤ◌, ◌<◌, ◌≤◌, ◌⊎◌, List, [], ◌∷◌, Option, Some, None, IfSome, Bool, false, length, take, get_or}
+use Rattle.std.specs.Prelude.{ℕ, zero, suc, ℤ, pos, ◌≡◌, ◌==◌, ◌+◌, ◌&&◌, ◌||◌, ◌+ℤ◌, ◌-ℤ◌, ◌≤ℤ◌, ◌<ℤ◌, ◌<◌, ◌≤◌, ◌⊎◌, List, [], ◌∷◌, Option, Some, None, IfSome, Bool, true, false, length, take, drop, get_or}
 use Rattle.std.specs.Char.{is_ascii_digit}
 use Rattle.time_below.specs.Calendar.{IsYear, IsDayOfMonth, date_of, day_of, month_of}
 use Rattle.time_below.specs.Facts.{Facts, facts_of_offset_date_time, facts_of_plain_date_time, facts_of_timestamp}
@@ -84,6 +84,12 @@ plan_of (AtMoment reader) = reader.plan.now
 plan_of (Local reader) = reader.plan.now
 plan_of (Yearless reader) = reader.plan.now
 
+-- whether the moment of a form's texts is the one at which a clock shows them
+abbrev pub is_by_clock : Form → Bool
+is_by_clock (Local reader) = true
+is_by_clock (Yearless reader) = true
+is_by_clock form = false
+
 -- the plan of a form writes so many first bytes of the text of a value that has the moment
 abbrev pub ReadsForm : (DateAndTime → Option Moment → Type 0) → Years → Form → List ℕ → Front → Type 0
 ReadsForm at years (AtOffset reader) text front =
@@ -97,11 +103,14 @@ ReadsForm at years (Yearless reader) text front =
     (t : DateAndTime) × IsFront (written reader.plan.now (facts_of_plain_date_time t)) text front.count
     × HasYearlessMoment at years t front.moment
 
--- the same of one of several forms, where no number is cut off
+-- The same of one of several forms, where no number is cut off. Where the text has to be whole, no decimals and no offset
+-- follow it.
 abbrev pub ReadsOneOf : (DateAndTime → Option Moment → Type 0) → Years → List FormRow → List ℕ → Front → Type 0
 ReadsOneOf at years [] text front = ⊥
 ReadsOneOf at years (row ∷ rows) text front =
-    (ReadsForm at years row.form text front × (is_cut text front.count ≡ false)) ⊎ ReadsOneOf at years rows text front
+    (ReadsForm at years row.form text front × (front.is_local ≡ is_by_clock row.form) × (is_cut text front.count ≡ false)
+    × (row.is_whole ≡ true → has_more (drop front.count text) ≡ false))
+    ⊎ ReadsOneOf at years rows text front
 
 -- the latest year in which a moment is at most a day after this one
 abbrev pub IsUntilDayAfter : Moment → Years → Type 0

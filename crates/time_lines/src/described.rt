@@ -5,7 +5,7 @@ ghost use Rattle.std.specs.Prelude.{◌≡◌, ◌≤◌, Option, IfSome, true, 
 ghost use Rattle.std.specs.Char.{is_ascii_digit};
 ghost use Rattle.time_below.specs.Moment.{DateAndTime, Moment, in_utc, local_moment};
 ghost use Rattle.time_lines.specs.Described.{IsFront, ReadsForm, ReadsOneOf, has_more, is_cut};
-ghost use Rattle.time_lines.specs.Described.{plan_of, written};
+ghost use Rattle.time_lines.specs.Described.{is_by_clock, plan_of, written};
 ghost use Rattle.time_lines.specs.Read.{IsMomentIfReal};
 
 use crate::begins::Begins;
@@ -84,6 +84,13 @@ impl<'a> Form<'a> {
             Form::Local(reader) | Form::Yearless(reader) => reader.plan,
         }
     }
+
+    /// Whether the moment of its texts is the one at which a clock shows them.
+    fn is_by_clock(&self) -> bool
+        ensures { result ≡ is_by_clock self.now }
+    {
+        matches!(self, Form::Local(_) | Form::Yearless(_))
+    }
 }
 
 /// Reads the texts of descriptions at the front of others, by the first form that reads one.
@@ -114,50 +121,32 @@ where
 fn read_form<Z: Zone>(form: &Form<'_>, zone: &Z, years: &Years, text: &[u8]) -> Option<Front>
     ensures reads { IfSome result (ReadsForm (Z.has_moment zone.now)
         years.now form.now text.now) }
+    ensures local { IfSome result (λ front. front.is_local ≡ is_by_clock form.now) }
     ensures inside { IfSome result (λ front. front.count ≤ length text.now) }
 {
-    match form {
+    let (moment, count) = match form {
         Form::AtOffset(reader) => {
             let (value, count) = value_at_front(reader, text)?;
-            let moment = moment_of_value(value);
-            let is_local = false;
-            Some(Front {
-                count,
-                moment,
-                is_local,
-            })
+            (moment_of_value(value), count)
         }
         Form::AtMoment(reader) => {
             let (value, count) = value_at_front(reader, text)?;
-            let moment = Some(value);
-            let is_local = false;
-            Some(Front {
-                count,
-                moment,
-                is_local,
-            })
+            (Some(value), count)
         }
         Form::Local(reader) => {
             let (local, count) = value_at_front(reader, text)?;
-            let moment = zone.moment_of(local);
-            let is_local = true;
-            Some(Front {
-                count,
-                moment,
-                is_local,
-            })
+            (zone.moment_of(local), count)
         }
         Form::Yearless(reader) => {
             let (local, count) = value_at_front(reader, text)?;
-            let moment = yearless_moment(zone, local, years);
-            let is_local = true;
-            Some(Front {
-                count,
-                moment,
-                is_local,
-            })
+            (yearless_moment(zone, local, years), count)
         }
-    }
+    };
+    Some(Front {
+        count,
+        moment,
+        is_local: form.is_by_clock(),
+    })
 }
 
 /// Whether a digit stands at the place.
@@ -193,6 +182,7 @@ fn has_more(rest: &[u8]) -> bool
 fn read_row<Z: Zone>(row: &FormRow<'_>, zone: &Z, years: &Years, text: &[u8]) -> Option<Front>
     ensures reads { IfSome result (ReadsForm (Z.has_moment zone.now)
         years.now row.now.form text.now) }
+    ensures local { IfSome result (λ front. front.is_local ≡ is_by_clock row.now.form) }
     ensures uncut { IfSome result (λ front. is_cut text.now front.count ≡ false) }
     ensures whole { IfSome result (λ front. row.now.is_whole ≡ true
         → has_more (drop front.count text.now) ≡ false) }
