@@ -1,6 +1,7 @@
 -- What a call that reads a text by a description leaves.
 use Rattle.std.specs.Prelude.{◌≡◌, ◌≤◌, ◌⊎◌, ℕ, ℤ, pos, List, length, Result, Ok, Err, IsOk, IsOkAnd, MatchResult}
 use Rattle.movaliren_c.specs.Answer.{reason_number}
+use Rattle.movaliren_c.specs.Described.{IsItem}
 use Rattle.movaliren_c.specs.Items.{item_tree}
 use Rattle.movaliren_c.specs.Reading.{IsInUtc}
 use Rattle.movaliren_c.specs.Value.{moment_value, timestamp_value}
@@ -15,9 +16,13 @@ use Rattle.movaliren_c.specs.declared.values.moment.UtcMoment.{UtcMoment}
 use Rattle.time_below.specs.Facts.{Facts, facts_of_offset_date_time, facts_of_timestamp}
 use Rattle.time_below.specs.Moment as moments
 use Rattle.time_below.specs.Moment.{OffsetDateAndTime}
-use Rattle.time_below.specs.Tree.{Tree, nothing, trees}
+use Rattle.time_below.specs.Tree.{Tree, nothing, of_component, trees}
+use Rattle.time_below.specs.declared.format_description.component.Component.{Component}
 use Rattle.time_fmt.specs.Description.{trees_outcome}
 use Rattle.time_fmt.specs.Outcome.{done}
+use Rattle.time_plan_read.specs.declared.fault.Mismatch.{Mismatch}
+use Rattle.time_plan_read.specs.declared.fault.Mismatch.TheVariants as mismatch
+use Rattle.time_plan_read.specs.declared.fault.NotRead.{NotRead}
 
 -- the tree, or that of nothing where there is none
 abbrev pub tree_or_nothing : Result Tree Reason → Tree
@@ -71,13 +76,34 @@ IsNoText text (unread.At e) = e.at ≤ length text
 
 -- ---- what a call leaves
 
+-- the number of a component among the kinds of items: that of an item which shows it
+pub record IsKindOf (c : Component) (kind : ℕ) : Type 0 where
+  pub item : Item
+  pub kind_is : item.kind ≡ kind
+  pub shows : (text : List ℕ) → IsItem text item (of_component c)
+
+-- what could have come there: its number, and the byte twice, or the kind of the component
+abbrev pub IsComing : Mismatch → ReadError → Type 0
+IsComing (mismatch.Literal b) place = (place.expected ≡ 2) × (place.first ≡ b) × (place.last ≡ b)
+IsComing mismatch.End place = (place.expected ≡ 7) × (place.first ≡ 0) × (place.last ≡ 0)
+IsComing (mismatch.Component c) place = (place.expected ≡ 24) × IsKindOf c place.first × (place.last ≡ 0)
+IsComing (mismatch.NoValue c) place = (place.expected ≡ 25) × IsKindOf c place.first × (place.last ≡ 0)
+IsComing mismatch.Otherwise place = (place.expected ≡ 26) × (place.first ≡ 0) × (place.last ≡ 0)
+
+-- the place of a text that is not read, as C sees it
+pub record IsPlaceBy (e : NotRead) (place : ReadError) : Type 0 where
+  pub at_is : place.at ≡ e.at
+  pub coming : IsComing e.reason place
+  pub strict : place.is_lenient ≡ 0
+  pub no_second_60 : place.is_second_60 ≡ 0
+
 -- The number is 0, the moment is kept, and the place is unchanged; or the moment is unchanged, and the number is that of
 -- the reason, or that of a text that is not read, whose place is set.
 abbrev pub LeavesRead : {M : Type 0} → Result M Unread → ℤ → M → M → ReadError → ReadError → Type 0
 LeavesRead (Ok m) number before after old new = (number ≡ pos 0) × (after ≡ m) × (new ≡ old)
 LeavesRead (Err (unread.Never r)) number before after old new = (number ≡ reason_number r) × (after ≡ before) × (new ≡ old)
 LeavesRead (Err (unread.At e)) number before after old new =
-    (number ≡ reason_number reason.NotRead) × (after ≡ before) × (new.at ≡ e.at)
+    (number ≡ reason_number reason.NotRead) × (after ≡ before) × IsPlaceBy e new
 
 -- a moment is read, or this is why none is
 pub record IsReadBy {M : Type 0} (Is : M → Type 0) (Why : Unread → Type 0) (number : ℤ) (before after : M) (old new : ReadError)

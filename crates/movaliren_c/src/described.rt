@@ -26,7 +26,7 @@ mod length;
 pub mod made_item;
 mod syntax;
 
-use crate::answers::reason::{Reason, answer_number, reason_of};
+use crate::answers::reason::{Reason, answer_number};
 use crate::answers::room::copy_text;
 use crate::described::item::{Item, Part, head_of, part_of, separators_of, text_of};
 use crate::values::moment::{Moment, date_value, moment_value, timestamp_value};
@@ -156,7 +156,7 @@ pub fn write_described<V: ComponentProvider<State: Drop> + Drop>(
     let mut line = [0u8; SHORT];
     match write_items::<Brand, V>(items, texts, &value, &mut line) {
         Ok(count) if count <= SHORT => copy_text(&line[..count], room),
-        Ok(count) if count <= room.len() => write_long::<Brand, V>(items, texts, &value, room),
+        Ok(count) if count <= room.len() => write_items::<Brand, V>(items, texts, &value, room),
         Ok(_) => Err(Reason::BufferTooSmall),
         Err(reason) => Err(reason),
     }
@@ -164,7 +164,6 @@ pub fn write_described<V: ComponentProvider<State: Drop> + Drop>(
 
 /// The reason of the first invalid item, or else this one.
 #[cold]
-#[inline(never)]
 pub fn first_reason(items: &[Item], texts: &[u8], reason: Reason) -> Reason
     ensures { result ≡ reason_before (trees_of texts.now items.now) reason }
 {
@@ -174,26 +173,10 @@ pub fn first_reason(items: &[Item], texts: &[u8], reason: Reason) -> Reason
     }
 }
 
-/// Writes the text of the items to the start of a buffer, or as much of it as fits, as
-/// `write_items` does, for a text that is longer than the array.
-#[cold]
-#[inline(never)]
-pub fn write_long<B: Before, V: ComponentProvider<State: Drop>>(
-    items: &[Item],
-    texts: &[u8],
-    value: &V,
-    room: &mut [u8],
-) -> Result<usize, Reason>
-    requires before { room.old ≡ B.before }
-    ensures { IsShown (trees_of texts.now items.now) (V.facts value.now) result room.old room.new }
-{
-    write_items::<B, V>(items, texts, value, room)
-}
-
 /// Writes the text of the items to the start of a buffer, or as much of it as fits. Returns the
 /// number of bytes of the whole text, up to the greatest `usize`.
 #[inline(never)]
-fn write_items<B: Before, V: ComponentProvider<State: Drop>>(
+pub fn write_items<B: Before, V: ComponentProvider<State: Drop>>(
     items: &[Item],
     texts: &[u8],
     value: &V,
@@ -305,13 +288,13 @@ fn write_usual<S: Sink, V: ComponentProvider>(
         25 => usual!(Minute: padding; output, value, state),
         27 => usual!(Second: padding; output, value, state),
         30 => usual!(OffsetMinute: padding; output, value, state),
-        _ => write_usual_run(head, item, output, value, state),
+        _ => write_run_or_byte(head, item, output, value, state),
     }
 }
 
 /// Writes a date, a time of day or a byte. Of any other item writes nothing, and returns `None`.
 #[inline(always)]
-fn write_usual_run<S: Sink, V: ComponentProvider>(
+fn write_run_or_byte<S: Sink, V: ComponentProvider>(
     head: u64,
     item: &Item,
     output: &mut S,
@@ -496,10 +479,8 @@ fn write_whole<S: Sink, V: ComponentProvider>(
     ensures agrees { V.agrees state.new value.now }
 {
     if LONGEST <= output.room() {
-        return match end_shown(&shown, output, value, state) {
-            Ok(()) => Ok(0),
-            Err(refused) => Err(reason_of(refused.into())),
-        };
+        end_shown(&shown, output, value, state)?;
+        return Ok(0);
     }
     let mut array = [0u8; LONGEST];
     let count = write_shown::<Brand, V>(&shown, &mut array, value, state)?;
@@ -524,10 +505,8 @@ fn write_shown<B: Before, V: ComponentProvider>(
     ensures agrees { V.agrees state.new value.now }
 {
     let mut output = RoomSink::<B>::new(room);
-    match end_shown(shown, &mut output, value, state) {
-        Ok(()) => Ok(output.len()),
-        Err(refused) => Err(reason_of(refused.into())),
-    }
+    end_shown(shown, &mut output, value, state)?;
+    Ok(output.len())
 }
 
 /// Writes a text if it fits, and returns the number of bytes that are lost if it does not.

@@ -1,5 +1,4 @@
 //! Texts read back as moments: RFC 3339, and what the other readers share.
-ghost use Rattle.std.specs.Prelude.{◌≡◌};
 ghost use Rattle.movaliren_c.specs.Place.{place_of};
 ghost use Rattle.movaliren_c.specs.Reading.{IsByParts, IsInUtc, IsRead, Leaves, Rfc3339Reads};
 ghost use Rattle.time_below.specs.Moment.{OffsetDateAndTime};

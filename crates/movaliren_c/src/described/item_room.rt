@@ -1,7 +1,7 @@
 //! Items at the start of an array.
 //!
 //! Without `inline(always)` the compiler leaves calls of the functions that have it.
-ghost use Rattle.std.specs.Prelude.{◌≡◌, ◌+◌, ◌<◌, ◌≤◌, ◌∷◌, [], List, ℕ, Option, None, length};
+ghost use Rattle.std.specs.Prelude.{◌≡◌, ◌+◌, ◌<◌, ◌∷◌, [], List, ℕ, Option, None, length};
 ghost use Rattle.std.specs.Prelude.{◌++◌, min, nat_le, slice_set};
 ghost use Rattle.movaliren_c.specs.Described.{DescribeNothing, HoldsIn, HoldsItems, HoldsListsIn};
 ghost use Rattle.movaliren_c.specs.Described.{IsItem, no_item};

@@ -10,7 +10,7 @@ ghost use Rattle.time_below.specs.Facts.{facts_of_timestamp};
 
 use crate::answers::reason::{Reason, answer_number};
 use crate::described::item::Item;
-use crate::described::{GREATEST_WIDTH, SHORT, first_reason, write_long};
+use crate::described::{GREATEST_WIDTH, SHORT, first_reason, write_items};
 use crate::values::moment::{Moment, date_value, moment_value, timestamp_value};
 use crate::values::source::local_value;
 use std::marker::Brand;
@@ -88,6 +88,6 @@ fn text_length<V: ComponentProvider<State: Drop> + Drop>(
         Err(reason) => return Err(first_reason(items, texts, reason)),
     };
     let mut start = [0u8; SHORT];
-    let count = write_long::<Brand, V>(items, texts, &value, &mut start)?;
+    let count = write_items::<Brand, V>(items, texts, &value, &mut start)?;
     Ok(count.min(GREATEST_WIDTH))
 }

@@ -134,7 +134,8 @@ fn item_shown(component: Component) -> Option<Item>
 #[inline(always)]
 #[tactic(auto, using(crate::proofs::ItemLemmas::item_is_of, crate::proofs::ItemLemmas::no_text_is))]
 pub fn item_of(component: Component) -> Item
-    ensures { (text : List ℕ) → IsItem text result (of_component component) }
+    ensures shows { (text : List ℕ) → IsItem text result (of_component component) }
+    ensures small { result.kind < 256 }
 {
     match item_shown(component.current()) {
         Some(item) => item,

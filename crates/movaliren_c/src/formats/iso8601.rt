@@ -2,10 +2,10 @@
 //!
 //! `inline(never)` keeps a long body out of its callers. Without `inline(always)` the compiler
 //! leaves calls of the function that has it.
-ghost use Rattle.std.specs.Prelude.{◌≡◌, ◌≢◌, ◌≤◌, IfErr, IfOk, IsTrue, Ok, length};
+ghost use Rattle.std.specs.Prelude.{◌≡◌, ◌≢◌, ◌<◌, ◌≤◌, IfErr, IfOk, IsFalse, IsTrue, Ok, length};
 ghost use Rattle.movaliren_c.specs.Answer.{IsAnswer, IsRefusedFor, IsText, IsWritten, gives};
 ghost use Rattle.movaliren_c.specs.Batch.{IsBatch};
-ghost use Rattle.movaliren_c.specs.Chosen.{HavePlaces, choices_at, iso8601_by, separated};
+ghost use Rattle.movaliren_c.specs.Chosen.{HavePlaces, iso8601_by, separated};
 ghost use Rattle.movaliren_c.specs.Utc.{local_value, utc_value};
 ghost use Rattle.movaliren_c.specs.Value.{moment_value};
 ghost use Rattle.time_below.specs.Facts.{date_facts};
@@ -303,7 +303,8 @@ fn write_parts(config: &Config, value: &OffsetDateTime, room: &mut [u8]) -> Resu
 /// Whether each text of a configuration fits in so many bytes. Where most callers have room, the
 /// maximum length is not computed.
 fn fits(config: &Config, room: usize) -> bool
-    ensures { IsTrue result → iso8601_width config.now ≤ room }
+    ensures fit { IsTrue result → iso8601_width config.now ≤ room }
+    ensures longer { IsFalse result → room < iso8601_width config.now }
 {
     room >= SHORT_BYTES && is_short(config) || room >= config.width()
 }
@@ -326,7 +327,8 @@ fn is_short(config: &Config) -> bool
 /// Whether a year and an offset have a place in a text: four digits hold the year, and the offset
 /// has no seconds, and minutes only where they are written.
 fn have_places(precision: OffsetPrecision, year: Year, offset: UtcOffset) -> bool
-    ensures { IsTrue result → HavePlaces precision year offset }
+    ensures there { IsTrue result → HavePlaces precision year offset }
+    ensures none { IsFalse result → ¬ HavePlaces precision year offset }
 {
     if year.get() < 0 || year.get() > 9_999 {
         return false;

@@ -103,6 +103,8 @@ fn is_kept(kept: &LogCache, seconds: i64, offset: i64) -> bool
 fn is_usual(nanosecond: u32, decimals: u8) -> bool
     ensures nanosecond { IsTrue result → nanosecond < 1_000_000_000 }
     ensures decimals { IsTrue result → decimals ≡ 3 ⊎ decimals ≡ 6 ⊎ decimals ≡ 9 }
+    ensures each { nanosecond < 1_000_000_000 → decimals ≡ 3 ⊎ decimals ≡ 6 ⊎ decimals ≡ 9
+        → IsTrue result }
 {
     nanosecond < 1_000_000_000 && matches!(decimals, 3 | 6 | 9)
 }

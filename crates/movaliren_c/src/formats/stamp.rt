@@ -6,7 +6,6 @@ ghost use Rattle.time_known.specs.Stamps.{stamp_length};
 
 use crate::answers::batch::{Progress, write_lines};
 use crate::answers::reason::Reason;
-use crate::answers::writer::Writer;
 use crate::formats::moment_text::{MomentFormat, answer_at, texts_of};
 use crate::values::moment::UtcMoment;
 use crate::values::source::InUtc;
@@ -36,24 +35,13 @@ impl MomentFormat for Stamp {
     }
 }
 
-/// Without this step a stamp costs an instruction more.
-impl Writer for Stamp {
-    type Item = UtcMoment;
-
-    ghost asked = { λ _ moment. gives (utc_value moment.seconds moment.nanosecond) utc_stamp_of };
-
-    fn write(&self, moment: &UtcMoment, room: &mut [u8]) -> Result<usize, Reason> {
-        texts_of(*self, InUtc).write(moment, room)
-    }
-}
-
 /// The stamp of a moment.
 #[unsafe(no_mangle)]
 pub extern "C" fn movaliren_stamp_utc(seconds: i64, nanosecond: u32, buffer: &mut [u8]) -> isize
     ensures { IsAnswer (gives (utc_value seconds nanosecond) utc_stamp_of)
         result buffer.old buffer.new }
 {
-    answer_at(&Stamp, seconds, nanosecond, buffer)
+    answer_at(&texts_of(Stamp, InUtc), seconds, nanosecond, buffer)
 }
 
 /// The stamps of the moments, one after another, each ended by this byte.
@@ -66,5 +54,5 @@ pub extern "C" fn movaliren_stamp_utc_batch(
     ensures { IsBatch moments.now end (λ m. gives (utc_value m.seconds m.nanosecond) utc_stamp_of)
         result buffer.old buffer.new }
 {
-    write_lines(&Stamp, moments, end, buffer)
+    write_lines(&texts_of(Stamp, InUtc), moments, end, buffer)
 }

@@ -2,7 +2,8 @@
 ghost use Rattle.std.specs.Prelude.{◌≡◌, ℕ, IfErr, IfOk, List, MatchResult, Ok, Result, map};
 ghost use Rattle.movaliren_c.specs.Items.{trees_of};
 ghost use Rattle.movaliren_c.specs.ReadItems.{HasText, HasTextInUtc, HasTextOfMoment, IsNoText};
-ghost use Rattle.movaliren_c.specs.ReadItems.{IsReadBy, IsTextOf, IsUnread, LeavesRead, read_tree};
+ghost use Rattle.movaliren_c.specs.ReadItems.{IsKindOf, IsPlaceBy, IsReadBy, IsTextOf, IsUnread};
+ghost use Rattle.movaliren_c.specs.ReadItems.{LeavesRead, read_tree};
 ghost use Rattle.movaliren_c.specs.Steps.{IsRight, trees_by};
 ghost use Rattle.movaliren_c.specs.Value.{timestamp_value};
 ghost use Rattle.movaliren_c.specs.declared.answers.reason.Reason.{Reason};
@@ -17,7 +18,6 @@ use crate::read::OfValue;
 use crate::read::place::ReadError;
 use crate::read::steps::{KEPT, first_steps, no_step, put_steps};
 use crate::values::moment::{Moment, UtcMoment};
-use std::convert::TryFrom;
 use time_below::format_description::Component;
 use time_below::{OffsetDateTime, Timestamp};
 use time_plan::{Run, Shown};
@@ -107,13 +107,15 @@ where
 }
 
 /// The number of a component among the kinds of items.
-fn kind_number(component: Component) -> u8 {
-    u8::try_from(item_of(component).kind).unwrap_or(0)
+fn kind_number(component: Component) -> u8
+    ensures { IsKindOf component result }
+{
+    item_of(component).kind as u8
 }
 
 /// Where a text is not read, as C sees it.
 fn place_by_items(fault: NotRead) -> ReadError
-    ensures { result.at ≡ fault.at }
+    ensures { IsPlaceBy fault result }
 {
     let (expected, first, last) = match fault.reason {
         Mismatch::Literal(byte) => (2, byte, byte),

@@ -1,7 +1,7 @@
 //! The items of a description as the steps of a reader: each component, or date or time of day,
 //! with the literal behind it.
 ghost use Rattle.std.specs.Prelude.{◌≡◌, ◌≤◌, ◌<◌, Err, IfErr, IfOk, IfSome, IsOk, List};
-ghost use Rattle.std.specs.Prelude.{IsSomeAnd, MatchResult, None, Result, drop, length, take};
+ghost use Rattle.std.specs.Prelude.{IsSomeAnd, MatchResult, None, Result, length, take};
 ghost use Rattle.movaliren_c.specs.Items.{trees_of};
 ghost use Rattle.movaliren_c.specs.Steps.{AreStepsOf, Begins};
 ghost use Rattle.movaliren_c.specs.declared.answers.reason.Reason.{Reason};
@@ -21,7 +21,7 @@ use time_plan_read::{LiteralRef, StepParts};
 /// The most steps that are kept.
 pub const KEPT: usize = 16;
 
-/// A step of no text.
+/// What an array holds in the place of steps that are not kept.
 pub fn no_step<'a>() -> StepParts<'a> {
     StepParts {
         shown: Shown::Run(Run::Empty),

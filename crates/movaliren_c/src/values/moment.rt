@@ -1,7 +1,7 @@
 //! Moments in the interface, and the values that they give.
 //!
-//! Without `inline(always)` the compiler leaves calls of the functions that have it. `cold` and
-//! `inline(never)` keep long or rare bodies out of their callers.
+//! Without `inline(always)` the compiler leaves a call of the function that has it. `cold` keeps a
+//! rare body out of its caller.
 ghost use Rattle.std.specs.Prelude.{◌≡◌, ◌≤◌, IsTrue, unsigned_abs};
 ghost use Rattle.movaliren_c.specs.Utc.{utc_value};
 ghost use Rattle.movaliren_c.specs.Value.{date_value, is_alike, is_offset_part, moment_value};
@@ -132,7 +132,6 @@ fn are_offset_parts(hours: i8, minutes: i8, seconds: i8) -> bool
 
 /// The same, where each part is tested after the other.
 #[cold]
-#[inline(never)]
 fn tested_offset(moment: &Moment) -> Result<UtcOffset, Reason>
     ensures { result ≡ offset_value moment.now }
 {
