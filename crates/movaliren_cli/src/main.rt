@@ -94,6 +94,12 @@ fn run_reader<S: Shows + Drop, R: Reads + Drop>(
     sources::run(rt, task, &mut job)
 }
 
+/// Why a zone is refused for texts that show their offset.
+const OFFSET_IS_SHOWN: &str = "'--from-zone' is for texts without an offset";
+
+/// Why a year is refused for texts that show theirs.
+const YEAR_IS_SHOWN: &str = "'--year' is for texts without a year";
+
 /// Replaces the first text of each line that one of the forms has, where years are these, in the
 /// zone that is asked for.
 fn run_forms<S: Shows + Drop>(
@@ -104,10 +110,10 @@ fn run_forms<S: Shows + Drop>(
     years: Years,
 ) -> ExitCode {
     if task.texts.has_own_clock && !reading::are_local(forms.as_slice()) {
-        return refuse(rt, "'--from-zone' is for texts without an offset");
+        return refuse(rt, OFFSET_IS_SHOWN);
     }
     if task.texts.year.is_some() && !reading::are_yearless(forms.as_slice()) {
-        return refuse(rt, "'--year' is for texts without a year");
+        return refuse(rt, YEAR_IS_SHOWN);
     }
     let found = match clock::find(rt, task.texts.clock) {
         Ok(found) => found,
@@ -144,10 +150,10 @@ fn run_read<S: Shows + Drop>(rt: &HostRuntime, task: &Task, shown: S) -> ExitCod
         return run_described_texts(rt, task, shown);
     }
     if task.texts.has_own_clock {
-        return refuse(rt, "'--from-zone' is for texts without an offset");
+        return refuse(rt, OFFSET_IS_SHOWN);
     }
     if task.texts.year.is_some() {
-        return refuse(rt, "'--year' is for texts without a year");
+        return refuse(rt, YEAR_IS_SHOWN);
     }
     run_reader(rt, task, shown, LenientReader::new())
 }

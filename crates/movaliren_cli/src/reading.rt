@@ -1,6 +1,6 @@
 //! The texts that `read` looks for.
 use crate::description::{Refusal, plan_of};
-use std::alloc::{AllocError, Global};
+use std::alloc::Global;
 use time_below::{Date, Timestamp};
 use time_lines::{Form, FormRow, NoForm};
 use time_plan::Plan;
@@ -112,13 +112,12 @@ pub enum NotReadBy {
 fn plans_of_each(alloc: Global, descriptions: &[&str]) -> Result<Vec<Plan>, NotReadBy> {
     let mut plans = Vec::new(alloc);
     for text in descriptions {
-        match plan_of(alloc, text) {
-            Ok(plan) => {
-                if plans.push(plan).is_err() {
-                    return Err(NotReadBy::Memory);
-                }
-            }
+        let plan = match plan_of(alloc, text) {
+            Ok(plan) => plan,
             Err(refusal) => return Err(NotReadBy::Refusal(refusal)),
+        };
+        if plans.push(plan).is_err() {
+            return Err(NotReadBy::Memory);
         }
     }
     Ok(plans)
