@@ -14,7 +14,7 @@ use time_compare::{Value, WEDNESDAY, measured, time_at};
 use time_fmt::parts::{HOUR, MINUTE};
 use time_fmt::{
     BorrowedItems, ComputeMetadata, Formattable, Metadata, OwnedItems, component_write_into,
-    v3_write_into,
+    v3_write_into, write_into_room,
 };
 
 const MONTH: Component = Component::MonthNumerical(time_fmt::parts::MONTH);
@@ -231,6 +231,20 @@ fn engines_write_where_there_is_room(rt: HostRuntime) -> Result<(), Fail> {
     assert_that(&rt, matches!(&second, Ok(1)));
     assert_same(&rt, output.as_slice(), b"09:".as_slice());
     Ok(())
+}
+
+#[test]
+fn nodes_are_written_to_the_start_of_a_slice(rt: HostRuntime) {
+    let value = some(&rt, time_at((9, 55, 6, 0)));
+    let nodes = [
+        Borrowed::Component(Component::Hour24(HOUR)),
+        Borrowed::StringLiteral(":"),
+        Borrowed::Component(Component::Minute(MINUTE)),
+    ];
+    let mut room = [b'.'; 8];
+    let written = write_into_room(&nodes, &mut room, &value, &mut ());
+    assert_that(&rt, matches!(&written, Ok(5)));
+    assert_same(&rt, room.as_slice(), b"09:55...".as_slice());
 }
 
 /// Metadata of this maximum length, of a text.
