@@ -1,5 +1,5 @@
 //! A run over all lines of a source.
-ghost use Rattle.std.specs.Prelude.{◌≡◌, ◌≢◌, ℕ, List, [], ◌∷◌, ◌++◌, OnErr, OnOk};
+ghost use Rattle.std.specs.Prelude.{◌≡◌, [], ◌++◌, OnErr, OnOk};
 ghost use Rattle.line_streams.specs.Lines.{EndsAt, IsOneLine, last_line_of, unended_of};
 ghost use Rattle.line_streams.specs.Filter.{ended_lines_of, Adds, Become, Stays};
 ghost use Rattle.line_streams.specs.Prompt.{BreaksOff, HasBegun, HasFiltered, IsFresh, Writes};

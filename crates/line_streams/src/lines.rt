@@ -1,5 +1,5 @@
 //! What is done with each line.
-ghost use Rattle.std.specs.Prelude.{◌≡◌, ◌==◌, ◌≤◌, ℕ, List, ◌∷◌, ◌++◌, length, position, OnOk};
+ghost use Rattle.std.specs.Prelude.{◌≡◌, ◌==◌, ◌≤◌, ℕ, List, ◌∷◌, length, position, OnOk};
 ghost use Rattle.std.specs.Prelude.{IfOk, drop};
 ghost use Rattle.line_streams.specs.Lines.{unended_of};
 ghost use Rattle.line_streams.specs.Filter.{ended_lines_of, Adds, Become, Stays};

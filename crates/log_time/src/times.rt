@@ -2,7 +2,6 @@
 ghost use Rattle.std.specs.Prelude.{◌↔◌, ℕ, List, Option, option_map};
 ghost use Rattle.time_below.specs.Moment.{Moment};
 ghost use Rattle.time_digits.specs.Shown.{shown};
-ghost use Rattle.time_log.specs.LogText.{LogSettings};
 ghost use Rattle.log_time.specs.Times.{IsTimeAt};
 
 use time_below::Timestamp;

@@ -1,5 +1,5 @@
 -- The moment at which the clock of a zone shows a date and time.
-use Rattle.std.specs.Prelude.{◌≡◌, ◌⊎◌, ℤ, Option, Some, None, IfSome}
+use Rattle.std.specs.Prelude.{◌≡◌, ◌⊎◌, ℤ, Option, Some, None}
 use Rattle.jiff_core.specs.Calendar.{IsYear}
 use Rattle.jiff_core.specs.Timestamp.{IsTimestampNanos}
 use Rattle.jiff_core.specs.declared.civil.datetime.DateTime.{DateTime}

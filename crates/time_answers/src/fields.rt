@@ -2,7 +2,7 @@
 //!
 //! Without `inline(always)` the compiler leaves calls of the functions that have it.
 //! `inline(never)` keeps long or rare bodies out of their callers.
-ghost use Rattle.std.specs.Prelude.{◌≡◌, ℕ, pos, true, List, [], ◌∷◌, ◌<◌, ◌^◌, ◌↔◌, IfSome};
+ghost use Rattle.std.specs.Prelude.{◌≡◌, ℕ, true, List, [], ◌∷◌, ◌<◌, ◌^◌, ◌↔◌, IfSome};
 ghost use Rattle.std.specs.Prelude.{IsTrue, MatchOption, Some, None};
 ghost use Rattle.std.specs.Char.{is_ascii_digit};
 ghost use Rattle.std.specs.Str.Parse.{digits_value};

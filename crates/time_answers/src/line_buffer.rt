@@ -1,5 +1,5 @@
 //! The line whose end has not come yet.
-ghost use Rattle.std.specs.Prelude.{◌≡◌, ◌≤◌, ℕ, List, [], ◌++◌, length, take, Option, Some, None};
+ghost use Rattle.std.specs.Prelude.{◌≡◌, ◌≤◌, ℕ, List, [], length, take, Option, Some, None};
 ghost use Rattle.std.specs.Prelude.{MatchOption, IsTrue, ◌↔◌, if◌then◌else◌};
 ghost use Rattle.time_answers.specs.LineBuffer.{kept_with};
 ghost use Rattle.time_answers.specs.declared.line_buffer.TheConstants.{LINE_LIMIT};

@@ -1,13 +1,11 @@
 //! What a line is answered by.
 //!
 //! `inline(never)` keeps long bodies out of their callers.
-ghost use Rattle.std.specs.Prelude.{◌≡◌, map, min};
+ghost use Rattle.std.specs.Prelude.{◌≡◌};
 ghost use Rattle.time_below.specs.Facts.{facts_of_offset_date_time};
-ghost use Rattle.time_below.specs.Tree.{all_of, borrowed_tree, trees};
 ghost use Rattle.time_answers.specs.Answer.{IsAnswer, Answers};
 ghost use Rattle.time_known.specs.Config.{default_choices};
 ghost use Rattle.time_answers.specs.Asked.{asked_by, asked_numbers, asked_value, formatted};
-ghost use Rattle.time_answers.specs.Asked.{time_tree};
 ghost use Rattle.time_answers.specs.Command.{date_time_numbers};
 ghost use Rattle.time_answers.specs.Fields.{numbers_of};
 ghost use Rattle.time_answers.specs.Reply.{reply_text, error_name};

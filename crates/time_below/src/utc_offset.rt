@@ -1,9 +1,9 @@
 //! Offsets from UTC.
 ghost use Rattle.std.specs.Prelude.{◌≡◌, ◌↔◌, ◌+◌, ◌*◌, ◌<◌, ◌≤◌, pos, ◌+ℤ◌, ◌*ℤ◌, unsigned_abs};
-ghost use Rattle.std.specs.Prelude.{nat_le, IsTrue, IsOk, IfOk, IfErr, codes, if◌then◌else◌};
+ghost use Rattle.std.specs.Prelude.{nat_le, IsOk, IfOk, IfErr, codes, if◌then◌else◌};
 ghost use Rattle.time_below.specs.Offset.{AreOffsetParts, IsOffset, is_negative, is_positive};
 ghost use Rattle.time_below.specs.Offset.{is_utc, settled, signed, signed_like, offset_minutes};
-ghost use Rattle.time_below.specs.Offset.{offset_of_seconds, offset_seconds, utc};
+ghost use Rattle.time_below.specs.Offset.{offset_of_seconds, offset_seconds};
 ghost use Rattle.time_below.specs.ComponentRange.{range_refusal, unconditional_range};
 
 mod text;

@@ -1,5 +1,5 @@
 //! A caller of `line_streams`.
-ghost use Rattle.std.specs.Prelude.{◌≡◌, ◌++◌, List, ℕ, codes, OnOk};
+ghost use Rattle.std.specs.Prelude.{◌≡◌, ◌++◌, codes, OnOk};
 ghost use Rattle.line_streams.specs.Prompt.{HasFiltered, IsFresh};
 
 use line_streams::{Exchange, FilterError, LineJob, run};

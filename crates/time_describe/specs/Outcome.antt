@@ -1,5 +1,5 @@
 -- What calls of this crate leave and return.
-use Rattle.std.specs.Prelude.{◌≡◌, ℕ, Bool, false, IsTrue, List, [], ◌∷◌, ◌++◌, drop, map, reverse, Result, Ok, Err}
+use Rattle.std.specs.Prelude.{◌≡◌, ℕ, Bool, false, List, [], ◌∷◌, ◌++◌, drop, map, reverse, Result, Ok, Err}
 use Rattle.std.proofs.Common.{Bor}
 use Rattle.time_below.specs.Tree.{Tree}
 use Rattle.time_describe.specs.Description.{Fails}

@@ -1,6 +1,6 @@
 -- What calls return that read the syntax of strftime.
-use Rattle.std.specs.Prelude.{◌≡◌, ℕ, ◌+◌, ◌-◌, ◌<◌, ◌==◌, Bool, true, false, IsTrue, IsOk, List, [], ◌∷◌, take, drop, Some, Result, Ok, Err}
-use Rattle.time_below.specs.Tree.{Tree, trees, of_component, all_of}
+use Rattle.std.specs.Prelude.{◌≡◌, ℕ, ◌+◌, ◌==◌, Bool, true, false, IsTrue, List, [], ◌∷◌, take, drop, Some, Result, Ok, Err}
+use Rattle.time_below.specs.Tree.{Tree, of_component}
 use Rattle.time_below.specs.declared.format_description.component.Component.{Component}
 use Rattle.time_describe.specs.Description.{Fails}
 use Rattle.time_describe.specs.Conversions.{component_of, offset, composed}

@@ -6,7 +6,6 @@
 //! Without `inline(always)` the compiler leaves calls of the functions that have it.
 ghost use Rattle.std.specs.Prelude.{◌≡◌, ◌<◌, ◌≤◌, ◌+◌, ◌++◌, ℕ, List, [], Some, length, take};
 ghost use Rattle.std.specs.Prelude.{drop};
-ghost use Rattle.time_fmt.specs.Sink.{Buffer};
 
 use crate::sink::Sink;
 use std::marker::{Brand, PhantomData};

@@ -2,7 +2,7 @@
 //!
 //! Without `inline(always)` the compiler leaves calls of the functions that have it, and keeps the
 //! sink in memory from one step to the next.
-ghost use Rattle.std.specs.Prelude.{◌≡◌, Bool, Err, IfErr, IfOk, IfSome, IsNone, IsTrue, map};
+ghost use Rattle.std.specs.Prelude.{Bool, Err, IfErr, IfOk, IfSome, IsNone, IsTrue, map};
 ghost use Rattle.time_below.specs.Tree.{Tree, all_of, trees};
 ghost use Rattle.time_below.specs.Width.{tree_width, trees_width};
 ghost use Rattle.time_fmt.specs.Guarantee.{AppendsLeaf, AppendsTree};

@@ -1,7 +1,7 @@
 //! The clock of a zone.
 //!
 //! `inline(never)` keeps a rare body out of its callers.
-ghost use Rattle.std.specs.Prelude.{◌≡◌, ◌≤ℤ◌, ◌+ℤ◌, ◌*ℤ◌, pos, neg_ℤ};
+ghost use Rattle.std.specs.Prelude.{◌≡◌, ◌≤ℤ◌, ◌+ℤ◌, pos, neg_ℤ};
 ghost use Rattle.jiff_tz.specs.Zone.{next_at, offset_at, previous_at};
 ghost use Rattle.time_below.specs.Offset.{offset_seconds};
 ghost use Rattle.time_jiff.specs.Clock.{HasOffset, IsNearest, IsSpan, nanosecond_of, since, until};

@@ -1,5 +1,5 @@
 //! What reads the moments of texts in lines.
-ghost use Rattle.std.specs.Prelude.{◌≡◌, ◌↔◌, ◌≤◌, ℕ, List, Option, IfNone, IfSome, length};
+ghost use Rattle.std.specs.Prelude.{◌≡◌, ◌≤◌, ℕ, List, Option, IfNone, IfSome, length};
 ghost use Rattle.time_below.specs.Moment.{IsMoment, local_moment};
 ghost use Rattle.time_lines.specs.Read.{SameReads};
 ghost use Rattle.time_lines.specs.declared.front.Front.{Front};

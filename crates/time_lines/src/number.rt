@@ -7,7 +7,7 @@ ghost use Rattle.std.specs.Char.{is_ascii_digit};
 ghost use Rattle.std.specs.List.{list_all};
 ghost use Rattle.std.specs.Str.Parse.{digits_value};
 ghost use Rattle.time_lines.specs.Number.{begins, decimals_length, decimals_of, decimals_value};
-ghost use Rattle.time_lines.specs.Number.{digit_count, digits_of, first_place, goes_on, has_minus};
+ghost use Rattle.time_lines.specs.Number.{digit_count, goes_on, has_minus};
 ghost use Rattle.time_lines.specs.Number.{is_digit_at, is_time, moment_after, named_moment};
 ghost use Rattle.time_lines.specs.Number.{number_start};
 ghost use Rattle.time_lines.specs.Number.{unit_by_digits, unit_for, unit_of, with_sign};

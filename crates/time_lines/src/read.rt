@@ -6,7 +6,6 @@ ghost use Rattle.std.specs.Prelude.{if◌then◌else◌};
 ghost use Rattle.line_streams.specs.Filter.{Adds};
 ghost use Rattle.time_lines.specs.Read.{IsFirstText, NoText, NothingBefore, ReadBecomes};
 ghost use Rattle.time_lines.specs.Read.{ReadsRfc3339, SameReads, offset_length, tail_length};
-ghost use Rattle.time_lines.specs.Read.{text_length};
 ghost use Rattle.time_lines.specs.Shown.{IsReplaced, SameShown};
 ghost use Rattle.time_lines.specs.declared.passed.Why.TheVariants.{NoLocalMoment, NoMoment};
 ghost use Rattle.time_read.specs.Lenient.{Rfc3339Means};

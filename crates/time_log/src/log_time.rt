@@ -1,5 +1,5 @@
 //! The times of the lines of one log.
-ghost use Rattle.std.specs.Prelude.{◌≡◌, ◌≢◌, ◌↔◌, ◌+◌, ◌<◌, ◌≤◌, ◌++◌, ◌+ℤ◌, pos, codes, nat_le};
+ghost use Rattle.std.specs.Prelude.{◌≡◌, ◌≢◌, ◌↔◌, ◌+◌, ◌<◌, ◌++◌, ◌+ℤ◌, pos, codes, nat_le};
 ghost use Rattle.std.specs.Prelude.{unsigned_abs, IfSome, IsSome, IsOk, is_err, IfOk, IfErr, OnErr};
 ghost use Rattle.std.specs.Prelude.{if◌then◌else◌, vec_len, vec_capacity};
 ghost use Rattle.time_below.specs.Offset.{offset_seconds, utc};

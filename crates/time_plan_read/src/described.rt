@@ -7,7 +7,6 @@ ghost use Rattle.time_below.specs.Facts.{Facts};
 ghost use Rattle.time_below.specs.Tree.{trees};
 ghost use Rattle.time_fmt.specs.Description.{trees_outcome};
 ghost use Rattle.time_fmt.specs.Outcome.{Outcome, done};
-ghost use Rattle.time_plan.specs.Steps.{step_trees};
 ghost use Rattle.time_plan.specs.declared.shown.Shown.{Shown};
 ghost use Rattle.time_plan_read.specs.DatesAndTimes.{HasFourDigits, are_runs, shown_by, untold};
 ghost use Rattle.time_plan_read.specs.Numbers.{AreSet, HasUnset, HaveOneSecond, HaveTheGroups};

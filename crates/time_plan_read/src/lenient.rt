@@ -1,5 +1,5 @@
 //! Readers that are lenient.
-ghost use Rattle.std.specs.Prelude.{◌≡◌, ◌≤◌, IfErr, IfOk, IfSome, length, map};
+ghost use Rattle.std.specs.Prelude.{◌≤◌, IfErr, IfOk, IfSome, length, map};
 ghost use Rattle.time_below.specs.Tree.{trees};
 ghost use Rattle.time_plan_read.specs.Left.{left_bytes};
 ghost use Rattle.time_plan_read.specs.Lenient.{BeginsByZ, HasZero, IsRead, SpellsAll};

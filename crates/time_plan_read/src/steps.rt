@@ -3,7 +3,7 @@
 //! `inline(always)` makes a read one function with what is met often, and `inline(never)` keeps the
 //! rest out of it. A read of a time of nginx counts 783 instructions, and 936 where only the
 //! attributes of this file, `read_usual` and the other functions that are kept out have any.
-ghost use Rattle.std.specs.Prelude.{◌≡◌, ◌≤◌, ◌++◌, ℕ, true, List, [], map, IsSomeAnd};
+ghost use Rattle.std.specs.Prelude.{◌≡◌, ◌++◌, ℕ, true, List, [], map, IsSomeAnd};
 ghost use Rattle.std.specs.Prelude.{length};
 ghost use Rattle.time_below.specs.Facts.{Facts};
 ghost use Rattle.time_below.specs.Tree.{trees};

@@ -3,7 +3,7 @@
 //! The attributes make one function of the fields of RFC 3339, and keep out of it what makes a
 //! fault. Without those of this crate such a text costs twice as much.
 ghost use Rattle.std.specs.Prelude.{◌≡◌, ◌≢◌, ℕ, List, IfSome, IfNone, ◌+◌, ◌-◌, ◌*◌, ◌/◌, ◌<◌};
-ghost use Rattle.std.specs.Prelude.{◌≤◌, ◌∷◌, ◌↔◌, IfOk, IfErr, IsTrue, min};
+ghost use Rattle.std.specs.Prelude.{◌≤◌, ◌∷◌, ◌↔◌, IfOk, IfErr, IsTrue};
 ghost use Rattle.time_known.specs.Rules.{Digits};
 ghost use Rattle.time_read.specs.Fault.{IsLetter, SpellsSome};
 ghost use Rattle.time_read.specs.Front.{Front, FieldFault, NoFront};

@@ -1,6 +1,5 @@
 //! The fields of a text of RFC 2822.
 ghost use Rattle.std.specs.Prelude.{◌≡◌, ◌+◌, ◌<◌, ◌≤◌, ◌↔◌, IfOk, IfErr, IsTrue, true};
-ghost use Rattle.std.specs.Int.{IsInRange};
 ghost use Rattle.time_below.specs.Calendar.{days_in_month};
 ghost use Rattle.time_read.specs.Fault.{SpellsSome};
 ghost use Rattle.time_read.specs.Front.{Front, FieldFault};

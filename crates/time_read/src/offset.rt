@@ -2,7 +2,7 @@
 //!
 //! The attributes are of the path of RFC 3339, whose texts cost twice as much without those of this
 //! crate.
-ghost use Rattle.std.specs.Prelude.{◌≡◌, ◌<◌, ◌≤◌, ◌∷◌, ℕ, [], IfOk, IfErr, OnOk, pos};
+ghost use Rattle.std.specs.Prelude.{◌≡◌, ◌<◌, ◌≤◌, ◌∷◌, ℕ, [], IfOk, IfErr, OnOk};
 ghost use Rattle.time_below.specs.Offset.{signed_offset};
 ghost use Rattle.time_read.specs.Fault.{IsLetter, SpellsSome};
 ghost use Rattle.time_read.specs.Front.{Front, FieldFault, TextFault};

@@ -2,11 +2,10 @@
 //!
 //! The attributes are of the path of RFC 3339, whose texts cost twice as much without those of this
 //! crate.
-ghost use Rattle.std.specs.Prelude.{◌≡◌, ◌≤◌, ◌↔◌, IfOk, IfErr, IfSome, IsTrue, true, drop, length};
+ghost use Rattle.std.specs.Prelude.{◌≡◌, ◌≤◌, ◌↔◌, IfOk, IfErr, IsTrue, true, drop, length};
 ghost use Rattle.std.specs.Prelude.{take};
 ghost use Rattle.std.specs.Int.{from_le_bytes, to_le_bytes, w64};
 ghost use Rattle.time_below.specs.Moment.{OffsetDateAndTime};
-ghost use Rattle.time_known.specs.Rfc3339Grammar.{Rfc3339Spells};
 ghost use Rattle.time_read.specs.Fault.{IsFirstFault, IsSecond60, SpellsSome};
 ghost use Rattle.time_read.specs.Kept.{IsKeptDate};
 ghost use Rattle.time_read.specs.Lenient.{Rfc3339Means};

@@ -2,7 +2,7 @@
 //!
 //! The attributes are of the path of RFC 3339, whose texts cost twice as much without those of this
 //! crate.
-ghost use Rattle.std.specs.Prelude.{◌≡◌, ◌≤◌, ◌↔◌, IfOk, IfErr, IsTrue, drop, length, take};
+ghost use Rattle.std.specs.Prelude.{◌≤◌, ◌↔◌, IfOk, IfErr, IsTrue, drop, length, take};
 ghost use Rattle.time_below.specs.Moment.{OffsetDateAndTime};
 ghost use Rattle.time_known.specs.Rfc3339Grammar.{Rfc3339Spells};
 ghost use Rattle.time_read.specs.Fault.{IsFirstFault, IsSecond60, SpellsSome};

@@ -1,5 +1,5 @@
 //! Stamps, which are texts of 30 bytes that sort as their moments.
-ghost use Rattle.std.specs.Prelude.{◌≡◌, ◌<◌, ◌≤◌, ◌^◌, ◌↔◌, IfOk, IfErr, IsTrue};
+ghost use Rattle.std.specs.Prelude.{◌<◌, ◌≤◌, ◌^◌, ◌↔◌, IfOk, IfErr, IsTrue};
 ghost use Rattle.std.specs.Prelude.{drop, length, take};
 ghost use Rattle.time_below.specs.Moment.{DateAndTime};
 ghost use Rattle.time_known.specs.Rules.{Digits};

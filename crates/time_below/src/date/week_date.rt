@@ -1,5 +1,5 @@
 //! Dates of the week calendar (ISO 8601-1:2019, 5.2.4).
-ghost use Rattle.std.specs.Prelude.{◌≡◌, ◌↔◌, ◌<◌, ◌≤◌, nat_le, ◌&&◌, IsOk, IfOk, IfErr, codes};
+ghost use Rattle.std.specs.Prelude.{◌≡◌, ◌↔◌, ◌<◌, nat_le, ◌&&◌, IsOk, IfOk, IfErr, codes};
 ghost use Rattle.std.specs.Prelude.{if◌then◌else◌, pos, ◌+ℤ◌, unsigned_abs};
 ghost use Rattle.std.specs.Int.{IsInRange};
 ghost use Rattle.time_below.specs.Calendar.{greatest_year, IsYear, IsDayNumber, date_at};

@@ -1,5 +1,5 @@
 //! Lines and their answers, over memory.
-ghost use Rattle.std.specs.Prelude.{ℕ, List, IfOk};
+ghost use Rattle.std.specs.Prelude.{IfOk};
 ghost use Rattle.time_answers.specs.Answer.{AreAnswers};
 ghost use Rattle.line_streams.specs.Lines.{lines_of};
 

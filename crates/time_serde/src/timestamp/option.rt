@@ -1,5 +1,5 @@
 //! Moments that may be absent.
-ghost use Rattle.std.specs.Prelude.{◌≡◌, ℤ, IfOk, MatchOption, OnOk};
+ghost use Rattle.std.specs.Prelude.{ℤ, IfOk, MatchOption, OnOk};
 ghost use Rattle.serde.specs.Event.{Sends, WritesOption, nothing, signed};
 ghost use Rattle.serde.specs.Steps.{Begins, Gives};
 ghost use Rattle.time_below.specs.Moment.{local_unix_seconds};
