@@ -12,10 +12,9 @@ ghost use Rattle.movaliren_c.specs.Utc.{local_value};
 ghost use Rattle.movaliren_c.specs.Value.{date_value, moment_value, timestamp_value};
 ghost use Rattle.time_below.specs.Facts.{Facts, facts_of_date, facts_of_offset_date_time};
 ghost use Rattle.time_below.specs.Facts.{facts_of_timestamp};
-ghost use Rattle.time_below.specs.Width.{component_width, tree_width};
-ghost use Rattle.time_fmt.specs.Description.{component_outcome, tree_outcome};
-ghost use Rattle.time_fmt.specs.Ends.{Ends};
-ghost use Rattle.time_fmt.specs.Sink.{Fits, Puts, Ready};
+ghost use Rattle.time_below.specs.Width.{tree_width};
+ghost use Rattle.time_fmt.specs.Description.{tree_outcome};
+ghost use Rattle.time_fmt.specs.Sink.{Fits, Puts};
 ghost use Rattle.time_plan.specs.Shown.{shown_tree};
 
 mod describe;
@@ -36,9 +35,7 @@ use std::marker::Brand;
 use time_below::format_description::modifier::Padding;
 use time_below::format_description::{component_width, modifier};
 use time_fmt::writers::write_bytes;
-use time_fmt::{
-    Before, Modifier, Refused, RoomSink, Run, Sink, WriteStep, write_all, write_part, write_run,
-};
+use time_fmt::{Before, Refused, RoomSink, Run, Sink, WriteStep, write_all, write_part, write_run};
 use time_plan::{Shown, end_shown};
 use time_provide::ComponentProvider;
 
@@ -55,13 +52,6 @@ const LONGEST: usize = 18;
 macro_rules! usual {
     ($name:ident: $($choice:ident),+; $output:ident, $value:ident, $state:ident) => {
         Some(write_part(modifier::$name { $($choice),+ }, $output, $value, $state))
-    };
-}
-
-/// Writes a component with these choices by a call.
-macro_rules! by_call {
-    ($name:ident: $($choice:ident),+; $output:ident, $value:ident, $state:ident) => {
-        Some(write_apart(modifier::$name { $($choice),+ }, $output, $value, $state))
     };
 }
 
@@ -164,6 +154,7 @@ pub fn write_described<V: ComponentProvider<State: Drop> + Drop>(
 
 /// The reason of the first invalid item, or else this one.
 #[cold]
+#[inline(never)]
 pub fn first_reason(items: &[Item], texts: &[u8], reason: Reason) -> Reason
     ensures { result ≡ reason_before (trees_of texts.now items.now) reason }
 {
@@ -276,10 +267,10 @@ fn write_usual<S: Sink, V: ComponentProvider>(
     match head {
         1 => usual!(Day: padding; output, value, state),
         2 => usual!(MonthShort: case_sensitive; output, value, state),
-        3 => by_call!(MonthLong: case_sensitive; output, value, state),
+        3 => usual!(MonthLong: case_sensitive; output, value, state),
         4 => usual!(MonthNumerical: padding; output, value, state),
         6 => usual!(WeekdayShort: case_sensitive; output, value, state),
-        7 => by_call!(WeekdayLong: case_sensitive; output, value, state),
+        7 => usual!(WeekdayLong: case_sensitive; output, value, state),
         13 =>
             usual!(CalendarYearFullExtendedRange: padding, sign_is_mandatory; output, value, state),
         14 =>
@@ -324,25 +315,6 @@ fn write_run_or_byte<S: Sink, V: ComponentProvider>(
         }
         _ => None,
     }
-}
-
-/// Writes a component to the sink taken out, so that a call does not keep the loop's in memory.
-#[inline(always)]
-fn write_apart<M: Modifier, S: Sink, V: ComponentProvider>(
-    part: M,
-    output: &mut S,
-    value: &V,
-    state: &mut V::State,
-) -> Result<(), Refused>
-    requires ready { Ready (S.buffer output.old) (component_width (M.component_of part))
-        (V.agrees state.old value.now) }
-    ensures writes { Ends (component_width (M.component_of part)) (S.buffer output.old) (S.buffer output.new) result
-        (component_outcome (M.component_of part) (V.facts value.now)) × V.agrees state.new value.now }
-{
-    let mut apart = output.take_out();
-    let answer = write_part(part, &mut apart, value, state);
-    output.put_back(apart);
-    answer
 }
 
 /// Writes a literal if it and two bytes fit, or else nothing. Most have one or two bytes, for which
