@@ -17,6 +17,7 @@ import chart
 PAGE = TOP / "docs/PERFORMANCE.md"
 TEXT, PLAN, CALL, READ = "|Text|At", "|By a plan|", "|Call|", "|Text|`read`|"
 HERE, CRATE, C, OLD, CHRONO = "By reference", "`time` 0.3.55", "`gmtime_r`, `strftime`, `snprintf`", "`time` 0.3.9 (2022)", "`chrono` 0.4.23 (2022)"
+JIFF = "kit's `jiff_fmt`"
 LIST, NINE = "a borrowed list of 11 items", "`2026-11-22T09:55:06.123456789Z`"
 # The rows of the table, each by the table, the row and the column of each figure, in their order.
 FIGURES = {
@@ -24,7 +25,7 @@ FIGURES = {
     "`2026-11-22 09:55:06` by a pattern that was prepared once, in Rattle": [(PLAN, LIST, HERE), (PLAN, LIST, CRATE), (PLAN, LIST, "{fmt}")],
     "RFC 3339 of Unix time, from C": [(CALL, "rfc3339_utc", "C"), (CALL, "rfc3339_utc", "`gmtime_r`, {fmt}"), (CALL, "rfc3339_utc", C)],
     "RFC 3339 of Unix time, from Rust": [(CALL, "rfc3339_utc", "Rust"), (CALL, "rfc3339_utc", OLD), (CALL, "rfc3339_utc", CHRONO)],
-    "RFC 3339 with nine decimals, read": [(READ, NINE, "`read`"), (READ, NINE, OLD), (READ, NINE, "kit's `jiff_fmt`")],
+    "RFC 3339 with nine decimals, read": [(READ, NINE, "`read`"), (READ, NINE, OLD), (READ, NINE, JIFF)],
 }
 ROW = re.compile(r"^\| (?P<name>.*?) \| (?P<ours>\d+) \| (?P<theirs>.*: \d+) \|$", re.M)
 
@@ -50,6 +51,8 @@ def said_of_tables():
     of_list = [row[HERE] / lists[name][HERE] for name, row in plans.items() if name in lists]
     made, gain = plans["the plan of 11 items is made"][HERE], lists[LIST][HERE] - plans[LIST][HERE]
     utc, names = calls["rfc3339_utc"], calls["items_format:names"]
+    of_c, by_plan = (chart.table(head)["`2026-11-28 13:30:06`"] for head in ("|Text that C reads|", "|Text|`Reader::read`|"))
+    mail = chart.table("|Text|`rfc2822::read`|")["`Fri, 21 Nov 1997 09:55:06 -0600`"]
     widths = {"three decimals": "RFC 3339, three", "six": "RFC 3339, six", "nine": "RFC 3339, nine digits"}
     same, other = ([logs[f"{short}, {second} second"][HERE] / usual[name][HERE] for short, name in widths.items()] for second in ("the same", "another"))
     alone = {"RFC 3339": "RFC 3339, nine digits", "a list of 11": LIST}
@@ -74,6 +77,9 @@ def said_of_tables():
         (f"takes {calls['format_strftime_utc:11-items']['C']}, of which {calls['items_parse_strftime:11-items']['C']} are the reading", True),
         (f"takes {calls['rfc3339']['C']} with the `gmtime_r` that makes them, which takes {calls['gmtime_r']['C']} alone", True),
         (f"take {names['C']} with the `gmtime_r`, and {names['`gmtime_r`, {fmt}']} by {{fmt}}", True),
+        (f"takes {of_c['From C']}, and {of_c['`strptime`']} by `strptime`", True),
+        (f"is made once, and takes {by_plan['`Reader::read`']}", True),
+        (f"takes {mail['`read_lenient`']}, and {mail[JIFF]} by the kit's `jiff_fmt`. `rfc2822::read` takes {mail['`rfc2822::read`']}", True),
         ("costs about 110 to 230 instructions more", 105 < min(strings) and max(strings) < 235),
         (f"1 MB of one literal takes {round(kept['one literal']['1000 kB'] / 1000)} million", True),
         ("Movaliren has the fewest in each row", fewest),
