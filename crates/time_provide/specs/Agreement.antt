@@ -1,9 +1,10 @@
 -- What a state may hold: nothing but components of the value that it is used for. And what it still holds after a
 -- call: what it held before.
-use Rattle.std.specs.Prelude.{◌≡◌, Option, Some, IfSome}
+use Rattle.std.specs.Prelude.{◌≡◌, ℕ, Option, Some, None, IfSome}
 use Rattle.time_below.specs.Facts.{DateFacts, date_facts}
 use Rattle.time_below.specs.Moment.{Moment, utc_date, utc_time}
 use Rattle.time_below.specs.Month.{month_number}
+use Rattle.time_below.specs.declared.month.Month.{Month}
 use Rattle.time_provide.specs.declared.date_state.DateState.{DateState}
 use Rattle.time_provide.specs.declared.timestamp_state.TimestampState.{TimestampState}
 
@@ -13,6 +14,11 @@ pub record Agrees (state : DateState) (date : DateFacts) : Type 0 where
   pub month : IfSome state.month (λ month. month_number month ≡ date.month)
   pub iso_week : IfSome state.iso_week (λ week. week ≡ date.iso_week)
   pub iso_year : IfSome state.iso_year (λ year. year ≡ date.iso_year)
+
+-- the state that holds a month and a day of the month, and nothing else
+abbrev pub of_month_and_day : Month → ℕ → DateState
+of_month_and_day month day =
+    record { day = Some day; month = Some month; iso_week = None; iso_year = None }
 
 -- the date and the time that are held are those of the moment in UTC, and so is what the date keeps
 pub record AgreesWithMoment (state : TimestampState) (moment : Moment) : Type 0 where

@@ -4,10 +4,11 @@
 //! call: 11 items cost a twentieth less.
 ghost use Rattle.std.specs.Prelude.{◌≡◌, ◌≤◌, unsigned_abs};
 ghost use Rattle.std.specs.Int.{IsInRange};
-ghost use Rattle.time_below.specs.Calendar.{month_of, day_of, iso_year_of, iso_week_of};
+ghost use Rattle.time_below.specs.Calendar.{OrdinalDate, month_of, day_of, iso_year_of};
+ghost use Rattle.time_below.specs.Calendar.{iso_week_of};
 ghost use Rattle.time_below.specs.Facts.{date_facts};
 ghost use Rattle.time_below.specs.Month.{month_number};
-ghost use Rattle.time_provide.specs.Agreement.{Agrees, Keeps};
+ghost use Rattle.time_provide.specs.Agreement.{Agrees, Keeps, of_month_and_day};
 
 use crate::kept::Kept;
 use crate::ranges::{Day, IsoWeekNumber, Year};
@@ -102,6 +103,20 @@ impl Kept for DateState {
 }
 
 impl DateState {
+    /// The state of a date whose month and day of the month are known.
+    pub fn from_month_and_day(month: Month, day: Day) -> DateState
+        ensures held { result ≡ of_month_and_day month day }
+        ensures agrees { (date : OrdinalDate) → month_of date ≡ month_number month
+            → day_of date ≡ day → Agrees result (date_facts date) }
+    {
+        DateState {
+            day: Some(day),
+            month: Some(month),
+            iso_week: None,
+            iso_year: None,
+        }
+    }
+
     // Keeps the year of the week calendar and the week.
     fn fill_week(&mut self, date: Date) -> (Year, IsoWeekNumber)
         requires { Agrees self.old (date_facts date) }
