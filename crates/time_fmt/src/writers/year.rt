@@ -199,7 +199,7 @@ fn in_standard_range(year: Year) -> Option<StandardYear>
         (λ standard. (standard ≡ year) × (unsigned_abs year ≤ 9_999)) }
 {
     let number = year.get();
-    if number.unsigned_abs() > 9_999 {
+    if number < -9_999 || number > 9_999 {
         return None;
     }
     Some(ri16::within(number as i16))
