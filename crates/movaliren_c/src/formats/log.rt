@@ -139,13 +139,14 @@ fn write_kept(
         ++ take kept.now.zone_len kept.now.zone)) room.old room.new }
     ensures fits { IfOk result (λ count. count ≤ length room.old) }
 {
-    let zone = &kept.zone[..kept.zone_len as usize];
-    let (a, b) = (kept.head.len(), decimals as usize);
+    // A copy of the head does not lie in the buffer, as the compiler sees.
+    let (head, zone) = (kept.head, &kept.zone[..kept.zone_len as usize]);
+    let (a, b) = (head.len(), decimals as usize);
     let count = a + b + zone.len();
     if count > room.len() {
         return Err(Reason::BufferTooSmall);
     }
-    write_over(room, 0, &kept.head);
+    write_over(room, 0, &head);
     write_decimals(room, a, nanosecond, decimals);
     write_zone(room, a + b, zone);
     Ok(count)
