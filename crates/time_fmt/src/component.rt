@@ -56,8 +56,8 @@ pub fn write_often<S: Sink, V: ComponentProvider>(
 }
 
 /// Appends the text of a component that is not deprecated, by a call. Returns its refusal, if it is
-/// refused. Of one that is deprecated writes nothing and returns `None`. In the loop over a list the
-/// compiler leaves out what `write_often` has.
+/// refused. Of one that is deprecated writes nothing and returns `None`. In the loop over a list
+/// the compiler leaves out what `write_often` has.
 #[inline(always)]
 pub(crate) fn write_current<S: Sink, V: ComponentProvider>(
     component: Component,
@@ -92,8 +92,8 @@ pub(crate) fn write_current<S: Sink, V: ComponentProvider>(
     )
 }
 
-// Appends the text of a component that is not deprecated, by a call that is not inlined. Returns its
-// refusal, if it is refused.
+// Appends the text of a component that is not deprecated, by a call that is not inlined. Returns
+// its refusal, if it is refused.
 #[inline(never)]
 fn write_rare<M: Modifier, S: Sink, V: ComponentProvider>(
     part: M,

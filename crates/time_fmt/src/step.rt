@@ -37,7 +37,8 @@ pub trait WriteStep<B: Copy>: Sized {
         value: &V,
         state: &mut V::State,
     ) -> Option<Result<(), Refused>>
-        requires room { FitsIf has_room (S.buffer output.old) (tree_width (tree_of beside self.now)) }
+        requires room { FitsIf has_room (S.buffer output.old)
+            (tree_width (tree_of beside self.now)) }
         requires agrees { V.agrees state.old value.now }
         ensures appends { AppendsLeaf (tree_of beside self.now) (V.facts value.now)
             (S.buffer output.old) (S.buffer output.new) result }
@@ -54,7 +55,8 @@ pub trait WriteStep<B: Copy>: Sized {
         value: &V,
         state: &mut V::State,
     ) -> Option<Result<(), Refused>>
-        requires room { FitsIf has_room (S.buffer output.old) (tree_width (tree_of beside self.now)) }
+        requires room { FitsIf has_room (S.buffer output.old)
+            (tree_width (tree_of beside self.now)) }
         requires agrees { V.agrees state.old value.now }
         ensures appends { AppendsLeaf (tree_of beside self.now) (V.facts value.now)
             (S.buffer output.old) (S.buffer output.new) result }

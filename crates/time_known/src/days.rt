@@ -112,8 +112,8 @@ impl CalendarDay {
         (piece_of(DAYS, row, 2), piece_of(DAYS, row + 2, 2))
     }
 
-    // A space and the first letter of the month's English name, and the next two letters. They stand
-    // behind the day, so that the compiler copies all of them together.
+    // A space and the first letter of the month's English name, and the next two letters. They
+    // stand behind the day, so that the compiler copies all of them together.
     pub(crate) fn month_letters(self) -> (&'static str, &'static str)
         ensures text { result.0.now ++ result.1.now
             ≡ codes " " ++ short_name (month_name (month_and_day self).month) }

@@ -98,8 +98,8 @@ impl DayText {
         Ok(true)
     }
 
-    /// The same by the description, after which the text of the moment's day is cached. The moment is
-    /// passed by value, so that the usual path keeps it out of memory.
+    /// The same by the description, after which the text of the moment's day is cached. The moment
+    /// is passed by value, so that the usual path keeps it out of memory.
     #[cold]
     fn append_anew(
         &mut self,

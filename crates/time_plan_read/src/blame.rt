@@ -7,8 +7,8 @@ use crate::pieces::{Way, read_pieces};
 use crate::text_fields::TextFields;
 use std::default::Default;
 
-/// Where the first number begins that is that of no value, in a text whose numbers no value has: one
-/// that is out of its own range, or the one that picks no date of its year.
+/// Where the first number begins that is that of no value, in a text whose numbers no value has:
+/// one that is out of its own range, or the one that picks no date of its year.
 pub(crate) fn stop_of_numbers<T: ReadStep>(
     steps: &[T],
     texts: &[u8],

@@ -89,8 +89,8 @@ impl<T: Node> WriteStep<()> for T {
         Some(Ok(()))
     }
 
-    /// Writes any component that is not deprecated, by a call. The sink is taken out for it alone, so
-    /// that the compiler sees that the loop stops before any other node.
+    /// Writes any component that is not deprecated, by a call. The sink is taken out for it alone,
+    /// so that the compiler sees that the loop stops before any other node.
     #[inline(always)]
     fn write_seldom<S: Sink, V: ComponentProvider>(
         &self,
