@@ -11,4 +11,5 @@ pub mod ReadIsoLemmas
 pub mod ReadItemLemmas
 pub mod ReadLemmas
 pub mod RoomLemmas
+pub mod StateLemmas
 pub mod StepLemmas

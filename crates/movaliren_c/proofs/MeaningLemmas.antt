@@ -18,7 +18,7 @@ pub value_of_given : {A B : Type 0} (value : Result A Reason) (next : A → Resu
     → with_value value next ≡ Ok b → (a : A) × (value ≡ Ok a) × (next a ≡ Ok b)
 value_of_given value next b h = grind (arith, common_steps)
 
-test_that_passed : {A : Type 0} (test : Bool) (r : Reason) (rest : Result A Reason) (a : A)
+pub test_that_passed : {A : Type 0} (test : Bool) (r : Reason) (rest : Result A Reason) (a : A)
     → checked test r rest ≡ Ok a → (test ≡ true) × (rest ≡ Ok a)
 test_that_passed test r rest a h = grind (arith, common_steps)
 

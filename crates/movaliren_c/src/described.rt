@@ -2,8 +2,9 @@
 //!
 //! Without `inline(always)` the compiler leaves calls of the functions that have it. `cold` and
 //! `inline(never)` keep long or rare bodies out of their callers.
-ghost use Rattle.std.specs.Prelude.{◌≡◌, ◌≤◌, ◌<◌, ◌+◌, ◌^◌, ◌∷◌, ℕ, IfOk, IfSome, List, MatchOption};
-ghost use Rattle.std.specs.Prelude.{MatchResult, Ok, [], false, is_ok, length, slice_range, true};
+ghost use Rattle.std.specs.Prelude.{◌≡◌, ◌≤◌, ◌<◌, ◌+◌, ◌^◌, ◌∷◌, ℕ, IfOk, IfSome, List};
+ghost use Rattle.std.specs.Prelude.{MatchOption, MatchResult, Ok, [], false, is_ok, length};
+ghost use Rattle.std.specs.Prelude.{slice_range, true};
 ghost use Rattle.movaliren_c.specs.Answer.{Answers, IsRefusedFor};
 ghost use Rattle.movaliren_c.specs.Items.{EndsItem, IsDescribed, IsPut, IsShown, PutsOrLoses};
 ghost use Rattle.movaliren_c.specs.Items.{Shows, answer_before, as_one, item_tree, part_tree};
@@ -28,7 +29,7 @@ mod syntax;
 use crate::answers::reason::{Reason, answer_number};
 use crate::answers::room::copy_text;
 use crate::described::item::{Item, Part, head_of, part_of, separators_of, text_of};
-use crate::values::moment::{Moment, date_value, moment_value, timestamp_value};
+use crate::values::moment::{Moment, date_state, date_value, moment_value, timestamp_value};
 use crate::values::source::local_value;
 use std::default::Default;
 use std::marker::Brand;
@@ -66,7 +67,7 @@ pub extern "C" fn movaliren_items_format(
     ensures { Answers result (λ answer. IsDescribed texts.now items.now
         (moment_value moment.now) facts_of_offset_date_time answer buffer.old buffer.new) }
 {
-    answer_number(write_described(items, texts, moment_value(moment), buffer))
+    answer_number(write_moment(items, texts, moment, buffer))
 }
 
 /// The text of a moment in UTC.
@@ -96,7 +97,8 @@ pub extern "C" fn movaliren_items_format_local(
     buffer: &mut [u8],
 ) -> isize
     ensures { Answers result (λ answer. IsDescribed texts.now items.now
-        (local_value seconds nanosecond offset) facts_of_offset_date_time answer buffer.old buffer.new) }
+        (local_value seconds nanosecond offset) facts_of_offset_date_time
+        answer buffer.old buffer.new) }
 {
     let value = local_value(seconds, nanosecond, offset);
     answer_number(write_described(items, texts, value, buffer))
@@ -126,9 +128,7 @@ pub extern "C" fn movaliren_items_max_length(items: &[Item], texts: &[u8]) -> is
     answer_number(width(items, texts))
 }
 
-/// Writes the text of the value by the description, if there are both. It is written to an array
-/// first, so that the buffer is as it was where there is no text. A longer text is written again,
-/// once it is known that it is complete and fits.
+/// Writes the text of the value by the description, if there are both.
 #[inline(always)]
 pub fn write_described<V: ComponentProvider<State: Drop> + Drop>(
     items: &[Item],
@@ -139,14 +139,55 @@ pub fn write_described<V: ComponentProvider<State: Drop> + Drop>(
     ensures text { IsDescribed texts.now items.now value V.facts result room.old room.new }
     ensures fits { IfOk result (λ count. count ≤ length room.old) }
 {
-    let value = match value {
-        Ok(value) => value,
-        Err(reason) => return Err(first_reason(items, texts, reason)),
-    };
+    match value {
+        Ok(value) => write_value(items, texts, &value, &mut V::State::default(), room),
+        Err(reason) => Err(first_reason(items, texts, reason)),
+    }
+}
+
+/// Writes the text of a moment by the description, if there are both. Its month and its day of the
+/// month are at hand, and need not be computed of the day of the year.
+fn write_moment(
+    items: &[Item],
+    texts: &[u8],
+    moment: &Moment,
+    room: &mut [u8],
+) -> Result<usize, Reason>
+    ensures text { IsDescribed texts.now items.now (moment_value moment.now)
+        facts_of_offset_date_time result room.old room.new }
+    ensures fits { IfOk result (λ count. count ≤ length room.old) }
+{
+    match moment_value(moment) {
+        Ok(value) => {
+            let state = &mut date_state(moment.month, moment.day);
+            write_value(items, texts, &value, state, room)
+        }
+        Err(reason) => Err(first_reason(items, texts, reason)),
+    }
+}
+
+/// Writes the text of a value by the description. It is written to an array first, so that the
+/// buffer is as it was where there is no text. A longer text is written again, once it is known that
+/// it is complete and fits.
+#[inline(always)]
+fn write_value<V: ComponentProvider>(
+    items: &[Item],
+    texts: &[u8],
+    value: &V,
+    state: &mut V::State,
+    room: &mut [u8],
+) -> Result<usize, Reason>
+    requires agrees { V.agrees state.old value.now }
+    ensures text { IsDescribed texts.now items.now (Ok value.now) V.facts
+        result room.old room.new }
+    ensures fits { IfOk result (λ count. count ≤ length room.old) }
+{
     let mut line = [0u8; SHORT];
-    match write_items::<Brand, V>(items, texts, &value, &mut line) {
+    match write_items::<Brand, V>(items, texts, value, state, &mut line) {
         Ok(count) if count <= SHORT => copy_text(&line[..count], room),
-        Ok(count) if count <= room.len() => write_items::<Brand, V>(items, texts, &value, room),
+        Ok(count) if count <= room.len() => {
+            write_items::<Brand, V>(items, texts, value, state, room)
+        }
         Ok(_) => Err(Reason::BufferTooSmall),
         Err(reason) => Err(reason),
     }
@@ -167,17 +208,21 @@ pub fn first_reason(items: &[Item], texts: &[u8], reason: Reason) -> Reason
 /// Writes the text of the items to the start of a buffer, or as much of it as fits. Returns the
 /// number of bytes of the whole text, up to the greatest `usize`.
 #[inline(never)]
-pub fn write_items<B: Before, V: ComponentProvider<State: Drop>>(
+pub fn write_items<B: Before, V: ComponentProvider>(
     items: &[Item],
     texts: &[u8],
     value: &V,
+    state: &mut V::State,
     room: &mut [u8],
 ) -> Result<usize, Reason>
     requires before { room.old ≡ B.before }
-    ensures { IsShown (trees_of texts.now items.now) (V.facts value.now) result room.old room.new }
+    requires agrees { V.agrees state.old value.now }
+    ensures shown { IsShown (trees_of texts.now items.now) (V.facts value.now)
+        result room.old room.new }
+    ensures agrees { V.agrees state.new value.now }
 {
     let mut output = RoomSink::<B>::new(room);
-    match put_items(items, texts, &mut output, value) {
+    match put_items(items, texts, &mut output, value, state) {
         Ok(lost) => Ok(output.len().saturating_add(lost)),
         Err(reason) => Err(first_reason(items, texts, reason)),
     }
@@ -186,21 +231,24 @@ pub fn write_items<B: Before, V: ComponentProvider<State: Drop>>(
 /// Writes the texts of the items into a sink, but for those that do not fit. Returns their number
 /// of bytes, up to the greatest `usize`. An item before which the loop stops is written by a call.
 /// A reason is that of the first item that is invalid or refused.
-fn put_items<S: Sink, V: ComponentProvider<State: Drop>>(
+fn put_items<S: Sink, V: ComponentProvider>(
     items: &[Item],
     texts: &[u8],
     output: &mut S,
     value: &V,
+    state: &mut V::State,
 ) -> Result<usize, Reason>
+    requires agrees { V.agrees state.old value.now }
     ensures puts { let all = trees_of texts.now items.now in IsPut (as_one all) (V.facts value.now)
         (S.buffer output.old) (S.buffer output.new) (answer_before all result) }
-    ensures lender { IfOk result (λ _. (S.buffer output.new).block.lender ≡ (S.buffer output.old).block.lender) }
+    ensures lender { IfOk result (λ _. (S.buffer output.new).block.lender
+        ≡ (S.buffer output.old).block.lender) }
+    ensures agrees { V.agrees state.new value.now }
 {
-    let mut state = V::State::default();
     let mut lost = 0usize;
     let mut left = items;
-    while let [item, behind @ ..] = write_all(left, texts, output, value, &mut state)? {
-        lost = lost.saturating_add(write_item(item, texts, output, value, &mut state)?);
+    while let [item, behind @ ..] = write_all(left, texts, output, value, state)? {
+        lost = lost.saturating_add(write_item(item, texts, output, value, state)?);
         left = behind;
     }
     Ok(lost)
@@ -354,7 +402,8 @@ fn write_usual_text<S: Sink>(
 fn pair_at(texts: &[u8], start: usize) -> Option<(u8, u8)>
     requires { start < length texts.now }
     ensures there { IfSome result (λ pair. start + 2 ≤ length texts.now) }
-    ensures bytes { IfSome result (λ pair. slice_range texts.now start (start + 2) ≡ pair.0 ∷ pair.1 ∷ []) }
+    ensures bytes { IfSome result (λ pair. slice_range texts.now start (start + 2)
+        ≡ pair.0 ∷ pair.1 ∷ []) }
 {
     if start + 1 >= texts.len() {
         return None;

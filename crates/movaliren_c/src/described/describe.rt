@@ -65,7 +65,8 @@ pub extern "C" fn movaliren_format_brackets_local(
     buffer: &mut [u8],
 ) -> isize
     ensures { Answers result (λ answer. IsText (described (few (bracket_items text.now))
-        (local_value seconds nanosecond offset) facts_of_offset_date_time) answer buffer.old buffer.new) }
+        (local_value seconds nanosecond offset) facts_of_offset_date_time)
+        answer buffer.old buffer.new) }
 {
     let value = local_value(seconds, nanosecond, offset);
     answer_number(write_text::<Brackets, _>(text, value, buffer))
@@ -109,7 +110,8 @@ pub extern "C" fn movaliren_format_strftime_local(
     buffer: &mut [u8],
 ) -> isize
     ensures { Answers result (λ answer. IsText (described (few (strftime_items text.now))
-        (local_value seconds nanosecond offset) facts_of_offset_date_time) answer buffer.old buffer.new) }
+        (local_value seconds nanosecond offset) facts_of_offset_date_time)
+        answer buffer.old buffer.new) }
 {
     let value = local_value(seconds, nanosecond, offset);
     answer_number(write_text::<Strftime, _>(text, value, buffer))

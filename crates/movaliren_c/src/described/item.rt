@@ -177,7 +177,8 @@ fn component_of(item: &Item) -> Result<Component, Reason>
 /// The bytes that an item of the kind of texts names, if they are there.
 pub fn text_of<'a>(item: &Item, texts: &'a [u8]) -> Option<&'a [u8]>
     requires { item.now.kind ≡ 255 }
-    ensures there { IfSome result (λ text. item_tree texts.now item.now ≡ Ok (byte_literal text.now)) }
+    ensures there { IfSome result (λ text. item_tree texts.now item.now
+        ≡ Ok (byte_literal text.now)) }
     ensures not_there { IfNone result (item_tree texts.now item.now ≡ Err BadItem) }
 {
     if item.start > texts.len() || item.len > texts.len() - item.start {

@@ -101,8 +101,10 @@ impl<'a> ItemRoom<'a> {
 
     /// Adds an item behind all others, unless it is left out.
     fn put(&mut self, item: Item)
-        ensures put { (text : List ℕ) (fs : List Frame) (tree : Tree) → IsItem text item tree → flat tree ≡ tree ∷ []
-            → Adds (λ room all. HoldsIn text fs room.array.now room.made room.rest room.hidden_at all) self.old self.new (tree ∷ []) }
+        ensures put { (text : List ℕ) (fs : List Frame) (tree : Tree) → IsItem text item tree
+            → flat tree ≡ tree ∷ []
+            → Adds (λ room all. HoldsIn text fs room.array.now room.made room.rest
+            room.hidden_at all) self.old self.new (tree ∷ []) }
         ensures same_reference { self.new.array.ghost_name ≡ self.old.array.ghost_name }
     {
         if self.hidden_at.is_some() {
@@ -117,7 +119,8 @@ impl<'a> ItemRoom<'a> {
     fn join(&mut self, kind: u32)
         ensures same { (text : List ℕ) (fs : List Frame) (all : List Tree)
             → HoldsIn text fs self.old.array.now self.old.made self.old.rest self.old.hidden_at all
-            → HoldsIn text fs self.new.array.now self.new.made self.new.rest self.new.hidden_at all }
+            → HoldsIn text fs self.new.array.now self.new.made self.new.rest
+            self.new.hidden_at all }
         ensures same_reference { self.new.array.ghost_name ≡ self.old.array.ghost_name }
     {
         if kind == 1 || kind == 27 {
@@ -162,9 +165,11 @@ fn make_none(array: &mut [Item])
 impl Items for ItemRoom<'_> {
     ghost use Rattle.std.specs.Prelude.{Some, false};
 
-    ghost Holds = { λ text fs room items. HoldsIn text fs room.array.now room.made room.rest room.hidden_at items };
+    ghost Holds = { λ text fs room items. HoldsIn text fs room.array.now room.made room.rest
+        room.hidden_at items };
 
-    ghost HoldsLists = { λ text fs _ items room lists. HoldsListsIn text fs items room.array.now room.made room.rest room.hidden_at lists };
+    ghost HoldsLists = { λ text fs _ items room lists. HoldsListsIn text fs items room.array.now
+        room.made room.rest room.hidden_at lists };
 
     ghost can_refuse = { false };
 

@@ -13,6 +13,7 @@ use crate::described::item::Item;
 use crate::described::{GREATEST_WIDTH, SHORT, first_reason, write_items};
 use crate::values::moment::{Moment, date_value, moment_value, timestamp_value};
 use crate::values::source::local_value;
+use std::default::Default;
 use std::marker::Brand;
 use time_provide::ComponentProvider;
 
@@ -87,7 +88,8 @@ fn text_length<V: ComponentProvider<State: Drop> + Drop>(
         Ok(value) => value,
         Err(reason) => return Err(first_reason(items, texts, reason)),
     };
+    let mut state = V::State::default();
     let mut start = [0u8; SHORT];
-    let count = write_items::<Brand, V>(items, texts, &value, &mut start)?;
+    let count = write_items::<Brand, V>(items, texts, &value, &mut state, &mut start)?;
     Ok(count.min(GREATEST_WIDTH))
 }

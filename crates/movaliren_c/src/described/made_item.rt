@@ -75,7 +75,9 @@ fn item(kind: u32, padding: Padding, flag: bool, digits: SubsecondDigits) -> Ite
 
 /// The item of this kind with this padding and this flag, which has no decimals.
 macro_rules! made {
-    ($kind:literal, $padding:expr, $flag:expr) => { Some(item($kind, $padding, $flag, SubsecondDigits::OneOrMore)) };
+    ($kind:literal, $padding:expr, $flag:expr) => {
+        Some(item($kind, $padding, $flag, SubsecondDigits::OneOrMore))
+    };
 }
 
 /// The item of a component that is written, unless it is deprecated.

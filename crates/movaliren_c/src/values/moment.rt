@@ -3,15 +3,22 @@
 //! Without `inline(always)` the compiler leaves a call of the function that has it. `cold` keeps a
 //! rare body out of its caller.
 ghost use Rattle.std.specs.Prelude.{◌≡◌, ◌≤◌, IsTrue, unsigned_abs};
+ghost use Rattle.std.specs.Int.{IsInRange};
+ghost use Rattle.movaliren_c.specs.State.{IsDateState};
 ghost use Rattle.movaliren_c.specs.Utc.{utc_value};
 ghost use Rattle.movaliren_c.specs.Value.{date_value, is_alike, is_offset_part, moment_value};
 ghost use Rattle.movaliren_c.specs.Value.{offset_of_parts, offset_value, time_of_parts, time_value};
 ghost use Rattle.movaliren_c.specs.Value.{timestamp_value};
+ghost use Rattle.time_below.specs.Calendar.{OrdinalDate, day_of, month_of};
+ghost use Rattle.time_below.specs.Facts.{date_facts};
 ghost use Rattle.time_below.specs.Moment.{utc_date_and_time};
 ghost use Rattle.time_below.specs.Offset.{HasNoOtherSign, IsOffset};
+ghost use Rattle.time_provide.specs.Agreement.{Agrees};
 
 use crate::answers::reason::Reason;
 use time_below::{Date, Month, OffsetDateTime, Time, Timestamp, UtcDateTime, UtcOffset};
+use time_provide::DateState;
+use time_provide::ranges::Day;
 
 /// A local date and time, and its offset from UTC.
 #[repr(C)]
@@ -78,6 +85,17 @@ pub fn date_value(year: i32, month: u8, day: u8) -> Result<Date, Reason>
         return Err(Reason::Day);
     }
     Ok(Date::from_valid_calendar_date(year, month, day))
+}
+
+/// What is known of a date by its month and its day of the month.
+pub fn date_state(month: u8, day: u8) -> DateState
+    requires month { IsInRange 1 12 month }
+    requires day { IsInRange 1 31 day }
+    ensures known { IsDateState month day result }
+    ensures agrees { (date : OrdinalDate) → month_of date ≡ month → day_of date ≡ day
+        → Agrees result (date_facts date) }
+{
+    DateState::from_month_and_day(Month::from_number(month), Day::within(day))
 }
 
 fn time_value(moment: &Moment) -> Result<Time, Reason>

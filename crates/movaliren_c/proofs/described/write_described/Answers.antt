@@ -1,10 +1,6 @@
 use Rattle.std.proofs.Common.{arith}
-use Rattle.std.proofs.lemmas.Grind.{common_steps}
-use Rattle.movaliren_c.proofs.DescribedLemmas.{no_room, no_value}
+use Rattle.movaliren_c.proofs.DescribedLemmas.{no_value}
 use Rattle.movaliren_c.proofs.described.write_described.Goals as goal
 
 pub returns-in-Err : goal.returns-in-Err
 returns-in-Err g c = grind (arith, no_value)
-
-pub returns-in-Ok-3 : goal.returns-in-Ok-3
-returns-in-Ok-3 g c = grind (arith, common_steps, no_room)

@@ -1,4 +1,4 @@
-use Rattle.movaliren_c.proofs.described.write_described.Given as goal
+use Rattle.movaliren_c.proofs.described.write_value.Given as goal
 
 -- what the array holds, and what the buffer does
 abbrev pub ghosts-write_items : goal.ghosts-write_items
