@@ -2,13 +2,14 @@
 //! text, and two states of dates are equal if they hold the same.
 ghost use Rattle.std.specs.Prelude.{IsTrue};
 
-use crate::texts::{assert_same, some};
+use crate::texts::{assert_same, assert_that, some};
 use std::alloc::Global;
 use std::default::Default;
 use std::fmt::Debug;
 use std::process::Abort;
 use time_below::{Date, OffsetDateTime, PlainDateTime, UtcDateTime};
 use time_compare::{date_at, moment, offset_at, time_at, timestamp_at};
+use time_digits::ru8;
 use time_provide::{ComponentProvider, DateState};
 
 #[derive(Clone, Copy, Debug)]
@@ -246,6 +247,14 @@ fn assert_shown(rt: &impl Abort, alloc: Global, date: Date) {
     }
 }
 
+/// A state of the month and the day of the month of a date is that after its day was asked for.
+fn assert_given(rt: &impl Abort, date: Date) {
+    let (_, month, day) = date.to_calendar_date();
+    let given = DateState::from_month_and_day(month, ru8::within(day));
+    let asked = state_with(&date, Kept::Day, Kept::Nothing, Kept::Nothing);
+    assert_that(rt, given == asked);
+}
+
 /// The state holds the entries of two methods, and of each of these as the third, after they were
 /// called in turn.
 fn assert_thirds<V: ComponentProvider<State = DateState>>(
@@ -300,6 +309,7 @@ const HOURS: &[(u8, i8)] = &[(0, 0), (9, -6), (23, 25)];
 /// The entries of each value on the date, at each hour.
 fn assert_date(rt: &impl Abort, alloc: Global, date: Date) {
     assert_shown(rt, alloc, date);
+    assert_given(rt, date);
     assert_pairs(rt, &date, date);
     for &(hour, offset) in HOURS {
         let time = some(rt, time_at((hour, 0, 0, 0)));
