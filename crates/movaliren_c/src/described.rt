@@ -146,7 +146,7 @@ pub fn write_described<V: ComponentProvider<State: Drop> + Drop>(
 }
 
 /// Writes the text of a moment by the description, if there are both. Its month and its day of the
-/// month are at hand, and need not be computed of the day of the year.
+/// month are at hand, and need not be computed from the day of the year.
 fn write_moment(
     items: &[Item],
     texts: &[u8],
