@@ -40,6 +40,7 @@ CHANGES = {
         ("docs/PERFORMANCE.md", r"takes (\d+ to )\d+ instructions", r"takes \g<1>1 instructions", "docs/PERFORMANCE.md does not say"),
         ("bench/RESULTS.md", r"^\|stamp_utc\|", "|stamp|", "bench/RESULTS.md: no program measures stamp"),
         ("bench/RESULTS.md", r"^\|rfc3339_utc\|\d+\|", "|rfc3339_utc|300|", "docs/PERFORMANCE.md does not say, or bench/RESULTS.md does not have: less than a tenth"),
+        ("bench/RESULTS.md", r"^\|items_format:names\|\d+\|", "|items_format:names|922|", "docs/PERFORMANCE.md does not say, or bench/RESULTS.md does not have: **No text**"),
     ],
     "docs/check_from.py": [
         ("docs/RATTLE.md", r"`moment\.format\(alloc, &Rfc3339\)", "`moment.format(&Rfc3339)", "of the pages, in Rattle: moment.format(&Rfc3339)"),
