@@ -23,9 +23,11 @@ pub record HasMonthAndDay (m d : ℕ) (date : OrdinalDate) : Type 0 where
   pub month : month_of date ≡ m
   pub day : day_of date ≡ d
 
+-- a number that passed the tests of both bounds
 in_range : (first last n : ℕ) → (nat_le first n && nat_le n last) ≡ true → (first ≤ n) × (n ≤ last)
 in_range first last n h = grind (arith, common_steps, and_parts, nat_tests)
 
+-- no month has more than 31 days
 within_month : (is_leap : Bool) (m : ℕ) → days_in_month is_leap m ≤ 31
 within_month is_leap m = grind (arith, common_steps)
 

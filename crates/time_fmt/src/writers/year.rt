@@ -199,6 +199,7 @@ fn in_standard_range(year: Year) -> Option<StandardYear>
         (λ standard. (standard ≡ year) × (unsigned_abs year ≤ 9_999)) }
 {
     let number = year.get();
+    // By these two comparisons the compiler leaves out a later one of the same year.
     if number < -9_999 || number > 9_999 {
         return None;
     }
