@@ -1,21 +1,18 @@
 #!/usr/bin/env python3
-"""Prints a program of C that has each example in the comments of the headers of C as a function."""
+"""Prints a program of C that has each example in the comments of movaliren.h as a function."""
 
 import pathlib
 import re
 
-HEADERS = [pathlib.Path(__file__).resolve().parent / "c" / name for name in ("movaliren.h", "movaliren_items.h", "movaliren_lines.h")]
+HEADER = pathlib.Path(__file__).resolve().parent / "c/movaliren.h"
 # What the examples use and do not declare.
 BEFORE = """\
 #define _DEFAULT_SOURCE
-#include <movaliren_items.h>
-#include <movaliren_lines.h>
+#include <movaliren.h>
 #include <time.h>
 
 static const struct movaliren_iso8601_config milliseconds = MOVALIREN_ISO8601_DECIMALS(3);
-static struct movaliren_moment moment;
 static struct timespec now;
-static struct tm local;
 static char line[100], text[100];
 static const int64_t numbers[1000];
 static ptrdiff_t n;
@@ -23,7 +20,7 @@ static ptrdiff_t n;
 
 
 def main():
-    comments = re.findall(r"/\*.*?\*/", "".join(header.read_text() for header in HEADERS), re.S)
+    comments = re.findall(r"/\*.*?\*/", HEADER.read_text(), re.S)
     examples = [found for comment in comments for found in re.findall(r"(?:^ \*     [^\n]*\n?)+", comment, re.M)]
     print(BEFORE)
     for number, example in enumerate(example for example in examples if ";" in example):

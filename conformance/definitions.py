@@ -5,9 +5,7 @@ and the furthest byte up to which the text begins one of its texts. `judge` trie
 byte at which no text of the grammar goes on. Mail has its own recogniser, which names the first part that is none.
 """
 import calendar
-import collections
 import datetime
-import functools
 import re
 
 DAYS = b"Mon Tue Wed Thu Fri Sat Sun".split()
@@ -154,6 +152,10 @@ def judge(grammar, text, start=None):
     raise Refused(*best)
 
 
+def named(rule, name, names):
+    return one_of(rule, [(text, {name: place}) for place, text in enumerate(names)])
+
+
 # ---- RFC 3339
 
 
@@ -161,19 +163,19 @@ def last_day(read):
     return days_of(read["year"], read["month"])
 
 
-def signed(rule_hour, rule_minute, greatest, colon, minus_zero):
+def signed(rule, greatest, colon, minus_zero):
     """A sign, hours up to the greatest and minutes. `-00:00` only where it is taken."""
-    middle = [literal(rule_hour, b":")] if colon else []
+    middle = [literal(rule, b":")] if colon else []
 
     def minute(read):
         least = 0 if minus_zero or read["sign"] > 0 or read["hours"] > 0 else 1
         return [(b"%02d" % n, {"minutes": n}) for n in range(least, 60)]
 
     return [
-        one_of(rule_hour, [(b"+", {"sign": 1}), (b"-", {"sign": -1})]),
-        number(rule_hour, "hours", 2, 0, greatest),
+        one_of(rule, [(b"+", {"sign": 1}), (b"-", {"sign": -1})]),
+        number(rule, "hours", 2, 0, greatest),
         *middle,
-        one_of(rule_minute, minute),
+        one_of(rule, minute),
     ]
 
 
@@ -205,21 +207,13 @@ def rfc3339(lenient):
         either(
             "time-offset",
             [one_of("time-offset", [(letter, {"sign": 1, "hours": 0, "minutes": 0}) for letter in z])],
-            signed("time-numoffset", "unknown-offset", 23, True, lenient),
+            signed("time-offset", 23, True, lenient),
         ),
     ]
 
 
-# ---- stamps and ISO 8601
+# ---- ISO 8601
 
-
-STAMP = [
-    *FULL_DATE,
-    literal("date-time", b"T"),
-    *CLOCK,
-    fraction("nine-decimals", 9, 9),
-    one_of("utc", [(b"Z", {"sign": 1, "hours": 0, "minutes": 0})]),
-]
 
 ISO8601 = [
     *FULL_DATE,
@@ -229,61 +223,8 @@ ISO8601 = [
     either(
         "time-shift",
         [one_of("time-shift", [(b"Z", {"sign": 1, "hours": 0, "minutes": 0})])],
-        signed("time-shift", "time-shift", 25, True, True),
+        signed("time-shift", 25, True, True),
     ),
-]
-
-
-# ---- RFC 2822, strictly
-
-
-def named(rule, name, names, has=None):
-    def choices(read):
-        return [(text, {name: place}) for place, text in enumerate(names) if has is None or has(read, place)]
-
-    return one_of(rule, choices)
-
-
-def month_has(read, place):
-    return read["day"] <= days_of(2000, place + 1)
-
-
-@functools.lru_cache(maxsize=None)
-def years_with(day, month):
-    """The years from 1900 on in which the month has the day, by each of their beginnings."""
-    begun = collections.defaultdict(list)
-    for year in range(1900, 10000):
-        if day <= days_of(year, month):
-            for length in range(4):
-                begun[(b"%04d" % year)[:length]].append(year)
-    return begun
-
-
-def year_with_day(text, at, read):
-    """A year in which the month has the day. Of all years those are tried that begin as the text does."""
-    begun = years_with(read["day"], read["place"] + 1)
-    length = max(length for length in range(4) if text[at : at + length] in begun)
-    years = begun[text[at : at + length]]
-    return one_of("year", [(b"%04d" % y, {"year": y, "month": read["place"] + 1}) for y in years])[1](text, at, read)
-
-
-MAIL = [
-    named("day-name", "weekday", DAYS),
-    literal("day-of-week", b","),
-    literal("FWS", b" "),
-    number("day", "day", 2, 1, 31),
-    literal("FWS", b" "),
-    named("month-name", "place", MONTHS, month_has),
-    literal("FWS", b" "),
-    ("year", year_with_day),
-    literal("FWS", b" "),
-    number("hour", "hour", 2, 0, 23),
-    literal("time-of-day", b":"),
-    number("minute", "minute", 2, 0, 59),
-    literal("time-of-day", b":"),
-    number("second", "second", 2, 0, 59),
-    literal("FWS", b" "),
-    *signed("zone", "minus-zero", 25, False, False),
 ]
 
 
@@ -413,18 +354,47 @@ def by_grammar(grammar):
     return read
 
 
-def strict_mail(text):
-    found = by_grammar(MAIL)(text)
-    if found["weekday"] != weekday_of(found):
-        raise Refused(0, "day-of-week-implied")
+def iso8601(text):
+    """UTC is `Z` alone, so an offset that is zero by its digits is refused at its sign."""
+    found = by_grammar(ISO8601)(text)
+    if found["offset"] == 0 and not text.endswith(b"Z"):
+        raise Refused(len(text) - len(b"+00:00"), "time-shift")
     return found
 
 
+STRICT = by_grammar(rfc3339(lenient=False))
+
+
+def written(read, form, rule):
+    """What a text means by a reader, if the one form of its value is this text, or the first byte at which that is not so."""
+
+    def judge_form(text):
+        found = read(text)
+        own = form(found)
+        if own != text:
+            raise Refused(common(text, 0, own), rule)
+        return found
+
+    return judge_form
+
+
+def stamp_form(v):
+    numbers = v["year"], v["month"], v["day"], v["hour"], v["minute"], v["second"], v["nanosecond"]
+    return b"%04d-%02d-%02dT%02d:%02d:%02d.%09dZ" % numbers
+
+
+def mail_form(v):
+    """The form of a text of RFC 2822 that is written here."""
+    sign, minutes = (b"-" if v["offset"] < 0 else b"+"), abs(v["offset"]) // 60
+    date = DAYS[weekday_of(v)], v["day"], MONTHS[v["month"] - 1], v["year"]
+    return b"%s, %02d %s %04d %02d:%02d:%02d %s%02d%02d" % (*date, v["hour"], v["minute"], v["second"], sign, *divmod(minutes, 60))
+
+
 READERS = {
-    "rfc3339": by_grammar(rfc3339(lenient=False)),
+    "rfc3339": STRICT,
     "rfc3339-lenient": by_grammar(rfc3339(lenient=True)),
-    "rfc2822": strict_mail,
+    "rfc2822": written(mail, mail_form, "form"),
     "mail": mail,
-    "iso8601": by_grammar(ISO8601),
-    "stamp": by_grammar(STAMP),
+    "iso8601": iso8601,
+    "stamp": written(STRICT, stamp_form, "form"),
 }

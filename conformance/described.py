@@ -8,7 +8,7 @@ import time
 
 import definitions
 from definitions import DAYS, MONTHS, Refused
-from definitions import days_of, digits, judge, literal, named, number, one_of
+from definitions import days_of, digits, judge, literal, named, number, one_of, signed
 
 FULL_DAYS = b"Monday Tuesday Wednesday Thursday Friday Saturday Sunday".split()
 FULL_MONTHS = b"January February March April May June July August September October November December".split()
@@ -58,16 +58,6 @@ def ordinal(rule):
     return one_of(rule, choices)
 
 
-def zone(rule, colon):
-    """An offset of at most 25:59, as values have it here and in `time`."""
-    return [
-        one_of(rule, [(b"+", {"sign": 1}), (b"-", {"sign": -1})]),
-        number(rule, "hours", 2, 0, 25),
-        *([literal(rule, b":")] if colon else []),
-        one_of(rule, lambda read: [(b"%02d" % n, {"minutes": n}) for n in range(0 if read["sign"] > 0 or read["hours"] else 1, 60)]),
-    ]
-
-
 def stands(name, names):
     return [named("field", name, names)]
 
@@ -87,8 +77,8 @@ PARTS = {
     "ordinal": [ordinal(F)],
     "twelve": [twelve(F)],
     "half": [half(F)],
-    "zone": zone(F, False),
-    "zone colon": zone(F, True),
+    "zone": signed(F, 25, False, False),
+    "zone colon": signed(F, 25, True, False),
     "nine": [digits(F, "nanosecond", 9)],
     "milli": [one_of(F, [(b"%03d" % n, {"nanosecond": n * 1000000}) for n in range(1000)])],
 }
@@ -170,47 +160,44 @@ def reader(fields, has_zone):
     return read
 
 
-def values(seed, names):
-    zone, nine, milli = (any(n in names for n in group) for group in (("zone", "zone colon"), ("nine",), ("milli",)))
-    for _ in range(60):
-        year, month = seed.choice([1000, 1582, 1900, 1969, 1970, 2000, 2024, 2026, 2100, 9999]), seed.randint(1, 12)
+def values(numbers, names):
+    has_zone, has_nine, has_milli = (any(name in names for name in group) for group in (("zone", "zone colon"), ("nine",), ("milli",)))
+    nanoseconds = [0, 1000000, 999000000] if has_milli else [0, 1, 123456789, 999999999] if has_nine else [0]
+    for _ in range(VALUES):
+        year, month = numbers.pick([1000, 1582, 1900, 1969, 1970, 2000, 2024, 2026, 2100, 9999]), numbers.between(1, 12)
         yield {
-            "year": year, "month": month, "day": seed.choice([1, 9, 10, 28, days_of(year, month)]), "hour": seed.choice([0, 1, 11, 12, 13, 23]),
-            "minute": seed.choice([0, 9, 30, 59]), "second": seed.choice([0, 9, 30, 59]),
-            "nanosecond": seed.choice([0, 1000000, 999000000]) if milli else seed.choice([0, 1, 123456789, 999999999]) if nine else 0,
-            "offset": 60 * seed.choice([0, 1, -1, 330, -210, 1439, -1439]) if zone else 0,
+            "year": year, "month": month, "day": numbers.pick([1, 9, 10, 28, days_of(year, month)]),
+            "hour": numbers.pick([0, 1, 11, 12, 13, 23]), "minute": numbers.pick([0, 9, 30, 59]), "second": numbers.pick([0, 9, 30, 59]),
+            "nanosecond": numbers.pick(nanoseconds), "offset": 60 * numbers.pick([0, 1, -1, 330, -210, 1439, -1439]) * has_zone,
         }
 
 
-def rows(seed, escaped, descriptions, parts, check):
-    made = []
+def damaged(numbers, texts):
+    """The first text, damaged at each byte, and each with another digit or in another case."""
+    whole = texts[0]
+    for at in range(len(whole) + 1):
+        yield from (whole[:at], whole[:at] + whole[at + 1 :], whole[:at] + b" " + whole[at:])
+        yield from (whole[:at] + numbers.pick(kind) + whole[at + 1 :] for kind in ([b"0", b"1", b"3", b"6", b"9"], [b"x", b"-", b"Z"]))
+    for text in texts:
+        at = numbers.between(0, len(text) - 1)
+        yield from (text[:at] + b"%d" % numbers.between(0, 9) + text[at + 1 :], text.lower(), text.upper())
+
+
+def texts(numbers, descriptions, parts, is_checked):
+    """Texts by each description, with what reads them. Those of values are compared with the C library, if that is asked for."""
     for description in descriptions:
         fields, names = parsed(description, parts)
         read = reader(fields, "zone" in names or "zone colon" in names)
-        texts = []
-        for v in values(seed, names):
-            text = text_of(names, v)
-            assert not check or text == by_c_library(description, v), (description, v)
-            texts.append(text)
-        whole = texts[0]
-        for at in range(len(whole) + 1):
-            texts += [whole[:at], whole[:at] + whole[at + 1 :], whole[:at] + b" " + whole[at:]]
-            texts += [whole[:at] + seed.choice([b"0", b"1", b"3", b"6", b"9"]) + whole[at + 1 :], whole[:at] + seed.choice([b"x", b"-", b"Z"]) + whole[at + 1 :]]
-        for text in seed.sample(texts[:60], 40):
-            at = seed.randrange(len(text))
-            texts += [text[:at] + b"%d" % seed.randrange(10) + text[at + 1 :], text.lower(), text.upper()]
-        for text in dict.fromkeys(texts):
-            try:
-                found = read(text)
-                row = ["+", "%d %d %d" % (definitions.seconds_of(found), found["nanosecond"], found["offset"]), "whole"]
-            except Refused as refused:
-                row = ["-", str(refused.at), refused.rule]
-            made.append([description, row[0], escaped(text), row[1], row[2]])
-    return made
+        whole = []
+        for value in values(numbers, names):
+            whole.append(text_of(names, value))
+            assert not is_checked or whole[-1] == by_c_library(description, value), (description, value)
+        for text in dict.fromkeys([*whole, *damaged(numbers, whole)]):
+            yield description, read, text
 
 
-def files(seed, escaped):
-    return {
-        "strftime": rows(seed, escaped, STRFTIME_DESCRIPTIONS, STRFTIME, True),
-        "brackets": rows(seed, escaped, BRACKET_DESCRIPTIONS, BRACKETS, False),
-    }
+VALUES = 20
+FILES = {
+    "strftime": (STRFTIME_DESCRIPTIONS, STRFTIME, True),
+    "brackets": (BRACKET_DESCRIPTIONS, BRACKETS, False),
+}

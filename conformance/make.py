@@ -1,8 +1,10 @@
 #!/usr/bin/env python3
-"""Writes the files of conformance texts: `make.py` in this folder.
+"""Makes the files of conformance texts.
 
-Each text is made here, from the edges of each field, and judged by `definitions.py`. No answer of any reader is used.
+Each text is made from the edges of each field, by damage to a text, or at random. `definitions.py` and `described.py` judge
+it: no answer of a reader is used. Only FOLDER is written to. From the same NUMBER the files are the same, byte for byte.
 """
+import argparse
 import pathlib
 import random
 import sys
@@ -10,62 +12,67 @@ import sys
 sys.dont_write_bytecode = True
 import definitions
 import described
+from definitions import DAYS, MONTHS, days_of
 from rules import RULES
 
-HERE = pathlib.Path(__file__).parent
-YEARS = [0, 1, 4, 100, 400, 999, 1582, 1583, 1600, 1899, 1900, 1901, 1969, 1970, 1972, 1999, 2000, 2001, 2004, 2016, 2023, 2024,
-         2026, 2037, 2038, 2039, 2100, 2262, 2263, 2400, 9996, 9999]
-BYTES = [b"0", b"1", b"5", b"9", b":", b"-", b"+", b".", b",", b" ", b"/", b"t", b"Z", b"z", b"w", b"a", b"\x00", b"\t", b"\n",
-         b"\xc2\xb2", b"\xe2\x88\x92", b"\xef\xbc\x91", b"\xff", b"("]
+# Leap years and others, the edges of the range, and years near 1970.
+YEARS = [0, 1900, 1969, 1970, 2000, 2023, 2024, 9999]
+# The edges of a field of two digits.
+EDGES = [0, 1, 9, 10, 11, 12, 13, 19, 20, 23, 24, 29, 30, 31, 32, 39, 40, 49, 50, 59, 60, 61, 69, 70, 90, 99]
+# The kinds of bytes by which a text is damaged: digits, letters, marks, white space, control characters, and what is not ASCII.
+KINDS = [
+    b"0 1 5 9".split(), b"t z Z w a".split(), b": - + . , / (".split(), [b" ", b"\t"], [b"\x00", b"\n"],
+    [b"\xff", b"\xc2\xb2", b"\xe2\x88\x92", b"\xef\xbc\x91"],
+]
+# So many texts has a format, of which the last ones are random.
+MOST = 720
+ESCAPES = {9: "\\t", 10: "\\n", 13: "\\r", 92: "\\\\"}
 
 
 def escaped(text):
     """A text on a line: a backslash, and bytes that are not printed, by their escapes."""
-    shown = {9: "\\t", 10: "\\n", 13: "\\r", 92: "\\\\"}
-    return "".join(shown.get(b) or (chr(b) if 32 <= b < 127 else "\\x%02x" % b) for b in text)
+    return "".join(ESCAPES.get(b) or (chr(b) if 32 <= b < 127 else "\\x%02x" % b) for b in text)
 
 
-def damaged(text):
-    """The text with each byte in turn changed, dropped, doubled, or the text cut there."""
+class Numbers(random.Random):
+    """Random numbers by `random` alone, whose numbers no version of Python changes."""
+
+    def between(self, least, greatest):
+        return least + int(self.random() * (greatest + 1 - least))
+
+    def pick(self, items):
+        return items[int(self.random() * len(items))]
+
+
+def damaged(numbers, text):
+    """The text cut at each byte, and with that byte dropped, doubled, or replaced by one of each kind."""
     for at in range(len(text) + 1):
         yield text[:at]
-        for byte in BYTES:
-            yield text[:at] + byte + text[at + 1 :]
         yield text[:at] + text[at + 1 :]
         yield text[:at] + text[at : at + 1] + text[at:]
+        for kind in KINDS:
+            yield text[:at] + numbers.pick(kind) + text[at + 1 :]
 
 
-def dates(seed):
-    """Each edge of each month of each year, inside and outside."""
-    for year in seed.sample(YEARS, len(YEARS)):
-        for month in (0, 1, 2, 3, 4, 6, 9, 11, 12, 13):
-            for day in (0, 1, 28, 29, 30, 31, 32):
-                yield year, month, day
+def dates(years):
+    """The edges of February of each year, those of each month of 2024, and months and days that no year has."""
+    yield from ((year, month, day) for year in years for month, day in ((1, 1), (2, 28), (2, 29), (2, 30), (12, 31)))
+    yield from ((2024, month, day) for month in range(1, 13) for day in (0, days_of(2024, month), days_of(2024, month) + 1))
 
 
-def numeric(seed, fractions, offsets):
-    """Texts of RFC 3339 and of what is like it: one field after the other at its edges."""
-    texts = [b"1985-04-12T23:20:50.52Z", b"1996-12-19T16:39:57-08:00", b"1990-12-31T23:59:60Z", b"1990-12-31T15:59:60-08:00",
-             b"1937-01-01T12:00:27.87+00:20", b"2026-11-22T09:55:06.000000000Z", b"2016-12-31T23:59:60.000000000Z"]
-    end = (fractions[0] + offsets[0]).encode()
-    texts += [b"%04d-%02d-%02dT12:30:45" % d + end for d in dates(seed)]
+def clocks():
+    """Each field of a time of day at its edges."""
     for field in range(3):
-        for n in range(100):
-            clock = [23, 59, 58]
-            clock[field] = n
-            texts.append(b"2024-02-29T%02d:%02d:%02d" % tuple(clock) + end)
-    texts += [b"2000-02-29T00:00:00%s%s" % (f.encode(), o.encode()) for f in fractions for o in offsets]
-    texts += [b"2024-%02d-10T00:00:00" % m + end for m in range(100)] + [b"2024-01-%02dT00:00:00" % d + end for d in range(100)]
-    texts += [b"2026-11-22T09:55:06%s%s%02d:%02d" % (fractions[0].encode(), s, h, m) for s in (b"+", b"-") for h in
-              [0, 1, 9, 10, 12, 14, 18, 22, 23, 24, 25, 26, 99] for m in (0, 1, 30, 59, 60, 99)]
-    texts += damaged(b"2026-11-22T09:55:06" + end)
-    texts += [b"+2026-11-22T09:55:06" + end, b"-0001-11-22T09:55:06" + end, b"10000-01-01T00:00:00" + end, b"20261122T095506" + end,
-              b"2026-W47-7T09:55:06" + end, b"2026-326T09:55:06" + end, b"2026-11-22", b"09:55:06", b"2026-11-22T09:55" + end,
-              b"2026-11-22T24:00:00" + end, b" 2026-11-22T09:55:06" + end, b"2026-11-22T09:55:06" + end + b" "]
-    while len(texts) < 2600:
-        v = (seed.randrange(10000), seed.randint(1, 12), seed.randint(1, 31), seed.randrange(24), seed.randrange(60), seed.randrange(60))
-        texts.append(b"%04d-%02d-%02dT%02d:%02d:%02d" % v + seed.choice(fractions).encode() + seed.choice(offsets).encode())
-    return texts
+        for n in EDGES:
+            yield tuple(n if it == field else usual for it, usual in enumerate((23, 59, 58)))
+
+
+def filled(texts, random_text):
+    """The texts without repeats, and random ones after them."""
+    made = dict.fromkeys(texts)
+    while len(made) < MOST:
+        made[random_text()] = None
+    return list(made)
 
 
 FRACTIONS = ["", ".0", ".5", ".9", ".12", ".123", ".123456", ".000000001", ".999999999", ".100000000", ".1234567890", ".9999999999",
@@ -75,115 +82,160 @@ NINE = [".000000000", ".000000001", ".123456789", ".999999999", ".100000000", ""
 OFFSETS = ["Z", "z", "+00:00", "-00:00", "+00:01", "-00:01", "+01:00", "-08:00", "+05:30", "+05:45", "-03:30", "+14:00", "+23:59",
            "-23:59", "+24:00", "-24:00", "+25:59", "-25:59", "+26:00", "+01:60", "+1:00", "+01", "+0100", "+01:0", "+01:00:00", "01:00",
            "", "UTC", "GMT", "Zulu", " Z", "+ 1:00", "\u221201:00"]
+EXAMPLES = [b"1985-04-12T23:20:50.52Z", b"1996-12-19T16:39:57-08:00", b"1990-12-31T23:59:60Z", b"1990-12-31T15:59:60-08:00",
+            b"1937-01-01T12:00:27.87+00:20"]
+SHAPES = ["+2026-11-22T09:55:06", "-0001-11-22T09:55:06", "10000-01-01T00:00:00", "20261122T095506", "2026-W47-7T09:55:06",
+          "2026-326T09:55:06", "2026-11-22", "2026-11-22T09:55", "2026-11-22T24:00:00", " 2026-11-22T09:55:06", "2026-11-22t09:55:06",
+          "2026-02-29t09:55:06", "2026-11-22t24:55:06", "2026-11-22 09:55:06"]
 
 
-def mail_name(year, month, day):
-    valid = 1 <= month <= 12 and year > 0 and 1 <= day <= definitions.days_of(year, month)
-    read = {"year": year, "month": month, "day": day}
-    return definitions.DAYS[definitions.weekday_of(read)] if valid else b"Mon"
+def numeric(numbers, fractions):
+    """Texts of RFC 3339 and of ISO 8601 in its extended format."""
+    usual, odd = fractions[0], fractions[2]
+    texts = EXAMPLES + [("%04d-%02d-%02dT12:30:45%sZ" % (*date, usual)).encode() for date in dates(YEARS)]
+    texts += [("2024-02-29T%02d:%02d:%02d%sZ" % (*clock, usual)).encode() for clock in clocks()]
+    texts += [("2024-%02d-10T00:00:00%sZ" % (n, usual)).encode() for n in EDGES]
+    texts += [("2024-01-%02dT00:00:00%sZ" % (n, usual)).encode() for n in EDGES]
+    texts += [("2000-02-29T00:00:00" + fraction + offset).encode() for fraction in fractions for offset in ("Z", "-00:00")]
+    texts += [("2000-02-29T00:00:00" + fraction + offset).encode() for fraction in (usual, odd) for offset in OFFSETS]
+    offsets = [(hour, 0) for hour in EDGES] + [(0, minute) for minute in EDGES]
+    texts += [("2026-11-22T09:55:06%s%s%02d:%02d" % (usual, sign, *offset)).encode() for sign in "+-" for offset in offsets]
+    texts += [(shape + usual + end).encode() for shape in SHAPES for end in ("Z", "z")] + [b"2026-11-22", b"09:55:06"]
+    texts += damaged(numbers, ("2026-11-22T09:55:06%s-06:30" % odd).encode())
+
+    def random_text():
+        date = numbers.between(0, 9999), numbers.between(1, 12), numbers.between(1, 31)
+        clock = numbers.between(0, 23), numbers.between(0, 59), numbers.between(0, 59)
+        return ("%04d-%02d-%02dT%02d:%02d:%02d" % (date + clock) + numbers.pick(fractions) + numbers.pick(OFFSETS)).encode()
+
+    return filled(texts, random_text)
 
 
-def strict_mail(seed):
+def day_name(year, month, day):
+    is_date = 1 <= month <= 12 and year > 0 and 1 <= day <= days_of(year, month)
+    return DAYS[definitions.weekday_of({"year": year, "month": month, "day": day})] if is_date else b"Mon"
+
+
+MAIL_YEARS = [1899, 1900, 1969, 1970, 2000, 2023, 2024, 9999]
+ZONES = list(definitions.ZONES) + [
+    b"gmt", b"Est", b"UTC", b"CET", b"JST", b"Z", b"z", b"A", b"m", b"J", b"j", b"N", b"y", b"-0000", b"+0000", b"+0060", b"+2559",
+    b"+2600", b"-2559", b"+100", b"+01:00", b"GMT+1", b"(UTC)", b"+0000 (UTC)", b"-0800 (PST (Pacific))", b"+0000(a\\)b)",
+    b"+0000 (open", b"+0000 )", b"+0000 x", b""]
+SPACES = [b" ", b"  ", b"\t", b"\r\n ", b"(comment)", b" (a (nested) one) ", b"(a\\)b)", b"(\\\\)", b"", b"(open", b")", b"()"]
+
+
+def strict_mail(numbers):
+    """Texts of RFC 2822 in one form."""
     texts = [b"Fri, 21 Nov 1997 09:55:06 -0600", b"Tue, 01 Jul 2003 10:52:37 +0200", b"Thu, 13 Feb 1969 23:32:54 -0330"]
-    months = [b"Xxx"] + definitions.MONTHS + [b"Yyy"]
-    for year, month, day in dates(seed):
-        if month not in (0, 13) or day == 1:
-            texts.append(b"%s, %02d %s %04d 12:30:45 +0000" % (mail_name(year, month, day), day, months[month], year))
-    for field in range(3):
-        for n in range(100):
-            clock = [23, 59, 58]
-            clock[field] = n
-            texts.append(b"Thu, 29 Feb 2024 %02d:%02d:%02d -0330" % tuple(clock))
-    texts += [b"%s, 29 Feb 2024 00:00:00 +0000" % d for d in definitions.DAYS + [b"thu", b"THU", b"Thursday", b"Xxx", b""]]
-    texts += [b"Sun, 22 Nov 2026 09:55:06 %s%02d%02d" % (s, h, m) for s in (b"+", b"-", b"", b" ") for h in
-              [0, 1, 9, 12, 14, 23, 24, 25, 26, 99] for m in (0, 1, 30, 59, 60, 99)]
-    texts += [b"Sun, 22 Nov 2026 09:55:06 " + z for z in ZONES]
-    texts += damaged(b"Sun, 22 Nov 2026 09:55:06 -0600")
-    while len(texts) < 2700:
-        y, m, d = seed.randint(1890, 9999), seed.randint(1, 12), seed.randint(1, 31)
-        name = mail_name(y, m, d) if seed.random() < 0.9 else seed.choice(definitions.DAYS)
-        clock = (seed.randrange(24), seed.randrange(60), seed.randrange(60), seed.choice([b"+", b"-"]), seed.randrange(26), seed.randrange(60))
-        texts.append(b"%s, %02d %s %04d " % (name, d, months[m], y) + b"%02d:%02d:%02d %s%02d%02d" % clock)
-    return texts
+
+    def text(date, clock, zone):
+        year, month, day = date
+        return b"%s, %02d %s %04d %02d:%02d:%02d %s" % (day_name(*date), day, MONTHS[month - 1], year, *clock, zone)
+
+    texts += [text(date, (12, 30, 45), b"+0000") for date in dates(MAIL_YEARS)]
+    texts += [text((2024, 2, 29), clock, b"-0330") for clock in clocks()]
+    texts += [text((2024, 1, n), (0, 0, 0), b"+0000") for n in EDGES]
+    texts += [b"%s, 29 Feb 2024 00:00:00 +0000" % name for name in DAYS + [b"thu", b"THU", b"Thursday", b"Xxx", b""]]
+    zones = [b"%s%02d%02d" % (sign, hour, minute) for sign in (b"+", b"-", b"", b" ") for hour in (0, 1, 14, 25, 26, 99)
+             for minute in (0, 1, 59, 60)]
+    texts += [text((2026, 11, 22), (9, 55, 6), zone) for zone in ZONES + zones]
+    texts += damaged(numbers, b"Sun, 22 Nov 2026 09:55:06 -0600")
+
+    def random_text():
+        date = numbers.between(1890, 9999), numbers.between(1, 12), numbers.between(1, 31)
+        clock = numbers.between(0, 23), numbers.between(0, 59), numbers.between(0, 59)
+        zone = b"%s%02d%02d" % (numbers.pick([b"+", b"-"]), numbers.between(0, 25), numbers.between(0, 59))
+        return text(date, clock, zone)
+
+    return filled(texts, random_text)
 
 
-ZONES = list(definitions.ZONES) + [b"gmt", b"Est", b"UTC", b"CET", b"JST", b"BST", b"IST", b"EEST", b"Z", b"z", b"A", b"m", b"J", b"j", b"N", b"y",
-                                   b"-0000", b"+0000", b"+0060", b"+2559", b"+2600", b"-2559", b"+100", b"+01:00", b"GMT+1", b"(UTC)", b"+0000 (UTC)",
-                                   b"-0800 (PST (Pacific))", b"+0000(a\\)b)", b"+0000 (open", b"+0000 )", b"+0000 x", b""]
-SPACES = [b" ", b"  ", b"\t", b"\r\n ", b"\r\n\t", b"(comment)", b" (a (nested) one) ", b"(a\\)b)", b"(\\\\)", b"", b"(open", b")", b"()"]
-
-
-def feeds(seed):
-    texts = [b"Thu,\r\n 13\r\n Feb\r\n 1969\r\n 23:32\r\n -0330 (Newfoundland Time)", b"21 Nov 97 09:55:06 GMT",
-             b"Fri, 21 Nov 1997 09(comment):   55  :  06 -0600", b"Wed, 02 Oct 2002 08:00:00 EST", b"Sat, 31 Dec 2016 23:59:60 +0000",
-             b"sun, 6 nov 1994 08:49:37 gmt", b"Tue, 1 Jul 103 10:52:37 +0200", b"Sunday, 06-Nov-94 08:49:37 GMT", b"Sun Nov  6 08:49:37 1994"]
-    texts += seed.sample(strict_mail(seed), 700)
-    for y in ["0", "00", "49", "50", "97", "99", "000", "103", "126", "999", "0000", "1899", "1900", "2026", "9999", "10000", "02026", "97a"]:
-        texts += [("%s Nov %s 09:55 GMT" % (d, y)).encode() for d in ["0", "1", "01", "9", "09", "21", "30", "31", "001", "32"]]
-    texts += [b"%s 22 %s 2026 9%s5:06 +0000" % (d, m, c) for d in (b"", b"Sun,", b"sun ,", b"Sun", b"Mon,") for m in
-              (b"Nov", b"nov", b"NOV", b"November", b"Nv", b"Now") for c in (b":5", b" : 5", b":(a)5")]
-    texts += [b"Sun, 22 Nov 2026 09:55:06 " + z for z in ZONES]
+def mail(numbers):
+    """Texts of mail and feeds, of RFC 5322 with its obsolete forms."""
+    texts = [b"Fri, 21 Nov 1997 09:55:06 -0600", b"Thu,\r\n 13\r\n Feb\r\n 1969\r\n 23:32\r\n -0330 (Newfoundland Time)",
+             b"21 Nov 97 09:55:06 GMT", b"Fri, 21 Nov 1997 09(comment):   55  :  06 -0600", b"Wed, 02 Oct 2002 08:00:00 EST",
+             b"Sat, 31 Dec 2016 23:59:60 +0000", b"sun, 6 nov 1994 08:49:37 gmt", b"Tue, 1 Jul 103 10:52:37 +0200",
+             b"Sunday, 06-Nov-94 08:49:37 GMT", b"Sun Nov  6 08:49:37 1994"]
+    texts += [b"%s, %d %s %04d 12:30:45 +0000" % (day_name(*date), date[2], MONTHS[date[1] - 1], date[0]) for date in dates(MAIL_YEARS)]
+    texts += [b"29 Feb 2024 %02d:%02d:%02d -0330" % clock for clock in clocks()]
+    texts += [b"%s Nov 2026 09:55 GMT" % day for day in b"0 1 01 9 09 10 20 30 31 001 32 40 99 -1 x".split()]
+    texts += [b"21 Nov %s 09:55 GMT" % year for year in
+              b"0 00 49 50 97 99 000 103 126 999 0000 1899 1900 2026 9999 10000 02026 97a".split()]
+    names = [day + b"," for day in DAYS] + b"sun, SUN, Sun Sunday, Xxx, ,".split() + [b"Sun ,", b""]
+    texts += [b"%s 22 Nov 2026 09:55:06 +0000" % name for name in names]
+    texts += [b"22 %s 2026 09:55:06 +0000" % month for month in b"nov NOV November Nv Now 11".split()]
+    texts += [b"Sun, 22 Nov 2026 09:55:06 " + zone for zone in ZONES]
     parts = [b"Sun", b",", b"22", b"Nov", b"2026", b"09", b":", b"55", b":", b"06", b"-0600", b""]
-    usual = [b"", b" ", b" ", b" ", b" ", b"", b"", b"", b"", b" ", b""]
+    usual = [b"", b"", b" ", b" ", b" ", b" ", b"", b"", b"", b"", b" ", b""]
     for at in range(len(parts)):
-        for space in SPACES:
-            spaces = [b""] + usual
-            spaces[at] = space
-            texts.append(b"".join(s + p for s, p in zip(spaces, parts)))
-    texts += damaged(b"22 Nov 26 09:55 gmt")
-    while len(texts) < 3000:
-        y, m, d = seed.randint(1900, 2099), seed.randint(1, 12), seed.randint(1, 31)
-        year = seed.choice(["%04d" % y] + ["%03d" % (y - 1900)] + (["%02d" % (y % 100)] if 1950 <= y <= 2049 else []))
-        name = seed.choice([b"", mail_name(y, m, d) + b","])
-        name = seed.choice([name, name.upper(), name.lower()])
-        month = seed.choice([str.lower, str.upper, str.title])(definitions.MONTHS[m - 1].decode())
-        clock = "%02d:%02d" % (seed.randrange(24), seed.randrange(60)) + seed.choice(["", ":%02d" % seed.randrange(61)])
-        words = [name, seed.choice(["%d", "%02d"]) % d, month, year, clock, seed.choice(ZONES)]
-        words = [w if isinstance(w, bytes) else w.encode() for w in words if w]
-        texts.append(b"".join(seed.choice(SPACES[:9] + [b" "] * 20) + w for w in words).lstrip())
-    return texts
+        texts += [b"".join((space if it == at else usual[it]) + part for it, part in enumerate(parts)) for space in SPACES]
+    texts += damaged(numbers, b"22 Nov 26 09:55 gmt")
+
+    def random_text():
+        year, month, day = numbers.between(1900, 2099), numbers.between(1, 12), numbers.between(1, 31)
+        years = [b"%04d" % year, b"%03d" % (year - 1900)] + [b"%02d" % (year % 100)] * (1950 <= year <= 2049)
+        clock = b"%02d:%02d" % (numbers.between(0, 23), numbers.between(0, 59)) + numbers.pick([b"", b":%02d" % numbers.between(0, 60)])
+        words = [numbers.pick([b"", day_name(year, month, day) + b","]), numbers.pick([b"%d", b"%02d"]) % day, MONTHS[month - 1],
+                 numbers.pick(years), clock, numbers.pick(ZONES)]
+        case = numbers.pick([bytes.lower, bytes.upper, bytes])
+        return b"".join(numbers.pick(SPACES[:9] + [b" "] * 20) + case(word) for word in words if word).lstrip()
+
+    return filled(texts, random_text)
 
 
-TEXTS = {
-    "rfc3339": lambda seed: numeric(seed, FRACTIONS, OFFSETS),
-    "rfc3339-lenient": lambda seed: numeric(seed, FRACTIONS, OFFSETS) + [
-        t.replace(b"T", b"t") for t in numeric(seed, FRACTIONS, OFFSETS)[:300:3]],
-    "rfc2822": strict_mail,
-    "mail": feeds,
-    "iso8601": lambda seed: numeric(seed, NINE, OFFSETS),
-    "stamp": lambda seed: numeric(seed, NINE, OFFSETS),
-}
-
-
-def answer(read, text):
-    """A line's verdict: the value by its seconds, nanosecond and offset in seconds, or the first fault."""
+def verdict(read, text):
+    """The value by its seconds, nanosecond and offset in seconds, or the first fault with the rule that decides."""
     try:
         found = read(text)
     except definitions.Refused as refused:
-        return "-", str(refused.at), refused.rule
-    value = "%d %d %d" % (definitions.seconds_of(found), found["nanosecond"], found["offset"])
-    return "+", value, "whole"
+        return "- %d %s" % (refused.at, refused.rule)
+    return "+ %d %d %d" % (definitions.seconds_of(found), found["nanosecond"], found["offset"])
 
 
-def write(name, columns, rows):
-    used = sorted({row[-1] for row in rows})
-    taken = sum(row[-4] == "+" for row in rows)
-    missing = [rule for rule in used if (name, rule) not in RULES]
-    assert not missing, (name, missing)
-    lines = ["# %d texts, of which %d are taken; see README.md" % (len(rows), taken), "# " + "\t".join(columns)]
-    lines += ["# %s: %s" % (rule, RULES[name, rule]) for rule in used]
-    path = HERE / ("%s.tsv" % name)
-    path.write_text("\n".join(lines + ["\t".join(row) for row in rows]) + "\n", encoding="ascii")
-    print("%-16s %5d texts, %5d taken, %6d bytes" % (name, len(rows), taken, path.stat().st_size))
+# Of each file of a format: its texts, and its readings by the names of their columns.
+FILES = {
+    "rfc3339": (lambda numbers: numeric(numbers, FRACTIONS), {"strict": "rfc3339", "lenient": "rfc3339-lenient"}),
+    "mail": (mail, {"verdict": "mail"}),
+    "rfc2822": (strict_mail, {"verdict": "rfc2822"}),
+    "iso8601": (lambda numbers: numeric(numbers, NINE), {"verdict": "iso8601"}),
+    "stamp": (lambda numbers: numeric(numbers, NINE), {"verdict": "stamp"}),
+}
+# The files that stand here, and the number from which their random texts come.
+HERE = ["rfc3339", "mail"]
+START = 3339
+
+
+def write(path, columns, rows):
+    """Writes a file: the count, the names of the columns, the sentence of each rule, and the rows."""
+    rules = RULES.get(path.stem, {})
+    used = sorted({cell.split()[2] for row in rows for cell in row[1:] if cell.startswith("- ")} & rules.keys())
+    head = ["%d texts; see README.md" % len(rows), "\t".join(columns)] + ["%s: %s" % (rule, rules[rule]) for rule in used]
+    lines = ["# " + line for line in head] + ["\t".join(row) for row in rows]
+    path.write_text("\n".join(lines) + "\n", encoding="ascii")
+
+
+def make(folder, start, is_all):
+    """Makes the files that stand here, or all, in a folder."""
+    folder.mkdir(parents=True, exist_ok=True)
+    for name in FILES if is_all else HERE:
+        texts, readings = FILES[name]
+        readers = [definitions.READERS[reading] for reading in readings.values()]
+        rows = [[escaped(text), *(verdict(read, text) for read in readers)] for text in texts(Numbers("%s %d" % (name, start)))]
+        write(folder / (name + ".tsv"), ["text", *readings], rows)
+    for name, descriptions in described.FILES.items() if is_all else ():
+        numbers = Numbers("%s %d" % (name, start))
+        rows = [[description, escaped(text), verdict(read, text)] for description, read, text in described.texts(numbers, *descriptions)]
+        write(folder / (name + ".tsv"), ["description", "text", "verdict"], rows)
 
 
 def main():
-    for name, texts in TEXTS.items():
-        seed = random.Random(name)
-        rows = [[*answer(definitions.READERS[name], text), text] for text in dict.fromkeys(texts(seed))]
-        write(name, ["taken", "text", "value or first fault", "rule"], [[r[0], escaped(r[3]), r[1], r[2]] for r in rows])
-    for name, rows in described.files(random.Random("described"), escaped).items():
-        write(name, ["description", "taken", "text", "value or first fault", "rule"], rows)
+    before, _, after = __doc__.partition("\n\n")
+    parser = argparse.ArgumentParser(description=before, epilog=after)
+    parser.add_argument("folder", metavar="FOLDER", type=pathlib.Path, help="where rfc3339.tsv and mail.tsv are written")
+    parser.add_argument("--all", action="store_true", help="write the texts of other formats too, which tests read")
+    parser.add_argument("--start", metavar="NUMBER", type=int, default=START, help="where random numbers start (%d)" % START)
+    given = parser.parse_args()
+    make(given.folder, given.start, given.all)
 
 
 if __name__ == "__main__":

@@ -3,11 +3,9 @@
  * the file. By a description the place of a fault is that of its component, and is not compared. Prints what is wrong, and
  * then ends with status 1. */
 #define _GNU_SOURCE
-#include "movaliren_items.h"
+#include "movaliren.h"
 
-#include <stdio.h>
 #include <stdlib.h>
-#include <string.h>
 #include <sys/mman.h>
 
 enum { LINE = 1 << 16, PAGE = 4096, ROOM = 4 * PAGE };
@@ -17,24 +15,22 @@ typedef ptrdiff_t part_reader(
 typedef ptrdiff_t utc_reader(
     const void *text, size_t text_len, struct movaliren_utc_moment *moment, struct movaliren_read_error *error);
 
-typedef ptrdiff_t parser(const void *text, size_t text_len, struct movaliren_item *items, size_t items_capacity,
+typedef ptrdiff_t parser(struct movaliren_description *description, const void *text, size_t text_len,
     struct movaliren_parse_error *error);
 
 /* The description of the line that is read. */
-static struct movaliren_item items[64];
-static size_t items_len, texts_len;
-static const char *texts;
+static struct movaliren_description form;
 
-static ptrdiff_t by_items(
+static ptrdiff_t by_form(
     const void *text, size_t text_len, struct movaliren_moment *moment, struct movaliren_read_error *error)
 {
-    return movaliren_items_read(items, items_len, texts, texts_len, text, text_len, moment, error);
+    return movaliren_description_read(&form, text, text_len, moment, error);
 }
 
-static ptrdiff_t by_items_in_utc(
+static ptrdiff_t by_form_in_utc(
     const void *text, size_t text_len, struct movaliren_utc_moment *moment, struct movaliren_read_error *error)
 {
-    return movaliren_items_read_utc(items, items_len, texts, texts_len, text, text_len, moment, error);
+    return movaliren_description_read_utc(&form, text, text_len, moment, error);
 }
 
 static const struct {
@@ -47,8 +43,8 @@ static const struct {
     { "rfc3339-lenient", movaliren_read_rfc3339_lenient, movaliren_read_rfc3339_lenient_utc, NULL },
     { "rfc2822", movaliren_read_rfc2822, movaliren_read_rfc2822_utc, NULL },
     { "mail", movaliren_read_rfc2822_lenient, movaliren_read_rfc2822_lenient_utc, NULL },
-    { "strftime", by_items, by_items_in_utc, movaliren_items_parse_strftime },
-    { "brackets", by_items, by_items_in_utc, movaliren_items_parse },
+    { "strftime", by_form, by_form_in_utc, movaliren_description_parse_strftime },
+    { "brackets", by_form, by_form_in_utc, movaliren_description_parse },
 };
 
 /* Memory between two pages that nothing may touch. */
@@ -73,20 +69,6 @@ static const char *unescaped(const char *from, char *byte)
     return from + 2;
 }
 
-static size_t text_of(const char *column, const char *end, char *text)
-{
-    size_t len = 0;
-    while (column < end)
-        column = unescaped(column, &text[len++]);
-    return len;
-}
-
-/* The seconds of an offset. */
-static long offset_of(const struct movaliren_moment *m)
-{
-    return m->offset_hours * 3600L + m->offset_minutes * 60L + m->offset_seconds;
-}
-
 /* Whether a text of this place is read as the value, or refused there. Texts without an offset are in UTC. */
 static int is_held(size_t reader, const char *text, size_t len, const char *wanted)
 {
@@ -98,7 +80,8 @@ static int is_held(size_t reader, const char *text, size_t len, const char *want
     const ptrdiff_t in_utc = readers[reader].in_utc(text, len, &utc, &same);
     const int is_alone = readers[reader].parse && by_parts == MOVALIREN_ERROR_UNDETERMINED;
     if (in_utc == 0)
-        snprintf(answer, sizeof answer, "%lld %lu %ld", (long long)utc.seconds, (unsigned long)utc.nanosecond, offset_of(&moment));
+        snprintf(answer, sizeof answer, "%lld %lu %ld", (long long)utc.seconds, (unsigned long)utc.nanosecond,
+            moment.offset_hours * 3600L + moment.offset_minutes * 60L + moment.offset_seconds);
     else
         snprintf(answer, sizeof answer, "%zu", same.at);
     if ((is_alone || (by_parts == in_utc && error.at == same.at)) && (in_utc == 0 || in_utc == MOVALIREN_ERROR_NOT_READ)
@@ -112,14 +95,12 @@ static int is_held(size_t reader, const char *text, size_t len, const char *want
 static const char *after_description(size_t reader, const char *line)
 {
     struct movaliren_parse_error error;
-    ptrdiff_t count;
+    const size_t len = strcspn(line, "\t");
     if (!readers[reader].parse)
         return line;
-    texts = line;
-    texts_len = strcspn(line, "\t");
-    count = readers[reader].parse(texts, texts_len, items, 64, &error);
-    items_len = count < 0 ? 0 : (size_t)count;
-    return line + texts_len + 1;
+    if (readers[reader].parse(&form, line, len, &error) < 0)
+        printf("%.*s: refused\n", (int)len, line);
+    return line + len + 1;
 }
 
 /* Whether a line of the file is held at both ends of the memory. */
@@ -127,8 +108,10 @@ static int is_line_held(size_t reader, const char *line)
 {
     static char text[LINE];
     const char *from = strchr(after_description(reader, line), '\t') + 1, *end = strchr(from, '\t'), *rule = strchr(end + 1, '\t');
-    const size_t len = text_of(from, end, text);
+    size_t len = 0;
     char wanted[100];
+    while (from < end)
+        from = unescaped(from, &text[len++]);
     snprintf(wanted, sizeof wanted, "%.*s", (int)(rule - end - 1), end + 1);
     if (len > ROOM)
         return 0;
@@ -139,22 +122,17 @@ static int is_line_held(size_t reader, const char *line)
     return is_held(reader, room, len, wanted);
 }
 
-static int make_room(void)
-{
-    char *pages = mmap(NULL, ROOM + 2 * PAGE, PROT_NONE, MAP_PRIVATE | MAP_ANONYMOUS, -1, 0);
-    room = pages + PAGE;
-    return pages != MAP_FAILED && mprotect(room, ROOM, PROT_READ | PROT_WRITE) == 0;
-}
-
 int main(int argc, char **argv)
 {
     static char line[LINE];
     size_t reader = 0;
     long count = 0, wrong = 0;
     FILE *file = argc == 3 ? fopen(argv[2], "r") : NULL;
+    char *pages = mmap(NULL, ROOM + 2 * PAGE, PROT_NONE, MAP_PRIVATE | MAP_ANONYMOUS, -1, 0);
+    room = pages + PAGE;
     while (reader < sizeof readers / sizeof *readers && argc == 3 && strcmp(readers[reader].name, argv[1]) != 0)
         reader++;
-    if (!file || reader == sizeof readers / sizeof *readers || !make_room())
+    if (!file || reader == sizeof readers / sizeof *readers || pages == MAP_FAILED || mprotect(room, ROOM, PROT_READ | PROT_WRITE))
         return 2;
     while (fgets(line, sizeof line, file))
         if (strncmp(line, "# ", 2) != 0) {

@@ -35,23 +35,16 @@ int main(void)
         movaliren_iso8601_with_utc(&milliseconds, 879350106, 120000000, buffer, most), buffer);
     show("local time", movaliren_rfc3339_local(879350106, 120000000, -21600, buffer, most), buffer);
 
-    struct movaliren_item items[8];
-    char texts[32];
-    struct movaliren_description line = MOVALIREN_DESCRIPTION_INIT(items, texts);
-    if (movaliren_description_parse_strftime(&line, "%-d %B, week %G-W%V") < 0)
+    static const char week_form[] = "%-d %B, week %G-W%V", no_form[] = "%-d %Q";
+    struct movaliren_description form;
+    struct movaliren_parse_error error;
+    if (movaliren_description_parse_strftime(&form, week_form, strlen(week_form), &error) < 0)
         return 1;
-    printf("%-13s %td\n", "width", movaliren_description_max_length(&line));
-    show("a moment", movaliren_description_format(&line, &moment, buffer, most), buffer);
-    show("a date", movaliren_description_format_date(&line, 2026, 11, 22, buffer, most), buffer);
-    if (movaliren_description_parse_strftime(&line, "%-d %Q") < 0)
-        printf("%-13s none: %s\n", "%Q", movaliren_parse_error_message(&line.parse_error, buffer));
-
-    struct movaliren_moment moments[] = { moment, moment, moment };
-    moments[1].offset_hours = 0;
-    moments[2].day = 31;
-    struct movaliren_progress progress = movaliren_rfc3339_batch(moments, 3, '\n', buffer, most);
-    printf("%-13s %zu of 3 moments, then none: %s\n%.*s", "a batch", progress.moments,
-        movaliren_strerror(progress.error), (int)progress.bytes, buffer);
+    printf("%-13s %td\n", "width", movaliren_description_max_length(&form));
+    show("a moment", movaliren_description_format(&form, &moment, buffer, most), buffer);
+    show("a date", movaliren_description_format_date(&form, 2026, 11, 22, buffer, most), buffer);
+    if (movaliren_description_parse_strftime(&form, no_form, strlen(no_form), &error) < 0)
+        show("%Q", movaliren_parse_strerror_r(&error, buffer, most), buffer);
 
     moment.year = 10000;
     show("year 10000", movaliren_rfc3339(&moment, buffer, most), buffer);

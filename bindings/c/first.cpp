@@ -3,5 +3,5 @@
 
 int main()
 {
-    std::cout << movaliren::rfc3339(std::chrono::system_clock::now()) << " started\n";
+    std::cout << movaliren::format(movaliren::rfc3339, std::chrono::system_clock::now()) << " started\n";
 }

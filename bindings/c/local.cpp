@@ -11,7 +11,7 @@ static void log(movaliren::sys_time<std::chrono::nanoseconds> now)
     const std::time_t second = std::chrono::floor<std::chrono::seconds>(now).time_since_epoch().count();
     std::tm local;
     localtime_r(&second, &local);
-    std::cout << movaliren::iso8601(now, std::chrono::seconds(local.tm_gmtoff), 3) << " opened\n";
+    std::cout << movaliren::format(movaliren::iso8601(3), now, std::chrono::seconds(local.tm_gmtoff)) << " opened\n";
 }
 
 int main()

@@ -6,14 +6,15 @@
 #include <stdio.h>
 #include <time.h>
 
+static const struct movaliren_iso8601_config milliseconds = MOVALIREN_ISO8601_DECIMALS(3);
+
 static void *work(void *name)
 {
-    static _Thread_local struct movaliren_log_cache kept;
     char stamp[MOVALIREN_ISO8601_SIZE];
     struct timespec now;
     for (int line = 0; line < 3 && clock_gettime(CLOCK_REALTIME, &now) == 0; line++) {
         ptrdiff_t n = MOVALIREN_TO_ARRAY(
-            stamp, movaliren_log_time, &kept, 3, now.tv_sec, (uint32_t)now.tv_nsec, 0);
+            stamp, movaliren_iso8601_with_utc, &milliseconds, now.tv_sec, (uint32_t)now.tv_nsec);
         printf("%s %s line %d\n", n < 0 ? movaliren_strerror(n) : stamp, (char *)name, line);
     }
     return 0;

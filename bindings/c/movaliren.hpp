@@ -1,10 +1,11 @@
 // Movaliren for C++17: texts of the time points of std::chrono, and errors as std::error_code. It adds to movaliren.h,
 // which says what each format is and what it refuses.
 //
-//     std::cout << movaliren::rfc3339(std::chrono::system_clock::now()) << '\n';
+//     std::cout << movaliren::format(movaliren::rfc3339, std::chrono::system_clock::now()) << '\n';
 //
-// A call allocates nothing but where it returns a std::string or a description, adds to one, or throws. A description is
-// held in a vector and a string. A time point has any duration; what is finer than a nanosecond is rounded down, before
+// format takes what the text is of: a format below or a description; then a time point, and after it the offset of local
+// time, if it is to be shown. read takes a format or a description, and a text. A call allocates nothing but where it
+// returns a std::string or throws. A time point has any duration; what is finer than a nanosecond is rounded down, before
 // 1970 too. With <format>, a text is an argument of std::format.
 #ifndef MOVALIREN_HPP
 #define MOVALIREN_HPP
@@ -14,14 +15,14 @@
 #include <cstddef>
 #include <cstdint>
 #include <iterator>
-#include <movaliren_items.h>
-#include <movaliren_lines.h>
+#include <movaliren.h>
 #include <ostream>
+#include <ratio>
 #include <string>
 #include <string_view>
 #include <system_error>
+#include <type_traits>
 #include <utility>
-#include <vector>
 #if __has_include(<version>)
 #include <version>
 #endif
@@ -81,40 +82,253 @@ template <> struct std::is_error_code_enum<movaliren::errc> : std::true_type {};
 
 namespace movaliren {
 
+// The error of a call, or an error code of zero.
+inline std::error_code error_of(std::ptrdiff_t answer) noexcept
+{
+    return answer < 0 ? make_error_code(static_cast<errc>(answer)) : std::error_code();
+}
+
+// The count that a call returned. After an error throws std::system_error.
+inline std::size_t checked(std::ptrdiff_t answer)
+{
+    if (answer < 0)
+        throw std::system_error(error_of(answer));
+    return static_cast<std::size_t>(answer);
+}
+
+// ---- moments
+
 // A time point of the system's clock, with any duration.
 template <class Duration> using sys_time = std::chrono::time_point<std::chrono::system_clock, Duration>;
+
+// Whether the seconds of each duration of this type are an std::int64_t.
+template <class Duration>
+inline constexpr bool has_seconds = std::is_integral_v<typename Duration::rep>
+    &&std::is_signed_v<typename Duration::rep> && sizeof(typename Duration::rep) <= sizeof(std::int64_t)
+    && std::ratio_less_equal_v<typename Duration::period, std::ratio<1>>;
+
+// The seconds and the nanosecond of a time point, rounded down.
+template <class Duration> movaliren_utc_moment moment_of(sys_time<Duration> point)
+{
+    using seconds = std::chrono::duration<std::int64_t>;
+    using nanoseconds = std::chrono::duration<std::int64_t, std::nano>;
+    const auto since = point.time_since_epoch();
+    if constexpr (!has_seconds<Duration>) {
+        // Far outside of the years -999999 to 999999. No number of a type is cut to one in range.
+        const auto about = std::chrono::duration<long double>(since).count();
+        if (!(about > -1e14L && about < 1e14L))
+            return { INT64_MAX, 0 };
+    }
+    const auto second = std::chrono::floor<seconds>(since);
+    const auto rest = std::chrono::floor<nanoseconds>(since - second).count();
+    return { second.count(), static_cast<std::uint32_t>(rest > 999'999'999 ? 999'999'999 : rest) };
+}
+
+inline const movaliren_utc_moment &moment_of(const movaliren_utc_moment &moment) { return moment; }
+
+// The time point of a moment, in nanoseconds. Outside of the years 1677 to 2262, which these reach, throws
+// std::system_error with errc::moment_seconds.
+inline sys_time<std::chrono::nanoseconds> time_point_of(const movaliren_utc_moment &moment)
+{
+    const std::int64_t least = INT64_MIN / 1'000'000'000, most = INT64_MAX / 1'000'000'000;
+    if (moment.seconds < least || moment.seconds >= most)
+        throw std::system_error(make_error_code(errc::moment_seconds));
+    return sys_time<std::chrono::nanoseconds>(
+        std::chrono::seconds(moment.seconds) + std::chrono::nanoseconds(moment.nanosecond));
+}
+
+// ---- formats: what a text is of. Each has a `size`, with which an array holds any text and a zero after it.
+
+// RFC 3339, as 1985-04-12T23:20:50.52Z.
+struct rfc3339_format {
+    static constexpr std::size_t size = MOVALIREN_RFC3339_SIZE;
+    template <class... To> static auto utc(To... to) { return movaliren_rfc3339_utc(to...); }
+    template <class... To> static auto local(To... to) { return movaliren_rfc3339_local(to...); }
+    template <class... To> static auto parts(To... to) { return movaliren_rfc3339(to...); }
+    template <class... To> static auto read_utc(To... to) { return movaliren_read_rfc3339_utc(to...); }
+    template <class... To> static auto read(To... to) { return movaliren_read_rfc3339(to...); }
+};
+inline constexpr rfc3339_format rfc3339;
+
+// The same, which also reads texts of other programs.
+struct rfc3339_lenient_format : rfc3339_format {
+    template <class... To> static auto read_utc(To... to) { return movaliren_read_rfc3339_lenient_utc(to...); }
+    template <class... To> static auto read(To... to) { return movaliren_read_rfc3339_lenient(to...); }
+};
+inline constexpr rfc3339_lenient_format rfc3339_lenient;
+
+// RFC 2822, as Fri, 21 Nov 1997 15:55:06 +0000.
+struct rfc2822_format {
+    static constexpr std::size_t size = MOVALIREN_RFC2822_SIZE;
+    template <class... To> static auto utc(To... to) { return movaliren_rfc2822_utc(to...); }
+    template <class... To> static auto local(To... to) { return movaliren_rfc2822_local(to...); }
+    template <class... To> static auto parts(To... to) { return movaliren_rfc2822(to...); }
+    template <class... To> static auto read_utc(To... to) { return movaliren_read_rfc2822_utc(to...); }
+    template <class... To> static auto read(To... to) { return movaliren_read_rfc2822(to...); }
+};
+inline constexpr rfc2822_format rfc2822;
+
+// The same, which also reads dates of mail and of feeds.
+struct rfc2822_lenient_format : rfc2822_format {
+    template <class... To> static auto read_utc(To... to) { return movaliren_read_rfc2822_lenient_utc(to...); }
+    template <class... To> static auto read(To... to) { return movaliren_read_rfc2822_lenient(to...); }
+};
+inline constexpr rfc2822_lenient_format rfc2822_lenient;
+
+// ISO 8601 by a configuration.
+struct iso8601_with {
+    static constexpr std::size_t size = MOVALIREN_ISO8601_WITH_SIZE;
+    movaliren_iso8601_config config;
+    template <class... To> auto utc(To... to) const { return movaliren_iso8601_with_utc(&config, to...); }
+    template <class... To> auto local(To... to) const { return movaliren_iso8601_with_local(&config, to...); }
+    template <class... To> auto parts(To... to) const { return movaliren_iso8601_with(&config, to...); }
+    template <class... To> auto read_utc(To... to) const { return movaliren_read_iso8601_with_utc(&config, to...); }
+    template <class... To> auto read(To... to) const { return movaliren_read_iso8601_with(&config, to...); }
+};
+
+// ISO 8601 with this many decimals of a second, 0 to 9, as 1997-11-12T15:55:06.120Z for 3. More decimals than 9 are an
+// error where the text has more than 35 bytes.
+struct iso8601 : iso8601_with {
+    static constexpr std::size_t size = MOVALIREN_ISO8601_SIZE;
+    explicit constexpr iso8601(std::uint8_t decimals = 9) : iso8601_with{ MOVALIREN_ISO8601_DECIMALS(decimals) } {}
+};
+
+// The date of HTTP, as Sun, 06 Nov 1994 08:49:37 GMT, of a time point or a movaliren_moment.
+struct imf_fixdate_format {
+    static constexpr std::size_t size = MOVALIREN_IMF_FIXDATE_SIZE;
+    template <class... To> static auto utc(To... to) { return movaliren_imf_fixdate_utc(to...); }
+    template <class... To> static auto parts(To... to) { return movaliren_imf_fixdate(to...); }
+};
+inline constexpr imf_fixdate_format imf_fixdate;
+
+// A stamp of 30 bytes, as 1997-11-12T15:55:06.000000000Z, of a time point alone. Stamps sort by bytes as their moments do.
+struct stamp_format {
+    static constexpr std::size_t size = MOVALIREN_STAMP_SIZE;
+    template <class... To> static auto utc(To... to) { return movaliren_stamp_utc(to...); }
+};
+inline constexpr stamp_format stamp;
+
+// A text is no description: what is wrong, and at which byte. what() says both.
+class invalid_description : public std::system_error {
+public:
+    invalid_description(std::ptrdiff_t answer, const movaliren_parse_error &error)
+        : std::system_error(error_of(answer)), parse_error_(error)
+    {
+        MOVALIREN_TO_ARRAY(words_, movaliren_parse_strerror_r, &error);
+    }
+
+    const char *what() const noexcept override { return words_; }
+
+    const movaliren_parse_error &parse_error() const noexcept { return parse_error_; }
+
+private:
+    movaliren_parse_error parse_error_;
+    char words_[MOVALIREN_WORDS_SIZE];
+};
+
+// A description, which is made once from a text, and formats and reads any number of texts.
+//
+//     const auto line = movaliren::description::parse_strftime("%d of %B");
+//     const std::string today = movaliren::format(line, std::chrono::system_clock::now());
+class description {
+public:
+    // The description in brackets, as [year]-[month]-[day]. Throws invalid_description.
+    static description parse(std::string_view text) { return parsed(text, movaliren_description_parse); }
+
+    // The description in the syntax of strftime. Throws invalid_description.
+    static description parse_strftime(std::string_view text) { return parsed(text, movaliren_description_parse_strftime); }
+
+    // No text has more bytes.
+    std::size_t max_length() const { return checked(movaliren_description_max_length(&form_)); }
+
+    template <class... To> auto utc(To... to) const { return movaliren_description_format_utc(&form_, to...); }
+    template <class... To> auto local(To... to) const { return movaliren_description_format_local(&form_, to...); }
+    template <class... To> auto parts(To... to) const { return movaliren_description_format(&form_, to...); }
+    template <class... To> auto date(To... to) const { return movaliren_description_format_date(&form_, to...); }
+    template <class... To> auto read_utc(To... to) const { return movaliren_description_read_utc(&form_, to...); }
+    template <class... To> auto read(To... to) const { return movaliren_description_read(&form_, to...); }
+
+private:
+    template <class Parse> static description parsed(std::string_view text, Parse parse)
+    {
+        description made;
+        movaliren_parse_error error;
+        const std::ptrdiff_t answer = parse(&made.form_, text.data(), text.size(), &error);
+        if (answer < 0)
+            throw invalid_description(answer, error);
+        return made;
+    }
+
+    movaliren_description form_;
+};
+
+// ---- texts
+
+// Writes the text of a point to a buffer, as the calls of movaliren.h do: of a time point or a movaliren_utc_moment, in UTC.
+template <class Format, class Point>
+auto write(const Format &what, char *buffer, std::size_t size, const Point &point)
+    -> decltype(moment_of(point), std::ptrdiff_t())
+{
+    const auto moment = moment_of(point);
+    return what.utc(moment.seconds, moment.nanosecond, buffer, size);
+}
+
+// The same by the local date and time, which is `offset` ahead of UTC.
+template <class Format, class Point>
+auto write(const Format &what, char *buffer, std::size_t size, const Point &point, std::chrono::seconds offset)
+    -> decltype(moment_of(point), std::ptrdiff_t())
+{
+    const auto moment = moment_of(point);
+    return what.local(moment.seconds, moment.nanosecond, std::int64_t{ offset.count() }, buffer, size);
+}
+
+// The text of a local date and time by its parts.
+template <class Format>
+std::ptrdiff_t write(const Format &what, char *buffer, std::size_t size, const movaliren_moment &moment)
+{
+    return what.parts(&moment, buffer, size);
+}
+
+// The text of a zoned time by its local date and time: of std::chrono::zoned_time, and of another type with its members.
+template <class Format, class Zoned>
+auto write(const Format &what, char *buffer, std::size_t size, const Zoned &zoned)
+    -> decltype(zoned.get_info().offset, std::ptrdiff_t())
+{
+    return write(what, buffer, size, zoned.get_sys_time(), zoned.get_info().offset);
+}
+
+// The text of a date by a description: of std::chrono::year_month_day, and of another type with its members.
+template <class Format, class Date>
+auto write(const Format &what, char *buffer, std::size_t size, const Date &date)
+    -> decltype(unsigned(date.month()), std::ptrdiff_t())
+{
+    return what.date(int(date.year()), static_cast<std::uint8_t>(unsigned(date.month())),
+        static_cast<std::uint8_t>(unsigned(date.day())), buffer, size);
+}
 
 // A text of less than `Size` bytes, in this object, or the error that kept it from being written.
 template <std::size_t Size> class text {
 public:
     // Takes a call that writes to a buffer and its size, as those of movaliren.h.
-    template <class Call> explicit text(Call write) { len_ = write(bytes_, Size - 1); }
+    template <class Call> explicit text(Call call) { len_ = call(bytes_, Size - 1); }
 
     // Whether the text was written.
     explicit operator bool() const noexcept { return len_ >= 0; }
 
     // The error, or an error code of zero where the text was written.
-    std::error_code error() const noexcept
-    {
-        return len_ < 0 ? make_error_code(static_cast<errc>(len_)) : std::error_code();
-    }
+    std::error_code error() const noexcept { return error_of(len_); }
 
     // The bytes of the text, or none after an error. They last as long as this object.
     std::string_view view() const &noexcept
     {
-        return { bytes_, len_ < 0 ? std::size_t{0} : static_cast<std::size_t>(len_) };
+        return { bytes_, len_ < 0 ? std::size_t{ 0 } : static_cast<std::size_t>(len_) };
     }
 
     // The text. After an error throws std::system_error.
-    std::string_view value() const &
-    {
-        if (len_ < 0)
-            throw std::system_error(error());
-        return view();
-    }
+    std::string_view value() const & { return { bytes_, checked(len_) }; }
 
     // The text of an object that ends with the expression is copied.
-    std::string value() && { return std::string(static_cast<const text &>(*this).value()); }
+    std::string value() && { return { bytes_, checked(len_) }; }
 
 private:
     char bytes_[Size];
@@ -127,183 +341,45 @@ template <std::size_t Size> std::ostream &operator<<(std::ostream &out, const te
     return text ? out << text.view() : out << '<' << text.error().message() << '>';
 }
 
-// The seconds and the nanosecond of a time point, rounded down.
-template <class Duration> movaliren_utc_moment moment_of(sys_time<Duration> point)
+// The text of a point by a format, which has an array of its own.
+template <class Format, class... Point> text<Format::size> format(const Format &what, const Point &...point)
 {
-    using seconds = std::chrono::duration<std::int64_t>;
-    using nanoseconds = std::chrono::duration<std::int64_t, std::nano>;
-    const auto since = point.time_since_epoch();
-    // Far outside of the years -999999 to 999999. No number of a type is cut to one in range.
-    const auto about = std::chrono::duration<long double>(since).count();
-    if (!(about > -1e14L && about < 1e14L))
-        return { INT64_MAX, 0 };
-    const auto second = std::chrono::floor<seconds>(since);
-    const auto rest = std::chrono::floor<nanoseconds>(since - second).count();
-    return { second.count(), static_cast<std::uint32_t>(rest > 999'999'999 ? 999'999'999 : rest) };
+    return text<Format::size>([&](char *buffer, std::size_t size) { return write(what, buffer, size, point...); });
 }
 
-// RFC 3339, as 1985-04-12T23:20:50.52Z.
-template <class Duration> text<MOVALIREN_RFC3339_SIZE> rfc3339(sys_time<Duration> point)
+// The text of a point by a description. After an error throws std::system_error.
+template <class... Point> std::string format(const description &what, const Point &...point)
 {
-    const auto moment = moment_of(point);
-    return text<MOVALIREN_RFC3339_SIZE>([moment](char *buffer, std::size_t size) {
-        return movaliren_rfc3339_utc(moment.seconds, moment.nanosecond, buffer, size);
-    });
+    std::string text(what.max_length(), '\0');
+    text.resize(checked(write(what, text.data(), text.size(), point...)));
+    return text;
 }
 
-// The same by the local date and time, which is `offset` ahead of UTC, as 1985-04-12T23:20:50.52+02:00.
-template <class Duration>
-text<MOVALIREN_RFC3339_SIZE> rfc3339(sys_time<Duration> point, std::chrono::seconds offset)
-{
-    const auto moment = moment_of(point);
-    return text<MOVALIREN_RFC3339_SIZE>([moment, offset](char *buffer, std::size_t size) {
-        return movaliren_rfc3339_local(moment.seconds, moment.nanosecond, offset.count(), buffer, size);
-    });
-}
-
-inline text<MOVALIREN_RFC3339_SIZE> rfc3339(const movaliren_utc_moment &moment)
-{
-    return text<MOVALIREN_RFC3339_SIZE>([&moment](char *buffer, std::size_t size) {
-        return movaliren_rfc3339_utc(moment.seconds, moment.nanosecond, buffer, size);
-    });
-}
-
-inline text<MOVALIREN_RFC3339_SIZE> rfc3339(const movaliren_moment &moment)
-{
-    return text<MOVALIREN_RFC3339_SIZE>(
-        [&moment](char *buffer, std::size_t size) { return movaliren_rfc3339(&moment, buffer, size); });
-}
-
-// That of a zoned time by its local date and time: of std::chrono::zoned_time, and of another type with its members.
-template <class Zoned, class = decltype(std::declval<const Zoned &>().get_info().offset)>
-text<MOVALIREN_RFC3339_SIZE> rfc3339(const Zoned &zoned)
-{
-    return rfc3339(zoned.get_sys_time(), zoned.get_info().offset);
-}
-
-#if __cplusplus >= 202002L
-// That of a local date and time, which is `offset` ahead of UTC.
-template <class Duration>
-text<MOVALIREN_RFC3339_SIZE> rfc3339(std::chrono::local_time<Duration> local, std::chrono::seconds offset)
-{
-    return rfc3339(sys_time<Duration>(local.time_since_epoch()) - offset, offset);
-}
-#endif
-
-// RFC 2822, as Fri, 21 Nov 1997 15:55:06 +0000.
-template <class Duration> text<MOVALIREN_RFC2822_SIZE> rfc2822(sys_time<Duration> point)
-{
-    const auto moment = moment_of(point);
-    return text<MOVALIREN_RFC2822_SIZE>([moment](char *buffer, std::size_t size) {
-        return movaliren_rfc2822_utc(moment.seconds, moment.nanosecond, buffer, size);
-    });
-}
-
-// The same by the local date and time, which is `offset` ahead of UTC.
-template <class Duration>
-text<MOVALIREN_RFC2822_SIZE> rfc2822(sys_time<Duration> point, std::chrono::seconds offset)
-{
-    const auto moment = moment_of(point);
-    return text<MOVALIREN_RFC2822_SIZE>([moment, offset](char *buffer, std::size_t size) {
-        return movaliren_rfc2822_local(moment.seconds, moment.nanosecond, offset.count(), buffer, size);
-    });
-}
-
-inline text<MOVALIREN_RFC2822_SIZE> rfc2822(const movaliren_moment &moment)
-{
-    return text<MOVALIREN_RFC2822_SIZE>(
-        [&moment](char *buffer, std::size_t size) { return movaliren_rfc2822(&moment, buffer, size); });
-}
-
-// ISO 8601 by a configuration.
-template <class Duration>
-text<MOVALIREN_ISO8601_WITH_SIZE> iso8601(sys_time<Duration> point, const movaliren_iso8601_config &config)
-{
-    const auto moment = moment_of(point);
-    return text<MOVALIREN_ISO8601_WITH_SIZE>([&config, moment](char *buffer, std::size_t size) {
-        return movaliren_iso8601_with_utc(&config, moment.seconds, moment.nanosecond, buffer, size);
-    });
-}
-
-// The same by the local date and time, which is `offset` ahead of UTC.
-template <class Duration>
-text<MOVALIREN_ISO8601_WITH_SIZE> iso8601(
-    sys_time<Duration> point, std::chrono::seconds offset, const movaliren_iso8601_config &config)
-{
-    const auto moment = moment_of(point);
-    return text<MOVALIREN_ISO8601_WITH_SIZE>([&config, moment, offset](char *buffer, std::size_t size) {
-        return movaliren_iso8601_with_local(
-            &config, moment.seconds, moment.nanosecond, offset.count(), buffer, size);
-    });
-}
-
-inline text<MOVALIREN_ISO8601_WITH_SIZE> iso8601(
-    const movaliren_moment &moment, const movaliren_iso8601_config &config)
-{
-    return text<MOVALIREN_ISO8601_WITH_SIZE>([&config, &moment](char *buffer, std::size_t size) {
-        return movaliren_iso8601_with(&config, &moment, buffer, size);
-    });
-}
-
-// ISO 8601 with this many decimals of a second, 0 to 9, as 1997-11-12T15:55:06.120Z for 3. More decimals than
-// 9 are an error where the text has more than 35 bytes.
-template <class Duration>
-text<MOVALIREN_ISO8601_SIZE> iso8601(sys_time<Duration> point, std::uint8_t decimals)
-{
-    const movaliren_iso8601_config config = MOVALIREN_ISO8601_DECIMALS(decimals);
-    const auto moment = moment_of(point);
-    return text<MOVALIREN_ISO8601_SIZE>([&config, moment](char *buffer, std::size_t size) {
-        return movaliren_iso8601_with_utc(&config, moment.seconds, moment.nanosecond, buffer, size);
-    });
-}
-
-// The same by the local date and time, which is `offset` ahead of UTC, as 1997-11-12T16:55:06.120+01:00.
-template <class Duration>
-text<MOVALIREN_ISO8601_SIZE> iso8601(
-    sys_time<Duration> point, std::chrono::seconds offset, std::uint8_t decimals)
-{
-    const movaliren_iso8601_config config = MOVALIREN_ISO8601_DECIMALS(decimals);
-    const auto moment = moment_of(point);
-    return text<MOVALIREN_ISO8601_SIZE>([&config, moment, offset](char *buffer, std::size_t size) {
-        return movaliren_iso8601_with_local(
-            &config, moment.seconds, moment.nanosecond, offset.count(), buffer, size);
-    });
-}
-
-// A stamp of 30 bytes, as 1997-11-12T15:55:06.000000000Z. Stamps sort by bytes as their moments do.
-template <class Duration> text<MOVALIREN_STAMP_SIZE> stamp(sys_time<Duration> point)
-{
-    const auto moment = moment_of(point);
-    return text<MOVALIREN_STAMP_SIZE>([moment](char *buffer, std::size_t size) {
-        return movaliren_stamp_utc(moment.seconds, moment.nanosecond, buffer, size);
-    });
-}
+// ---- texts, read back
 
 // A moment that was read from a text, or where the text could not be read.
 template <class Moment> class reading {
 public:
     // Takes a call that reads into a moment and an error, as those of movaliren.h.
-    template <class Call> explicit reading(Call read) { answer_ = read(&moment_, &read_error_); }
+    template <class Call> explicit reading(Call call) { answer_ = call(&moment_, &read_error_); }
 
     // Whether the text was read.
     explicit operator bool() const noexcept { return answer_ == 0; }
 
     // The error, or an error code of zero where the text was read.
-    std::error_code error() const noexcept
-    {
-        return answer_ < 0 ? make_error_code(static_cast<errc>(answer_)) : std::error_code();
-    }
+    std::error_code error() const noexcept { return error_of(answer_); }
 
-    // Where the text could not be read, and what could have come there. Zeros where it was read.
+    // Where the text could not be read. Zeros where it was read.
     const movaliren_read_error &read_error() const noexcept { return read_error_; }
 
     // The same in words, as "byte 9: expected a digit from 0 to 8", or nothing where the text was read.
     std::string message() const
     {
-        char buffer[MOVALIREN_READ_MESSAGE_SIZE];
-        if (answer_ == MOVALIREN_ERROR_NOT_READ)
-            return movaliren_read_error_message(&read_error_, buffer);
-        return answer_ < 0 ? movaliren_strerror(answer_) : "";
+        char words[MOVALIREN_WORDS_SIZE];
+        if (answer_ != MOVALIREN_ERROR_NOT_READ)
+            return answer_ < 0 ? movaliren_strerror(answer_) : "";
+        MOVALIREN_TO_ARRAY(words, movaliren_read_strerror_r, &read_error_);
+        return words;
     }
 
     // The moment. Where the text was not read throws std::system_error.
@@ -320,262 +396,23 @@ private:
     std::ptrdiff_t answer_ = 0;
 };
 
-// The time point of a moment, in nanoseconds. Outside of the years 1677 to 2262, which these reach, throws
-// std::system_error with errc::moment_seconds.
-inline sys_time<std::chrono::nanoseconds> time_point_of(const movaliren_utc_moment &moment)
+// Reads a text of a format or of a description as a moment in UTC.
+template <class Format> reading<movaliren_utc_moment> read(const Format &what, std::string_view text)
 {
-    const std::int64_t least = INT64_MIN / 1'000'000'000, most = INT64_MAX / 1'000'000'000;
-    if (moment.seconds < least || moment.seconds >= most)
-        throw std::system_error(make_error_code(errc::moment_seconds));
-    return sys_time<std::chrono::nanoseconds>(
-        std::chrono::seconds(moment.seconds) + std::chrono::nanoseconds(moment.nanosecond));
-}
-
-// Which texts are read: those of the format alone, or those of other programs too.
-enum class profile { strict, lenient };
-
-// Reads a text of RFC 3339 as a moment in UTC.
-inline reading<movaliren_utc_moment> read_rfc3339(std::string_view text, profile by = profile::strict)
-{
-    return reading<movaliren_utc_moment>([text, by](movaliren_utc_moment *moment, movaliren_read_error *error) {
-        return by == profile::strict ? movaliren_read_rfc3339_utc(text.data(), text.size(), moment, error)
-                                     : movaliren_read_rfc3339_lenient_utc(text.data(), text.size(), moment, error);
-    });
-}
-
-// Reads a text of RFC 3339 as a local date and time with its offset.
-inline reading<movaliren_moment> read_rfc3339_local(std::string_view text, profile by = profile::strict)
-{
-    return reading<movaliren_moment>([text, by](movaliren_moment *moment, movaliren_read_error *error) {
-        return by == profile::strict ? movaliren_read_rfc3339(text.data(), text.size(), moment, error)
-                                     : movaliren_read_rfc3339_lenient(text.data(), text.size(), moment, error);
-    });
-}
-
-// Reads a text of RFC 2822, or leniently a date of mail or of a feed, as a moment in UTC.
-inline reading<movaliren_utc_moment> read_rfc2822(std::string_view text, profile by = profile::strict)
-{
-    return reading<movaliren_utc_moment>([text, by](movaliren_utc_moment *moment, movaliren_read_error *error) {
-        return by == profile::strict ? movaliren_read_rfc2822_utc(text.data(), text.size(), moment, error)
-                                     : movaliren_read_rfc2822_lenient_utc(text.data(), text.size(), moment, error);
-    });
-}
-
-// Reads a text of RFC 2822, or leniently a date of mail or of a feed, as a local date and time with its offset.
-inline reading<movaliren_moment> read_rfc2822_local(std::string_view text, profile by = profile::strict)
-{
-    return reading<movaliren_moment>([text, by](movaliren_moment *moment, movaliren_read_error *error) {
-        return by == profile::strict ? movaliren_read_rfc2822(text.data(), text.size(), moment, error)
-                                     : movaliren_read_rfc2822_lenient(text.data(), text.size(), moment, error);
-    });
-}
-
-// Reads a text of ISO 8601 with this many decimals as a moment in UTC.
-inline reading<movaliren_utc_moment> read_iso8601(std::string_view text, std::uint8_t decimals = 9)
-{
-    const movaliren_iso8601_config config = MOVALIREN_ISO8601_DECIMALS(decimals);
     return reading<movaliren_utc_moment>([&](movaliren_utc_moment *moment, movaliren_read_error *error) {
-        return movaliren_read_iso8601_with_utc(&config, text.data(), text.size(), moment, error);
+        return what.read_utc(text.data(), text.size(), moment, error);
     });
 }
 
-// Reads a text of ISO 8601 with this many decimals as a local date and time with its offset.
-inline reading<movaliren_moment> read_iso8601_local(std::string_view text, std::uint8_t decimals = 9)
+// Reads it as a local date and time with its offset.
+template <class Format> reading<movaliren_moment> read_local(const Format &what, std::string_view text)
 {
-    const movaliren_iso8601_config config = MOVALIREN_ISO8601_DECIMALS(decimals);
     return reading<movaliren_moment>([&](movaliren_moment *moment, movaliren_read_error *error) {
-        return movaliren_read_iso8601_with(&config, text.data(), text.size(), moment, error);
+        return what.read(text.data(), text.size(), moment, error);
     });
 }
 
-// A text is no description: what is wrong, and at which byte. what() says both.
-class invalid_description : public std::system_error {
-public:
-    explicit invalid_description(const movaliren_parse_error &error)
-        : std::system_error(make_error_code(errc::bad_description), message(error)), parse_error_(error)
-    {
-    }
-
-    const movaliren_parse_error &parse_error() const noexcept { return parse_error_; }
-
-private:
-    static std::string message(const movaliren_parse_error &error)
-    {
-        char buffer[MOVALIREN_PARSE_MESSAGE_SIZE];
-        return movaliren_parse_error_message(&error, buffer);
-    }
-
-    movaliren_parse_error parse_error_;
-};
-
-// A description, which is made once from a text, or of components and texts, and formats any number of moments.
-//
-//     const auto line = movaliren::description::parse_strftime("%d of %B");
-//     const std::string today = line.format(std::chrono::system_clock::now());
-class description {
-public:
-    // The description in brackets, as [year]-[month]-[day]. Throws invalid_description.
-    static description parse(std::string_view text) { return parsed(text, movaliren_items_parse); }
-
-    // The description in the syntax of strftime. Throws invalid_description.
-    static description parse_strftime(std::string_view text) { return parsed(text, movaliren_items_parse_strftime); }
-
-    // Adds a component by its usual choices, as movaliren_description_add does.
-    description &add(movaliren_kind kind)
-    {
-        movaliren_item items[1] = {};
-        movaliren_description one = MOVALIREN_BORROWER_INIT(items);
-        one.error = 0;
-        movaliren_description_add(&one, kind);
-        items_.push_back(items[0]);
-        return *this;
-    }
-
-    // Adds a component by its choices: the padding of its number, the flag of its kind, and the digits of a second.
-    description &add(movaliren_kind kind, movaliren_padding padding, bool flag = false, std::uint8_t digits = 0)
-    {
-        items_.push_back({ static_cast<std::uint32_t>(kind), static_cast<std::uint8_t>(padding),
-            static_cast<std::uint8_t>(flag), digits, 0, 0, 0 });
-        return *this;
-    }
-
-    // Adds a text.
-    description &add(std::string_view text)
-    {
-        items_.push_back({ MOVALIREN_KIND_TEXT, 0, 0, 0, 0, texts_.size(), text.size() });
-        texts_ += text;
-        return *this;
-    }
-
-    // What movaliren_items_max_length returns. Throws std::system_error if a kind or a choice is invalid.
-    std::size_t max_length() const
-    {
-        return checked(movaliren_items_max_length(items_.data(), items_.size(), texts_.data(), texts_.size()));
-    }
-
-    // The text of a moment in UTC. Throws std::system_error.
-    template <class Duration> std::string format(sys_time<Duration> point) const
-    {
-        const auto moment = moment_of(point);
-        return written([&](char *buffer, std::size_t size) {
-            return movaliren_items_format_utc(items_.data(), items_.size(), texts_.data(), texts_.size(),
-                moment.seconds, moment.nanosecond, buffer, size);
-        });
-    }
-
-    // The text of a moment by its local date and time, which is `offset` ahead of UTC. Throws std::system_error.
-    template <class Duration> std::string format(sys_time<Duration> point, std::chrono::seconds offset) const
-    {
-        const auto moment = moment_of(point);
-        return written([&](char *buffer, std::size_t size) {
-            return movaliren_items_format_local(items_.data(), items_.size(), texts_.data(), texts_.size(),
-                moment.seconds, moment.nanosecond, offset.count(), buffer, size);
-        });
-    }
-
-    // The text of a local date and time with its offset. Throws std::system_error.
-    std::string format(const movaliren_moment &moment) const
-    {
-        return written([&](char *buffer, std::size_t size) {
-            return movaliren_items_format(items_.data(), items_.size(), texts_.data(), texts_.size(), &moment, buffer, size);
-        });
-    }
-
-    // The text of a date: of std::chrono::year_month_day, and of another type with its members. Throws std::system_error.
-    template <class Date, class = decltype(unsigned(std::declval<const Date &>().month()))>
-    std::string format(const Date &date) const
-    {
-        const auto month = static_cast<std::uint8_t>(unsigned(date.month()));
-        const auto day = static_cast<std::uint8_t>(unsigned(date.day()));
-        return written([&](char *buffer, std::size_t size) {
-            return movaliren_items_format_date(items_.data(), items_.size(), texts_.data(), texts_.size(),
-                int(date.year()), month, day, buffer, size);
-        });
-    }
-
-    // Reads a text of the description as a moment in UTC, as movaliren_description_read_utc does.
-    reading<movaliren_utc_moment> read(std::string_view text) const
-    {
-        return reading<movaliren_utc_moment>([&](movaliren_utc_moment *moment, movaliren_read_error *error) {
-            return movaliren_items_read_utc(items_.data(), items_.size(), texts_.data(), texts_.size(), text.data(),
-                text.size(), moment, error);
-        });
-    }
-
-    // Reads a text of the description as a local date and time with its offset.
-    reading<movaliren_moment> read_local(std::string_view text) const
-    {
-        return reading<movaliren_moment>([&](movaliren_moment *moment, movaliren_read_error *error) {
-            return movaliren_items_read(items_.data(), items_.size(), texts_.data(), texts_.size(), text.data(),
-                text.size(), moment, error);
-        });
-    }
-
-    // Writes the text of what `format` takes to an output iterator, and returns the place after it.
-    template <class Out, class... Value> Out format_to(Out out, const Value &...value) const
-    {
-        const std::string text = format(value...);
-        return std::copy(text.begin(), text.end(), out);
-    }
-
-    // The number of bytes of the text of a moment in UTC. Throws std::system_error.
-    template <class Duration> std::size_t length(sys_time<Duration> point) const
-    {
-        const auto moment = moment_of(point);
-        return checked(movaliren_items_format_utc_length(
-            items_.data(), items_.size(), texts_.data(), texts_.size(), moment.seconds, moment.nanosecond));
-    }
-
-    // That of a moment by its local date and time, which is `offset` ahead of UTC. Throws std::system_error.
-    template <class Duration> std::size_t length(sys_time<Duration> point, std::chrono::seconds offset) const
-    {
-        const auto moment = moment_of(point);
-        return checked(movaliren_items_format_local_length(items_.data(), items_.size(), texts_.data(), texts_.size(),
-            moment.seconds, moment.nanosecond, offset.count()));
-    }
-
-    // That of a local date and time with its offset. Throws std::system_error.
-    std::size_t length(const movaliren_moment &moment) const
-    {
-        return checked(
-            movaliren_items_format_length(items_.data(), items_.size(), texts_.data(), texts_.size(), &moment));
-    }
-
-private:
-    template <class Describe> static description parsed(std::string_view text, Describe describe)
-    {
-        description made;
-        made.texts_ = text;
-        made.items_.resize(16);
-        movaliren_parse_error error;
-        auto count = describe(made.texts_.data(), text.size(), made.items_.data(), made.items_.size(), &error);
-        if (count == MOVALIREN_ERROR_MANY_ITEMS) {
-            made.items_.resize(error.items);
-            count = describe(made.texts_.data(), text.size(), made.items_.data(), made.items_.size(), &error);
-        }
-        if (count < 0)
-            throw invalid_description(error);
-        made.items_.resize(static_cast<std::size_t>(count));
-        return made;
-    }
-
-    static std::size_t checked(std::ptrdiff_t count)
-    {
-        if (count < 0)
-            throw std::system_error(make_error_code(static_cast<errc>(count)));
-        return static_cast<std::size_t>(count);
-    }
-
-    template <class Call> std::string written(Call write) const
-    {
-        std::string text(max_length(), '\0');
-        text.resize(checked(write(text.data(), text.size())));
-        return text;
-    }
-
-    std::vector<movaliren_item> items_ = {};
-    std::string texts_ = {};
-};
+// ---- lines
 
 // A time point of a range has no text: why, and its index.
 class row_error : public std::system_error {
@@ -591,20 +428,18 @@ private:
     std::size_t row_;
 };
 
-// The lines of a range of time points, as MOVALIREN_LINES(MOVALIREN_LINES_RFC3339) has them. Throws row_error.
-template <class Range> std::string lines(const movaliren_lines &lines, const Range &points)
+// The lines of a range of time points, each with a line feed. Throws row_error.
+template <class Format, class Range> std::string lines(const Format &what, const Range &points)
 {
-    std::string text(64 * std::size_t(std::distance(std::begin(points), std::end(points))), '\0');
-    movaliren_progress progress = { 0, 0, 0 };
+    std::string text;
+    std::size_t row = 0;
     for (const auto &point : points) {
-        const auto moment = moment_of(point);
-        while (!movaliren_lines_add(&lines, &progress, moment.seconds, moment.nanosecond, text.data(), text.size())) {
-            if (progress.error != MOVALIREN_ERROR_BUFFER_TOO_SMALL)
-                throw row_error(make_error_code(static_cast<errc>(progress.error)), progress.moments);
-            text.resize(2 * text.size());
-        }
+        const auto line = movaliren::format(what, point);
+        if (!line)
+            throw row_error(line.error(), row);
+        text.append(line.view()) += '\n';
+        row++;
     }
-    text.resize(progress.bytes);
     return text;
 }
 
@@ -625,31 +460,40 @@ moment_at at(sys_time<Duration> point, std::chrono::seconds offset = std::chrono
 } // namespace movaliren
 
 #ifdef __cpp_lib_format
-// Formats a moment by the text after the colon, or to the second by %FT%T%:z where there is none. A text that is no description, or
-// describes what the moment has not, throws std::format_error when it is formatted.
+// Formats a moment by the text after the colon, or to the second by %FT%T%:z where there is none. A text that is no
+// description, or describes what the moment has not, throws std::format_error.
 template <> struct std::formatter<movaliren::moment_at> {
     constexpr auto parse(std::format_parse_context &context)
     {
         const auto end = std::find(context.begin(), context.end(), '}');
-        text_ = std::string_view(context.begin(), end);
+        if (!std::is_constant_evaluated())
+            read(std::string_view(context.begin(), end));
         return end;
     }
 
     template <class Context> auto format(const movaliren::moment_at &at, Context &context) const
     {
-        const std::string_view text = text_.empty() ? "%FT%T%:z" : text_;
-        const auto length = movaliren_format_strftime_local_length(
-            text.data(), text.size(), at.moment.seconds, at.moment.nanosecond, at.offset.count());
-        if (length < 0)
-            throw std::format_error(movaliren_strerror(length));
-        std::string made(static_cast<std::size_t>(length), '\0');
-        movaliren_format_strftime_local(text.data(), text.size(), at.moment.seconds, at.moment.nanosecond,
-            at.offset.count(), made.data(), made.size());
-        return std::copy(made.begin(), made.end(), context.out());
+        const auto most = movaliren_description_max_length(&form_);
+        std::string line(static_cast<std::size_t>(most < 0 ? 0 : most), '\0');
+        const auto count = movaliren_description_format_local(
+            &form_, at.moment.seconds, at.moment.nanosecond, at.offset.count(), line.data(), line.size());
+        if (count < 0)
+            throw std::format_error(movaliren_strerror(count));
+        return std::copy(line.begin(), line.begin() + count, context.out());
     }
 
 private:
-    std::string_view text_;
+    void read(std::string_view text)
+    {
+        movaliren_parse_error error;
+        if (text.empty())
+            text = "%FT%T%:z";
+        const auto answer = movaliren_description_parse_strftime(&form_, text.data(), text.size(), &error);
+        if (answer < 0)
+            throw std::format_error(movaliren_strerror(answer));
+    }
+
+    movaliren_description form_ = {};
 };
 
 // Formats a text as a std::string_view. After an error throws std::format_error.

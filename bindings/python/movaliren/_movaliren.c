@@ -1,227 +1,157 @@
-/* The texts of movaliren.h for Python, by the limited API of Python 3.11: moments as datetimes or as seconds since 1970,
- * columns of integers behind the buffer protocol, and errors with their place and row. */
+/* The texts of movaliren.h for Python: moments as datetimes or as seconds since 1970, columns of integers behind the buffer
+ * protocol, and errors with their place and row. All that a module makes stands in its state, so that each interpreter has
+ * its own. */
 #define PY_SSIZE_T_CLEAN
-#define Py_LIMITED_API 0x030b0000
 #include <Python.h>
-#include <movaliren_lines.h>
+#include <datetime.h>
+#include <movaliren.h>
 
-static PyObject *Error, *DescriptionError, *ReadError, *RowError;
-static PyObject *datetime_type, *timezone_type, *timedelta_type, *utc;
-/* Attributes, whose names are made once. */
-static PyObject *year_, *month_, *day_, *hour_, *minute_, *second_, *microsecond_, *nanosecond_, *tzinfo_, *utcoffset_,
-    *days_, *seconds_, *microseconds_;
+/* What a module has made. */
+struct state {
+    PyObject *error, *description_error, *read_error, *row_error;
+    PyObject *capsule; /* keeps what `datetime` points to */
+    PyDateTime_CAPI *datetime;
+    PyObject *nanosecond, *utcoffset; /* names of attributes */
+};
+
+static const struct state *state_of(PyObject *module)
+{
+    return PyModule_GetState(module);
+}
 
 /* ---- errors */
 
-/* Raises an error of this type with its words, and the attributes `number` and `at`. */
-static PyObject *raise_with(PyObject *type, const char *words, ptrdiff_t number, size_t at)
+/* An error of this type with its words and its number, or NULL after an exception. */
+static PyObject *error_of(PyObject *type, const char *words, ptrdiff_t number)
 {
     PyObject *error = PyObject_CallFunction(type, "s", words);
-    PyObject *value = error ? PyLong_FromSsize_t(number) : NULL, *place = value ? PyLong_FromSize_t(at) : NULL;
-    if (place && PyObject_SetAttrString(error, "number", value) == 0 && PyObject_SetAttrString(error, "at", place) == 0)
-        PyErr_SetObject(type, error);
-    Py_XDECREF(place);
+    PyObject *value = error ? PyLong_FromSsize_t(number) : NULL;
+    if (!value || PyObject_SetAttrString(error, "number", value) != 0)
+        Py_CLEAR(error);
     Py_XDECREF(value);
+    return error;
+}
+
+/* The error with one attribute more, or NULL after an exception. Takes over the error and the value. */
+static PyObject *with(PyObject *error, const char *name, PyObject *value)
+{
+    if (error && (!value || PyObject_SetAttrString(error, name, value) != 0))
+        Py_CLEAR(error);
+    Py_XDECREF(value);
+    return error;
+}
+
+static PyObject *raised(PyObject *error)
+{
+    if (error)
+        PyErr_SetObject((PyObject *)Py_TYPE(error), error);
     Py_XDECREF(error);
     return NULL;
 }
 
-static PyObject *raise_number(ptrdiff_t number)
+/* The words of an error of the library. */
+struct words {
+    char text[201];
+};
+
+static struct words words_of(ptrdiff_t number)
 {
-    PyObject *error = PyObject_CallFunction(Error, "s", movaliren_strerror(number));
-    PyObject *value = error ? PyLong_FromSsize_t(number) : NULL;
-    if (value && PyObject_SetAttrString(error, "number", value) == 0)
-        PyErr_SetObject(Error, error);
-    Py_XDECREF(value);
-    Py_XDECREF(error);
-    return NULL;
+    struct words words = { { 0 } };
+    movaliren_strerror_r(number, words.text, sizeof words.text - 1);
+    return words;
+}
+
+static PyObject *raise_number(const struct state *state, ptrdiff_t number)
+{
+    return raised(error_of(state->error, words_of(number).text, number));
+}
+
+static PyObject *raise_at(PyObject *type, const char *words, ptrdiff_t number, size_t at)
+{
+    return raised(with(error_of(type, words, number), "at", PyLong_FromSize_t(at)));
+}
+
+static PyObject *raise_not_read(const struct state *state, const struct movaliren_read_error *error)
+{
+    char words[MOVALIREN_WORDS_SIZE];
+    MOVALIREN_TO_ARRAY(words, movaliren_read_strerror_r, error);
+    return raise_at(state->read_error, words, MOVALIREN_ERROR_NOT_READ, error->at);
 }
 
 /* Raises the error of a row of a column, with the lines before it. */
-static PyObject *raise_row(ptrdiff_t number, Py_ssize_t row, PyObject *lines)
+static PyObject *raise_row(const struct state *state, ptrdiff_t number, Py_ssize_t row, PyObject *lines)
 {
-    PyObject *error = PyObject_CallFunction(RowError, "N",
-        PyUnicode_FromFormat("row %zd: %s", row, movaliren_strerror(number)));
-    PyObject *value = error ? PyLong_FromSsize_t(number) : NULL, *index = value ? PyLong_FromSsize_t(row) : NULL;
-    if (index && PyObject_SetAttrString(error, "number", value) == 0 && PyObject_SetAttrString(error, "row", index) == 0
-        && PyObject_SetAttrString(error, "lines", lines) == 0)
-        PyErr_SetObject(RowError, error);
-    Py_XDECREF(index);
-    Py_XDECREF(value);
-    Py_XDECREF(error);
-    return NULL;
+    char words[256];
+    PyObject *error;
+    snprintf(words, sizeof words, "row %zd: %s", row, words_of(number).text);
+    error = with(error_of(state->row_error, words, number), "row", PyLong_FromSsize_t(row));
+    return raised(with(error, "lines", Py_NewRef(lines)));
 }
 
-/* ---- formats, each by the parts of a moment or by its seconds */
+/* ---- arguments */
 
-/* A moment by its parts or by its seconds, or a date. */
-struct value {
-    enum { BY_PARTS, BY_SECONDS, A_DATE } kind;
-    struct movaliren_moment parts;
-    struct movaliren_utc_moment moment;
+/* The arguments of a call as Python passes them: those by position, and then those by name. */
+struct given {
+    PyObject *const *values;
+    Py_ssize_t count;
+    PyObject *names;
 };
 
-static ptrdiff_t write_parts(const struct movaliren_lines *form, const struct movaliren_moment *parts, char *buffer, size_t size)
+static int take_named(const char *const *names, int most, PyObject *name, PyObject *value, PyObject **taken)
 {
-    switch (form->format) {
-    case MOVALIREN_LINES_RFC3339:
-        return movaliren_rfc3339(parts, buffer, size);
-    case MOVALIREN_LINES_RFC2822:
-        return movaliren_rfc2822(parts, buffer, size);
-    case MOVALIREN_LINES_ISO8601:
-        return movaliren_iso8601_with(form->config, parts, buffer, size);
-    default:
-        return movaliren_description_format(form->description, parts, buffer, size);
-    }
-}
-
-static ptrdiff_t write_one(const struct movaliren_lines *form, const struct value *v, char *buffer, size_t size)
-{
-    switch (v->kind) {
-    case BY_PARTS:
-        return write_parts(form, &v->parts, buffer, size);
-    case BY_SECONDS:
-        return movaliren_lines_text(form, v->moment.seconds, v->moment.nanosecond, buffer, size);
-    default:
-        return movaliren_description_format_date(
-            form->description, v->parts.year, v->parts.month, v->parts.day, buffer, size);
-    }
-}
-
-/* The text as a str. One of a description may be longer than the buffer, and then has its greatest length. */
-static PyObject *text_of(const struct movaliren_lines *form, const struct value *v)
-{
-    char buffer[MOVALIREN_ISO8601_WITH_SIZE], *wide;
-    PyObject *text;
-    ptrdiff_t count = write_one(form, v, buffer, sizeof buffer), most;
-    if (count >= 0)
-        return PyUnicode_FromStringAndSize(buffer, count);
-    if (count != MOVALIREN_ERROR_BUFFER_TOO_SMALL)
-        return raise_number(count);
-    most = movaliren_description_max_length(form->description);
-    if (!(wide = PyMem_Malloc((size_t)most)))
-        return PyErr_NoMemory();
-    count = write_one(form, v, wide, (size_t)most);
-    text = count < 0 ? raise_number(count) : PyUnicode_FromStringAndSize(wide, count);
-    PyMem_Free(wide);
-    return text;
-}
-
-/* ---- values */
-
-/* Takes the attribute as a number. Returns -1 after an exception. */
-static int take_number(PyObject *object, PyObject *name, long *number)
-{
-    PyObject *value = PyObject_GetAttr(object, name);
-    if (!value)
-        return -1;
-    *number = PyLong_AsLong(value);
-    Py_DECREF(value);
-    return *number == -1 && PyErr_Occurred() ? -1 : 0;
-}
-
-static int take_date(PyObject *date, struct movaliren_moment *parts)
-{
-    long year, month, day;
-    if (take_number(date, year_, &year) || take_number(date, month_, &month) || take_number(date, day_, &day))
-        return -1;
-    parts->year = (int32_t)year;
-    parts->month = (uint8_t)month;
-    parts->day = (uint8_t)day;
-    return 0;
-}
-
-static int take_time(PyObject *moment, struct movaliren_moment *parts)
-{
-    long hour, minute, second, microsecond, finer = 0;
-    if (take_number(moment, hour_, &hour) || take_number(moment, minute_, &minute)
-        || take_number(moment, second_, &second) || take_number(moment, microsecond_, &microsecond))
-        return -1;
-    /* A Timestamp of pandas has nanoseconds beside its microseconds. */
-    if (Py_TYPE(moment) != (PyTypeObject *)datetime_type && PyObject_HasAttr(moment, nanosecond_)
-        && take_number(moment, nanosecond_, &finer))
-        return -1;
-    parts->hour = (uint8_t)hour;
-    parts->minute = (uint8_t)minute;
-    parts->second = (uint8_t)second;
-    parts->nanosecond = (uint32_t)(microsecond * 1000 + finer);
-    return 0;
-}
-
-/* Takes the whole seconds of a timedelta. */
-static int take_delta(PyObject *delta, int64_t *offset)
-{
-    long days, seconds, microseconds;
-    if (take_number(delta, days_, &days) || take_number(delta, seconds_, &seconds)
-        || take_number(delta, microseconds_, &microseconds))
-        return -1;
-    *offset = (int64_t)days * 86400 + seconds;
-    if (microseconds == 0)
+    int i = 0;
+    while (i < most && PyUnicode_CompareWithASCIIString(name, names[i]) != 0)
+        i++;
+    if (i < most && !taken[i]) {
+        taken[i] = value;
         return 0;
-    PyErr_SetString(PyExc_ValueError, "the offset from UTC has a part of a second");
+    }
+    PyErr_Format(PyExc_TypeError, i < most ? "the argument '%U' is given twice" : "there is no argument '%U'", name);
     return -1;
 }
 
-/* Takes the offset of a datetime at another zone than UTC. */
-static int take_zone(PyObject *moment, int64_t *offset)
+/* Takes the arguments of these names, of which the first one must be given. Those that are not given are NULL. */
+static int take_given(const struct given *given, const char *const *names, int most, PyObject **taken)
 {
-    PyObject *delta = PyObject_CallMethodObjArgs(moment, utcoffset_, NULL);
-    int answer = -1;
-    if (delta == Py_None)
-        PyErr_SetString(PyExc_ValueError, "a datetime without a time zone has no offset from UTC");
-    else if (delta)
-        answer = take_delta(delta, offset);
-    Py_XDECREF(delta);
-    return answer;
-}
-
-static int take_offset(PyObject *moment, struct movaliren_moment *parts)
-{
-    PyObject *zone = PyObject_GetAttr(moment, tzinfo_);
-    int64_t offset = 0;
-    const int is_utc = zone == utc;
-    if (!zone)
+    const Py_ssize_t named = given->names ? PyTuple_GET_SIZE(given->names) : 0;
+    if (given->count > most) {
+        PyErr_Format(PyExc_TypeError, "%zd arguments are given, and %d are the most", given->count, most);
         return -1;
-    Py_DECREF(zone);
-    if (!is_utc && take_zone(moment, &offset) != 0)
-        return -1;
-    parts->offset_hours = (int8_t)(offset / 3600);
-    parts->offset_minutes = (int8_t)(offset / 60 % 60);
-    parts->offset_seconds = (int8_t)(offset % 60);
-    return 0;
-}
-
-/* Takes a datetime. Any other object has no such attributes. */
-static int take_moment(PyObject *moment, struct value *v)
-{
-    v->kind = BY_PARTS;
-    return take_date(moment, &v->parts) || take_time(moment, &v->parts) || take_offset(moment, &v->parts) ? -1 : 0;
-}
-
-/* Takes an offset from UTC: None for UTC, or seconds, or a timedelta. */
-static int take_given_offset(PyObject *offset, struct movaliren_lines *form)
-{
-    form->is_local = offset != NULL && offset != Py_None;
-    if (!form->is_local)
+    }
+    for (int i = 0; i < most; i++)
+        taken[i] = i < given->count ? given->values[i] : NULL;
+    for (Py_ssize_t i = 0; i < named; i++)
+        if (take_named(names, most, PyTuple_GET_ITEM(given->names, i), given->values[given->count + i], taken) != 0)
+            return -1;
+    if (taken[0])
         return 0;
-    if (PyObject_IsInstance(offset, timedelta_type) == 1)
-        return take_delta(offset, &form->offset);
-    form->offset = PyLong_AsLongLong(offset);
-    return form->offset == -1 && PyErr_Occurred() ? -1 : 0;
+    PyErr_Format(PyExc_TypeError, "the argument '%s' is missing", names[0]);
+    return -1;
 }
 
-static void set_seconds(long long seconds, long long nanosecond, struct value *v)
+/* Takes a number of 64 bits, which stays as it is where none is given. */
+static int take_number(PyObject *value, long long *number)
 {
-    v->kind = BY_SECONDS;
-    v->moment.seconds = seconds;
-    /* No number is cut to one in range. */
-    v->moment.nanosecond = nanosecond < 0 || nanosecond > UINT32_MAX ? UINT32_MAX : (uint32_t)nanosecond;
+    if (value)
+        *number = PyLong_AsLongLong(value);
+    return value && *number == -1 && PyErr_Occurred() ? -1 : 0;
 }
 
-/* A configuration with so many decimals. */
-static int take_decimals(int decimals, struct movaliren_iso8601_config *config)
+static int take_text(PyObject *value, const char **text, Py_ssize_t *len)
+{
+    if (PyUnicode_Check(value))
+        return (*text = PyUnicode_AsUTF8AndSize(value, len)) ? 0 : -1;
+    PyErr_Format(PyExc_TypeError, "a text is a str, and not of the type '%s'", Py_TYPE(value)->tp_name);
+    return -1;
+}
+
+/* Takes the number of decimals of ISO 8601, which are 9 where none is given. */
+static int take_decimals(PyObject *value, struct movaliren_iso8601_config *config)
 {
     const struct movaliren_iso8601_config of_nine = MOVALIREN_ISO8601_DEFAULT;
+    long long decimals = 9;
+    if (take_number(value, &decimals) != 0)
+        return -1;
     *config = of_nine;
     config->decimals = (uint8_t)decimals;
     if (decimals >= 0 && decimals <= 9)
@@ -230,24 +160,282 @@ static int take_decimals(int decimals, struct movaliren_iso8601_config *config)
     return -1;
 }
 
+/* Takes the whole seconds of a timedelta. */
+static int take_delta(PyObject *delta, int64_t *offset)
+{
+    *offset = (int64_t)PyDateTime_DELTA_GET_DAYS(delta) * 86400 + PyDateTime_DELTA_GET_SECONDS(delta);
+    if (PyDateTime_DELTA_GET_MICROSECONDS(delta) == 0)
+        return 0;
+    PyErr_SetString(PyExc_ValueError, "the offset from UTC has a part of a second");
+    return -1;
+}
+
+/* ---- values */
+
+/* Whether the object is a timedelta of less than 24 hours either way, as each offset from UTC. */
+static int is_offset(const struct state *state, PyObject *delta)
+{
+    if (!PyObject_TypeCheck(delta, state->datetime->DeltaType))
+        return 0;
+    return PyDateTime_DELTA_GET_DAYS(delta) == 0
+        || (PyDateTime_DELTA_GET_DAYS(delta) == -1
+            && (PyDateTime_DELTA_GET_SECONDS(delta) > 0 || PyDateTime_DELTA_GET_MICROSECONDS(delta) > 0));
+}
+
+/* The offset of a datetime. Its own method asks the zone, tests the answer, and takes six times as long as the zone, so that
+ * the zone is asked first. */
+static PyObject *delta_of(const struct state *state, PyObject *moment)
+{
+    PyObject *zone = PyDateTime_DATE_GET_TZINFO(moment), *delta;
+    if (zone == Py_None || Py_TYPE(moment) != state->datetime->DateTimeType)
+        return PyObject_CallMethodNoArgs(moment, state->utcoffset);
+    delta = PyObject_CallMethodOneArg(zone, state->utcoffset, moment);
+    if (!delta || is_offset(state, delta))
+        return delta;
+    Py_DECREF(delta);
+    return PyObject_CallMethodNoArgs(moment, state->utcoffset);
+}
+
+/* Takes the offset of a datetime at another zone than UTC. */
+static int take_zone(const struct state *state, PyObject *moment, int64_t *offset)
+{
+    PyObject *delta = delta_of(state, moment);
+    int answer = -1;
+    if (delta && PyObject_TypeCheck(delta, state->datetime->DeltaType))
+        answer = take_delta(delta, offset);
+    else if (delta)
+        PyErr_SetString(PyExc_ValueError, "a datetime without a time zone has no offset from UTC");
+    Py_XDECREF(delta);
+    return answer;
+}
+
+static int take_offset(const struct state *state, PyObject *moment, struct movaliren_moment *parts)
+{
+    int64_t offset = 0;
+    const int is_utc = PyDateTime_DATE_GET_TZINFO(moment) == state->datetime->TimeZone_UTC;
+    if (!is_utc && take_zone(state, moment, &offset) != 0)
+        return -1;
+    parts->offset_hours = (int8_t)(offset / 3600);
+    parts->offset_minutes = (int8_t)(offset / 60 % 60);
+    parts->offset_seconds = (int8_t)(offset % 60);
+    return 0;
+}
+
+/* Takes the nanoseconds that a Timestamp of pandas has beside its microseconds. */
+static int take_finer(const struct state *state, PyObject *moment, struct movaliren_moment *parts)
+{
+    PyObject *value = PyObject_GetAttr(moment, state->nanosecond);
+    long long finer = 0;
+    int answer;
+    if (!value) {
+        PyErr_Clear();
+        return 0;
+    }
+    answer = take_number(value, &finer);
+    Py_DECREF(value);
+    parts->nanosecond += (uint32_t)finer;
+    return answer;
+}
+
+static void take_date(PyObject *date, struct movaliren_moment *parts)
+{
+    parts->year = PyDateTime_GET_YEAR(date);
+    parts->month = PyDateTime_GET_MONTH(date);
+    parts->day = PyDateTime_GET_DAY(date);
+}
+
+static int take_moment(const struct state *state, PyObject *moment, struct movaliren_moment *parts)
+{
+    if (!PyObject_TypeCheck(moment, state->datetime->DateTimeType)) {
+        PyErr_Format(PyExc_TypeError, "a moment is a datetime, and not of the type '%s'", Py_TYPE(moment)->tp_name);
+        return -1;
+    }
+    take_date(moment, parts);
+    parts->hour = PyDateTime_DATE_GET_HOUR(moment);
+    parts->minute = PyDateTime_DATE_GET_MINUTE(moment);
+    parts->second = PyDateTime_DATE_GET_SECOND(moment);
+    parts->nanosecond = (uint32_t)PyDateTime_DATE_GET_MICROSECOND(moment) * 1000;
+    if (Py_TYPE(moment) != state->datetime->DateTimeType && take_finer(state, moment, parts) != 0)
+        return -1;
+    return take_offset(state, moment, parts);
+}
+
+/* ---- formats */
+
+/* A format with its choices. Seconds since 1970 are written in UTC, or at the offset where it is local. */
+struct form {
+    enum { RFC3339, RFC2822, ISO8601, DESCRIPTION } format;
+    struct movaliren_iso8601_config config;
+    const struct movaliren_description *description;
+    int is_local;
+    int64_t offset;
+};
+
+/* A moment by its parts or by its seconds, or a date. */
+struct value {
+    enum { BY_PARTS, BY_SECONDS, A_DATE } kind;
+    struct movaliren_moment parts;
+    struct movaliren_utc_moment moment;
+};
+
+static ptrdiff_t write_parts(const struct form *form, const struct movaliren_moment *parts, char *buffer, size_t size)
+{
+    switch (form->format) {
+    case RFC3339:
+        return movaliren_rfc3339(parts, buffer, size);
+    case RFC2822:
+        return movaliren_rfc2822(parts, buffer, size);
+    case ISO8601:
+        return movaliren_iso8601_with(&form->config, parts, buffer, size);
+    default:
+        return movaliren_description_format(form->description, parts, buffer, size);
+    }
+}
+
+static ptrdiff_t write_utc(const struct form *form, const struct movaliren_utc_moment *m, char *buffer, size_t size)
+{
+    switch (form->format) {
+    case RFC3339:
+        return movaliren_rfc3339_utc(m->seconds, m->nanosecond, buffer, size);
+    case RFC2822:
+        return movaliren_rfc2822_utc(m->seconds, m->nanosecond, buffer, size);
+    case ISO8601:
+        return movaliren_iso8601_with_utc(&form->config, m->seconds, m->nanosecond, buffer, size);
+    default:
+        return movaliren_description_format_utc(form->description, m->seconds, m->nanosecond, buffer, size);
+    }
+}
+
+static ptrdiff_t write_local(const struct form *form, const struct movaliren_utc_moment *m, char *buffer, size_t size)
+{
+    switch (form->format) {
+    case RFC3339:
+        return movaliren_rfc3339_local(m->seconds, m->nanosecond, form->offset, buffer, size);
+    case RFC2822:
+        return movaliren_rfc2822_local(m->seconds, m->nanosecond, form->offset, buffer, size);
+    case ISO8601:
+        return movaliren_iso8601_with_local(&form->config, m->seconds, m->nanosecond, form->offset, buffer, size);
+    default:
+        return movaliren_description_format_local(
+            form->description, m->seconds, m->nanosecond, form->offset, buffer, size);
+    }
+}
+
+static ptrdiff_t write_seconds(const struct form *form, const struct movaliren_utc_moment *m, char *buffer, size_t size)
+{
+    return form->is_local ? write_local(form, m, buffer, size) : write_utc(form, m, buffer, size);
+}
+
+static ptrdiff_t write_one(const struct form *form, const struct value *v, char *buffer, size_t size)
+{
+    switch (v->kind) {
+    case BY_PARTS:
+        return write_parts(form, &v->parts, buffer, size);
+    case BY_SECONDS:
+        return write_seconds(form, &v->moment, buffer, size);
+    default:
+        return movaliren_description_format_date(
+            form->description, v->parts.year, v->parts.month, v->parts.day, buffer, size);
+    }
+}
+
+/* The text as a str. One of a description may be longer than the buffer, and then has its greatest length. */
+static PyObject *text_of(const struct state *state, const struct form *form, const struct value *v)
+{
+    char buffer[MOVALIREN_ISO8601_WITH_SIZE], *wide;
+    PyObject *text;
+    ptrdiff_t count = write_one(form, v, buffer, sizeof buffer), most;
+    if (count >= 0)
+        return PyUnicode_FromStringAndSize(buffer, count);
+    if (count != MOVALIREN_ERROR_BUFFER_TOO_SMALL)
+        return raise_number(state, count);
+    most = movaliren_description_max_length(form->description);
+    if (!(wide = PyMem_Malloc((size_t)most)))
+        return PyErr_NoMemory();
+    count = write_one(form, v, wide, (size_t)most);
+    text = count < 0 ? raise_number(state, count) : PyUnicode_FromStringAndSize(wide, count);
+    PyMem_Free(wide);
+    return text;
+}
+
+/* Takes the offset from UTC of what is written: None for UTC, or seconds, or a timedelta. */
+static int take_local(const struct state *state, PyObject *offset, struct form *form)
+{
+    long long seconds = 0;
+    form->is_local = offset && offset != Py_None;
+    if (!form->is_local)
+        return 0;
+    if (PyObject_TypeCheck(offset, state->datetime->DeltaType))
+        return take_delta(offset, &form->offset);
+    if (take_number(offset, &seconds) != 0)
+        return -1;
+    form->offset = seconds;
+    return 0;
+}
+
+static PyObject *by_moment(const struct state *state, const struct form *form, PyObject *moment)
+{
+    struct value v = { .kind = BY_PARTS };
+    return take_moment(state, moment, &v.parts) == 0 ? text_of(state, form, &v) : NULL;
+}
+
+/* Takes (seconds, nanosecond=0, offset=None), and for ISO 8601 also decimals=9. */
+static PyObject *by_seconds(const struct state *state, struct form *form, const struct given *given)
+{
+    static const char *const names[] = { "seconds", "nanosecond", "offset", "decimals" };
+    PyObject *taken[4] = { NULL };
+    long long seconds = 0, nanosecond = 0;
+    struct value v = { .kind = BY_SECONDS };
+    if (take_given(given, names, form->format == ISO8601 ? 4 : 3, taken) != 0 || take_number(taken[0], &seconds) != 0
+        || take_number(taken[1], &nanosecond) != 0 || take_local(state, taken[2], form) != 0
+        || take_decimals(taken[3], &form->config) != 0)
+        return NULL;
+    v.moment.seconds = seconds;
+    /* No number is cut to one in range. */
+    v.moment.nanosecond = nanosecond < 0 || nanosecond > UINT32_MAX ? UINT32_MAX : (uint32_t)nanosecond;
+    return text_of(state, form, &v);
+}
+
 /* ---- columns */
 
-static int take_unit(const char *name, struct movaliren_column *column)
+/* Numbers since 1970, each so many bytes behind the one before it, of which so many are a second. */
+struct column {
+    const char *numbers;
+    Py_ssize_t count, stride;
+    int64_t unit;
+};
+
+static int take_unit(PyObject *value, int64_t *unit)
 {
     static const char *const names[] = { "s", "ms", "us", "ns" };
-    static const enum movaliren_unit units[] = { MOVALIREN_UNIT_SECOND, MOVALIREN_UNIT_MILLISECOND,
-        MOVALIREN_UNIT_MICROSECOND, MOVALIREN_UNIT_NANOSECOND };
-    for (int i = 0; i < 4; i++)
-        if (strcmp(name, names[i]) == 0) {
-            column->unit = units[i];
+    const char *name = "s";
+    Py_ssize_t len;
+    if (value && take_text(value, &name, &len) != 0)
+        return -1;
+    *unit = 1;
+    for (int i = 0; i < 4; i++, *unit *= 1000)
+        if (strcmp(name, names[i]) == 0)
             return 0;
-        }
     PyErr_Format(PyExc_ValueError, "the unit '%s' is none of 's', 'ms', 'us' and 'ns'", name);
     return -1;
 }
 
+/* Takes the byte at the end of each line, which is a line feed where none is given. */
+static int take_end(PyObject *value, char *end)
+{
+    const char *text = "\n";
+    Py_ssize_t len = 1;
+    if (value && take_text(value, &text, &len) != 0)
+        return -1;
+    *end = *text;
+    if (len == 1)
+        return 0;
+    PyErr_SetString(PyExc_ValueError, "a line ends with one byte");
+    return -1;
+}
+
 /* Takes an object whose buffer has integers of 64 bits in one dimension. */
-static int take_column(PyObject *object, Py_buffer *view, struct movaliren_column *column)
+static int take_column(PyObject *object, Py_buffer *view, struct column *column)
 {
     const char *format;
     if (PyObject_GetBuffer(object, view, PyBUF_STRIDED_RO | PyBUF_FORMAT) != 0)
@@ -256,7 +444,7 @@ static int take_column(PyObject *object, Py_buffer *view, struct movaliren_colum
     format += *format == '@' || *format == '=' || *format == '<';
     if (view->ndim == 1 && view->itemsize == 8 && (strcmp(format, "q") == 0 || strcmp(format, "l") == 0)) {
         column->numbers = view->buf;
-        column->count = (size_t)view->shape[0];
+        column->count = view->shape[0];
         /* An array of ctypes has no strides. */
         column->stride = view->strides ? view->strides[0] : view->itemsize;
         return 0;
@@ -264,6 +452,18 @@ static int take_column(PyObject *object, Py_buffer *view, struct movaliren_colum
     PyErr_Format(PyExc_TypeError, "a column has integers of 64 bits in one dimension, and not the format '%s'", format);
     PyBuffer_Release(view);
     return -1;
+}
+
+/* The moment of a row. Before 1970 its second is rounded down. */
+static struct movaliren_utc_moment moment_at(const struct column *column, Py_ssize_t row)
+{
+    struct movaliren_utc_moment moment;
+    int64_t number, rest;
+    memcpy(&number, column->numbers + row * column->stride, sizeof number);
+    rest = number % column->unit;
+    moment.seconds = number / column->unit - (rest < 0);
+    moment.nanosecond = (uint32_t)((rest < 0 ? rest + column->unit : rest) * (1000000000 / column->unit));
+    return moment;
 }
 
 /* An array of bytes that grows. */
@@ -285,208 +485,170 @@ static int grow(struct bytes *bytes, size_t more)
     return 0;
 }
 
-/* Adds all lines of the column to the array. Returns the error of the library, and counts the rows before it. */
-static ptrdiff_t add_lines(
-    struct bytes *bytes, const struct movaliren_lines *form, const struct movaliren_column *column, size_t *row)
+/* Adds a line to the array. Returns 0 or the error of the library, and 1 after an exception. */
+static ptrdiff_t add_line(struct bytes *bytes, const struct form *form, char end, struct movaliren_utc_moment moment)
 {
-    struct movaliren_progress part;
-    for (*row = 0; *row < column->count;) {
-        part = movaliren_lines_column(form, column, *row, bytes->at + bytes->len, bytes->size - bytes->len);
-        *row += part.moments;
-        bytes->len += part.bytes;
-        if (part.error != 0 && part.error != MOVALIREN_ERROR_BUFFER_TOO_SMALL)
-            return part.error;
-        if (part.error != 0 && grow(bytes, 64) != 0)
-            return 0;
+    ptrdiff_t count;
+    for (;;) {
+        count = write_seconds(form, &moment, bytes->at + bytes->len, bytes->size - bytes->len - 1);
+        if (count != MOVALIREN_ERROR_BUFFER_TOO_SMALL)
+            break;
+        if (grow(bytes, 64) != 0)
+            return 1;
     }
+    if (count < 0)
+        return count;
+    bytes->len += (size_t)count;
+    bytes->at[bytes->len++] = end;
+    if (bytes->len == bytes->size)
+        return grow(bytes, 64) == 0 ? 0 : 1;
     return 0;
 }
 
-static PyObject *lines_of(const struct movaliren_lines *form, const struct movaliren_column *column)
+static PyObject *lines_of(const struct state *state, const struct form *form, char end, const struct column *column)
 {
     struct bytes bytes = { NULL, 0, 0 };
-    PyObject *made = NULL;
-    ptrdiff_t error = 0;
-    size_t row = 0;
-    if (grow(&bytes, column->count * 32 + 1) == 0)
-        error = add_lines(&bytes, form, column, &row);
-    if (!PyErr_Occurred())
-        made = PyBytes_FromStringAndSize(bytes.at, (Py_ssize_t)bytes.len);
-    PyMem_Free(bytes.at);
-    if (made && error < 0) {
-        raise_row(error, (Py_ssize_t)row, made);
-        Py_CLEAR(made);
+    PyObject *lines = NULL;
+    ptrdiff_t error = grow(&bytes, (size_t)column->count * 32 + 64) == 0 ? 0 : 1;
+    Py_ssize_t row = 0;
+    while (error == 0 && row < column->count) {
+        error = add_line(&bytes, form, end, moment_at(column, row));
+        row += error == 0;
     }
-    return made;
+    if (error <= 0)
+        lines = PyBytes_FromStringAndSize(bytes.at, (Py_ssize_t)bytes.len);
+    PyMem_Free(bytes.at);
+    if (lines && error < 0) {
+        raise_row(state, error, row, lines);
+        Py_CLEAR(lines);
+    }
+    return lines;
 }
 
-/* Takes (column, unit="s", offset=None, end="\n"), and the decimals where there is a configuration of theirs. */
-static PyObject *column_by(struct movaliren_lines *form, struct movaliren_iso8601_config *config, PyObject *args, PyObject *named)
+/* Takes (column, unit="s", offset=None, end="\n"), and for ISO 8601 also decimals=9. */
+static PyObject *by_column(const struct state *state, struct form *form, const struct given *given)
 {
-    static char *names[] = { "column", "unit", "offset", "end", NULL };
-    static char *with_decimals[] = { "column", "unit", "offset", "end", "decimals", NULL };
-    PyObject *object, *offset = NULL, *made;
-    const char *unit = "s", *end = "\n";
-    Py_ssize_t end_len = 1;
-    int decimals = 9;
+    static const char *const names[] = { "column", "unit", "offset", "end", "decimals" };
+    PyObject *taken[5] = { NULL }, *lines;
+    struct column column;
     Py_buffer view;
-    struct movaliren_column column;
-    if (!(config ? PyArg_ParseTupleAndKeywords(args, named, "O|sOs#i", with_decimals, &object, &unit, &offset, &end, &end_len, &decimals)
-                 : PyArg_ParseTupleAndKeywords(args, named, "O|sOs#", names, &object, &unit, &offset, &end, &end_len)))
+    char end;
+    if (take_given(given, names, form->format == ISO8601 ? 5 : 4, taken) != 0 || take_unit(taken[1], &column.unit) != 0
+        || take_local(state, taken[2], form) != 0 || take_end(taken[3], &end) != 0
+        || take_decimals(taken[4], &form->config) != 0 || take_column(taken[0], &view, &column) != 0)
         return NULL;
-    if (end_len != 1) {
-        PyErr_SetString(PyExc_ValueError, "a line ends with one byte");
-        return NULL;
-    }
-    form->end = (uint8_t)*end;
-    if ((config && take_decimals(decimals, config) != 0) || take_unit(unit, &column) != 0
-        || take_given_offset(offset, form) != 0 || take_column(object, &view, &column) != 0)
-        return NULL;
-    made = lines_of(form, &column);
+    lines = lines_of(state, form, end, &column);
     PyBuffer_Release(&view);
-    return made;
+    return lines;
 }
 
 /* ---- functions of a format */
 
-static PyObject *by_moment(const struct movaliren_lines *form, PyObject *moment)
-{
-    struct value v = { 0 };
-    return take_moment(moment, &v) == 0 ? text_of(form, &v) : NULL;
-}
+#define GIVEN PyObject *const *values, Py_ssize_t count, PyObject *names
 
-/* Takes (seconds, nanosecond=0, offset=None). */
-static PyObject *by_seconds(struct movaliren_lines *form, PyObject *args, PyObject *named)
-{
-    static char *names[] = { "seconds", "nanosecond", "offset", NULL };
-    long long seconds, nanosecond = 0;
-    PyObject *offset = NULL;
-    struct value v = { 0 };
-    if (!PyArg_ParseTupleAndKeywords(args, named, "L|LO", names, &seconds, &nanosecond, &offset)
-        || take_given_offset(offset, form) != 0)
-        return NULL;
-    set_seconds(seconds, nanosecond, &v);
-    return text_of(form, &v);
-}
+/* The calls of seconds and of a column, by a format. */
+#define BY_SECONDS_AND_COLUMN(name, number)                                                        \
+    static PyObject *name##_at(PyObject *module, GIVEN)                                            \
+    {                                                                                              \
+        const struct given given = { values, count, names };                                       \
+        struct form form = { .format = number };                                                   \
+        return by_seconds(state_of(module), &form, &given);                                        \
+    }                                                                                              \
+                                                                                                   \
+    static PyObject *name##_lines(PyObject *module, GIVEN)                                         \
+    {                                                                                              \
+        const struct given given = { values, count, names };                                       \
+        struct form form = { .format = number };                                                   \
+        return by_column(state_of(module), &form, &given);                                         \
+    }
+
+BY_SECONDS_AND_COLUMN(rfc3339, RFC3339)
+BY_SECONDS_AND_COLUMN(rfc2822, RFC2822)
+BY_SECONDS_AND_COLUMN(iso8601, ISO8601)
 
 static PyObject *rfc3339(PyObject *module, PyObject *moment)
 {
-    const struct movaliren_lines form = MOVALIREN_LINES(MOVALIREN_LINES_RFC3339);
-    (void)module;
-    return by_moment(&form, moment);
-}
-
-static PyObject *rfc3339_at(PyObject *module, PyObject *args, PyObject *named)
-{
-    struct movaliren_lines form = MOVALIREN_LINES(MOVALIREN_LINES_RFC3339);
-    (void)module;
-    return by_seconds(&form, args, named);
-}
-
-static PyObject *rfc3339_lines(PyObject *module, PyObject *args, PyObject *named)
-{
-    struct movaliren_lines form = MOVALIREN_LINES(MOVALIREN_LINES_RFC3339);
-    (void)module;
-    return column_by(&form, NULL, args, named);
+    const struct form form = { .format = RFC3339 };
+    return by_moment(state_of(module), &form, moment);
 }
 
 static PyObject *rfc2822(PyObject *module, PyObject *moment)
 {
-    const struct movaliren_lines form = MOVALIREN_LINES(MOVALIREN_LINES_RFC2822);
-    (void)module;
-    return by_moment(&form, moment);
+    const struct form form = { .format = RFC2822 };
+    return by_moment(state_of(module), &form, moment);
 }
 
-static PyObject *rfc2822_at(PyObject *module, PyObject *args, PyObject *named)
+static PyObject *iso8601(PyObject *module, GIVEN)
 {
-    struct movaliren_lines form = MOVALIREN_LINES(MOVALIREN_LINES_RFC2822);
-    (void)module;
-    return by_seconds(&form, args, named);
-}
-
-static PyObject *rfc2822_lines(PyObject *module, PyObject *args, PyObject *named)
-{
-    struct movaliren_lines form = MOVALIREN_LINES(MOVALIREN_LINES_RFC2822);
-    (void)module;
-    return column_by(&form, NULL, args, named);
-}
-
-static PyObject *iso8601(PyObject *module, PyObject *args, PyObject *named)
-{
-    static char *names[] = { "moment", "decimals", NULL };
-    struct movaliren_lines form = MOVALIREN_LINES(MOVALIREN_LINES_ISO8601);
-    struct movaliren_iso8601_config config;
-    PyObject *moment;
-    int decimals = 9;
-    (void)module;
-    if (!PyArg_ParseTupleAndKeywords(args, named, "O|i", names, &moment, &decimals) || take_decimals(decimals, &config) != 0)
+    static const char *const known[] = { "moment", "decimals" };
+    const struct given given = { values, count, names };
+    struct form form = { .format = ISO8601 };
+    PyObject *taken[2];
+    if (take_given(&given, known, 2, taken) != 0 || take_decimals(taken[1], &form.config) != 0)
         return NULL;
-    form.config = &config;
-    return by_moment(&form, moment);
-}
-
-static PyObject *iso8601_at(PyObject *module, PyObject *args, PyObject *named)
-{
-    static char *names[] = { "seconds", "nanosecond", "offset", "decimals", NULL };
-    struct movaliren_lines form = MOVALIREN_LINES(MOVALIREN_LINES_ISO8601);
-    struct movaliren_iso8601_config config;
-    long long seconds, nanosecond = 0;
-    PyObject *offset = NULL;
-    int decimals = 9;
-    struct value v = { 0 };
-    (void)module;
-    if (!PyArg_ParseTupleAndKeywords(args, named, "L|LOi", names, &seconds, &nanosecond, &offset, &decimals))
-        return NULL;
-    if (take_decimals(decimals, &config) != 0 || take_given_offset(offset, &form) != 0)
-        return NULL;
-    form.config = &config;
-    set_seconds(seconds, nanosecond, &v);
-    return text_of(&form, &v);
-}
-
-static PyObject *iso8601_lines(PyObject *module, PyObject *args, PyObject *named)
-{
-    struct movaliren_lines form = MOVALIREN_LINES(MOVALIREN_LINES_ISO8601);
-    struct movaliren_iso8601_config config;
-    (void)module;
-    form.config = &config;
-    return column_by(&form, &config, args, named);
+    return by_moment(state_of(module), &form, taken[0]);
 }
 
 /* ---- reading */
 
-static PyObject *raise_not_read(const struct movaliren_read_error *error)
+/* Takes what a datetime has of a nanosecond. The call of this name returns the rest too. */
+static int take_microsecond(uint32_t nanosecond, const char *name_at, int *microsecond)
 {
-    char words[MOVALIREN_READ_MESSAGE_SIZE];
-    return raise_with(ReadError, movaliren_read_error_message(error, words), MOVALIREN_ERROR_NOT_READ, error->at);
+    *microsecond = (int)(nanosecond / 1000);
+    if (nanosecond % 1000 == 0)
+        return 0;
+    PyErr_Format(PyExc_ValueError, "a datetime has microseconds alone: %s returns the nanosecond", name_at);
+    return -1;
 }
 
 /* The zone of an offset: UTC, or one of the type timezone. */
-static PyObject *zone_of(const struct movaliren_moment *m)
+static PyObject *zone_of(const PyDateTime_CAPI *datetime, const struct movaliren_moment *m)
 {
-    PyObject *delta, *zone;
     const int seconds = m->offset_hours * 3600 + m->offset_minutes * 60 + m->offset_seconds;
+    PyObject *delta, *zone;
     if (seconds == 0)
-        return Py_NewRef(utc);
-    if (!(delta = PyObject_CallFunction(timedelta_type, "ii", 0, seconds)))
+        return Py_NewRef(datetime->TimeZone_UTC);
+    if (!(delta = datetime->Delta_FromDelta(0, seconds, 0, 1, datetime->DeltaType)))
         return NULL;
-    zone = PyObject_CallFunctionObjArgs(timezone_type, delta, NULL);
+    zone = datetime->TimeZone_FromTimeZone(delta, NULL);
     Py_DECREF(delta);
     return zone;
 }
 
-/* Raises the error of a text that a description does not read. */
-static PyObject *raise_unread(ptrdiff_t number, const struct movaliren_read_error *error)
+static PyObject *datetime_of(const struct state *state, const struct movaliren_moment *m, const char *name_at)
 {
-    return number == MOVALIREN_ERROR_NOT_READ ? raise_not_read(error) : raise_number(number);
+    const PyDateTime_CAPI *datetime = state->datetime;
+    PyObject *zone, *moment;
+    int microsecond;
+    if (take_microsecond(m->nanosecond, name_at, &microsecond) != 0 || !(zone = zone_of(datetime, m)))
+        return NULL;
+    moment = datetime->DateTime_FromDateAndTime(
+        m->year, m->month, m->day, m->hour, m->minute, m->second, microsecond, zone, datetime->DateTimeType);
+    Py_DECREF(zone);
+    return moment;
 }
 
-/* Takes (text, lenient=False). */
-static int take_text(PyObject *args, PyObject *named, const char **text, Py_ssize_t *len, int *is_lenient)
+/* The datetime in UTC of a moment. */
+static PyObject *datetime_in_utc(const struct state *state, const struct movaliren_utc_moment *m)
 {
-    static char *names[] = { "text", "lenient", NULL };
-    *is_lenient = 0;
-    return PyArg_ParseTupleAndKeywords(args, named, "s#|p", names, text, len, is_lenient) ? 0 : -1;
+    const PyDateTime_CAPI *datetime = state->datetime;
+    const int days = (int)(m->seconds / 86400), seconds = (int)(m->seconds % 86400);
+    PyObject *epoch, *delta, *moment = NULL;
+    int microsecond;
+    if (take_microsecond(m->nanosecond, "read_at", &microsecond) != 0)
+        return NULL;
+    epoch = datetime->DateTime_FromDateAndTime(1970, 1, 1, 0, 0, 0, 0, datetime->TimeZone_UTC, datetime->DateTimeType);
+    delta = datetime->Delta_FromDelta(days, seconds, microsecond, 1, datetime->DeltaType);
+    if (epoch && delta)
+        moment = PyNumber_Add(epoch, delta);
+    Py_XDECREF(delta);
+    Py_XDECREF(epoch);
+    return moment;
+}
+
+static PyObject *pair_of(const struct movaliren_utc_moment *m)
+{
+    return Py_BuildValue("(LI)", (long long)m->seconds, (unsigned)m->nanosecond);
 }
 
 /* The calls that read a text strictly and leniently, into the parts of a moment and into seconds. */
@@ -501,257 +663,232 @@ static const struct reader of_rfc3339 = { { movaliren_read_rfc3339, movaliren_re
 static const struct reader of_rfc2822 = { { movaliren_read_rfc2822, movaliren_read_rfc2822_lenient },
     { movaliren_read_rfc2822_utc, movaliren_read_rfc2822_lenient_utc }, "read_rfc2822_at" };
 
-/* The datetime of these parts. The call of this name returns the nanosecond. */
-static PyObject *datetime_of(const struct movaliren_moment *m, const char *name_at)
+/* Takes (text, lenient=False). */
+static int take_to_read(const struct given *given, const char **text, Py_ssize_t *len, int *is_lenient)
 {
-    PyObject *zone, *moment;
-    if (m->nanosecond % 1000 != 0)
-        return PyErr_Format(PyExc_ValueError, "a datetime has microseconds alone: %s returns the nanosecond", name_at);
-    if (!(zone = zone_of(m)))
-        return NULL;
-    moment = PyObject_CallFunction(datetime_type, "iiiiiiiO", (int)m->year, m->month, m->day, m->hour, m->minute,
-        m->second, (int)(m->nanosecond / 1000), zone);
-    Py_DECREF(zone);
-    return moment;
+    static const char *const names[] = { "text", "lenient" };
+    PyObject *taken[2];
+    if (take_given(given, names, 2, taken) != 0 || take_text(taken[0], text, len) != 0)
+        return -1;
+    *is_lenient = taken[1] ? PyObject_IsTrue(taken[1]) : 0;
+    return *is_lenient < 0 ? -1 : 0;
 }
 
-static PyObject *pair_of(const struct movaliren_utc_moment *m)
-{
-    return Py_BuildValue("(LI)", (long long)m->seconds, (unsigned)m->nanosecond);
-}
-
-static PyObject *read_by(const struct reader *reader, PyObject *args, PyObject *named)
+static PyObject *read_by(const struct state *state, const struct reader *reader, const struct given *given)
 {
     const char *text;
     Py_ssize_t len;
     int is_lenient;
     struct movaliren_moment m;
     struct movaliren_read_error error;
-    if (take_text(args, named, &text, &len, &is_lenient) != 0)
+    if (take_to_read(given, &text, &len, &is_lenient) != 0)
         return NULL;
     if (reader->by_parts[is_lenient](text, (size_t)len, &m, &error) < 0)
-        return raise_not_read(&error);
-    return datetime_of(&m, reader->name_at);
+        return raise_not_read(state, &error);
+    return datetime_of(state, &m, reader->name_at);
 }
 
-static PyObject *read_at_by(const struct reader *reader, PyObject *args, PyObject *named)
+static PyObject *read_at_by(const struct state *state, const struct reader *reader, const struct given *given)
 {
     const char *text;
     Py_ssize_t len;
     int is_lenient;
     struct movaliren_utc_moment m;
     struct movaliren_read_error error;
-    if (take_text(args, named, &text, &len, &is_lenient) != 0)
+    if (take_to_read(given, &text, &len, &is_lenient) != 0)
         return NULL;
     if (reader->in_utc[is_lenient](text, (size_t)len, &m, &error) < 0)
-        return raise_not_read(&error);
+        return raise_not_read(state, &error);
     return pair_of(&m);
 }
 
-static PyObject *read_rfc3339(PyObject *module, PyObject *args, PyObject *named)
-{
-    (void)module;
-    return read_by(&of_rfc3339, args, named);
-}
+/* Two functions that read by a reader. */
+#define READS(name)                                                                                \
+    static PyObject *read_##name(PyObject *module, GIVEN)                                          \
+    {                                                                                              \
+        const struct given given = { values, count, names };                                       \
+        return read_by(state_of(module), &of_##name, &given);                                      \
+    }                                                                                              \
+                                                                                                   \
+    static PyObject *read_##name##_at(PyObject *module, GIVEN)                                     \
+    {                                                                                              \
+        const struct given given = { values, count, names };                                       \
+        return read_at_by(state_of(module), &of_##name, &given);                                   \
+    }
 
-static PyObject *read_rfc3339_at(PyObject *module, PyObject *args, PyObject *named)
-{
-    (void)module;
-    return read_at_by(&of_rfc3339, args, named);
-}
-
-static PyObject *read_rfc2822(PyObject *module, PyObject *args, PyObject *named)
-{
-    (void)module;
-    return read_by(&of_rfc2822, args, named);
-}
-
-static PyObject *read_rfc2822_at(PyObject *module, PyObject *args, PyObject *named)
-{
-    (void)module;
-    return read_at_by(&of_rfc2822, args, named);
-}
+READS(rfc3339)
+READS(rfc2822)
 
 /* Takes (text, decimals=9). */
-static int take_iso8601(PyObject *args, PyObject *named, const char **text, Py_ssize_t *len,
-    struct movaliren_iso8601_config *config)
+static int take_iso8601(
+    const struct given *given, const char **text, Py_ssize_t *len, struct movaliren_iso8601_config *config)
 {
-    static char *names[] = { "text", "decimals", NULL };
-    int decimals = 9;
-    return PyArg_ParseTupleAndKeywords(args, named, "s#|i", names, text, len, &decimals)
-        ? take_decimals(decimals, config) : -1;
+    static const char *const names[] = { "text", "decimals" };
+    PyObject *taken[2];
+    if (take_given(given, names, 2, taken) != 0 || take_text(taken[0], text, len) != 0)
+        return -1;
+    return take_decimals(taken[1], config);
 }
 
-static PyObject *read_iso8601(PyObject *module, PyObject *args, PyObject *named)
+static PyObject *read_iso8601(PyObject *module, GIVEN)
 {
+    const struct given given = { values, count, names };
     const char *text;
     Py_ssize_t len;
     struct movaliren_iso8601_config config;
     struct movaliren_moment m;
     struct movaliren_read_error error;
-    (void)module;
-    if (take_iso8601(args, named, &text, &len, &config) != 0)
+    if (take_iso8601(&given, &text, &len, &config) != 0)
         return NULL;
     if (movaliren_read_iso8601_with(&config, text, (size_t)len, &m, &error) < 0)
-        return raise_not_read(&error);
-    return datetime_of(&m, "read_iso8601_at");
+        return raise_not_read(state_of(module), &error);
+    return datetime_of(state_of(module), &m, "read_iso8601_at");
 }
 
-static PyObject *read_iso8601_at(PyObject *module, PyObject *args, PyObject *named)
+static PyObject *read_iso8601_at(PyObject *module, GIVEN)
 {
+    const struct given given = { values, count, names };
     const char *text;
     Py_ssize_t len;
     struct movaliren_iso8601_config config;
     struct movaliren_utc_moment m;
     struct movaliren_read_error error;
-    (void)module;
-    if (take_iso8601(args, named, &text, &len, &config) != 0)
+    if (take_iso8601(&given, &text, &len, &config) != 0)
         return NULL;
     if (movaliren_read_iso8601_with_utc(&config, text, (size_t)len, &m, &error) < 0)
-        return raise_not_read(&error);
+        return raise_not_read(state_of(module), &error);
     return pair_of(&m);
 }
 
 /* ---- descriptions */
 
 struct description {
-    PyObject ob_base;
+    PyObject_HEAD
     struct movaliren_description own;
 };
 
-static struct movaliren_lines form_of(PyObject *self)
+static struct movaliren_description *own_of(PyObject *self)
 {
-    struct movaliren_lines form = MOVALIREN_LINES(MOVALIREN_LINES_DESCRIPTION);
-    form.description = &((struct description *)self)->own;
+    return &((struct description *)self)->own;
+}
+
+static struct form form_of(PyObject *self)
+{
+    const struct form form = { .format = DESCRIPTION, .description = own_of(self) };
     return form;
+}
+
+/* No class is derived from a description's. */
+static const struct state *state_above(PyObject *self)
+{
+    return PyType_GetModuleState(Py_TYPE(self));
 }
 
 static void free_description(PyObject *self)
 {
     PyTypeObject *type = Py_TYPE(self);
-    struct movaliren_description *own = &((struct description *)self)->own;
-    PyMem_Free(own->items);
-    PyMem_Free(own->texts_array);
-    PyObject_Free(self);
+    type->tp_free(self);
     Py_DECREF(type);
 }
 
-/* Reads the text that the description has into an array of so many items. */
-static ptrdiff_t read_items(struct movaliren_description *own, size_t capacity, int is_strftime)
+/* Makes a description of its text, and returns -1 after an exception. */
+static int fill(const struct state *state, struct movaliren_description *own, PyObject *given, int is_strftime)
 {
-    struct movaliren_item *items = PyMem_Realloc(own->items, capacity * sizeof *items);
-    if (!items) {
-        PyErr_NoMemory();
+    char words[MOVALIREN_WORDS_SIZE];
+    struct movaliren_parse_error error;
+    const char *text;
+    Py_ssize_t len;
+    ptrdiff_t number;
+    if (take_text(given, &text, &len) != 0)
         return -1;
-    }
-    own->items = items;
-    own->items_capacity = capacity;
-    return is_strftime
-        ? movaliren_items_parse_strftime(own->texts, own->texts_len, items, capacity, &own->parse_error)
-        : movaliren_items_parse(own->texts, own->texts_len, items, capacity, &own->parse_error);
+    number = is_strftime ? movaliren_description_parse_strftime(own, text, (size_t)len, &error)
+                         : movaliren_description_parse(own, text, (size_t)len, &error);
+    if (number == 0)
+        return 0;
+    MOVALIREN_TO_ARRAY(words, movaliren_parse_strerror_r, &error);
+    raise_at(state->description_error, words, number, error.at);
+    return -1;
 }
 
-static PyObject *made(PyTypeObject *type, const char *text, Py_ssize_t len, int is_strftime)
+static PyObject *made(PyTypeObject *type, PyObject *text, int is_strftime)
 {
-    PyObject *self = PyType_GenericAlloc(type, 0);
-    struct movaliren_description *own;
-    char words[MOVALIREN_PARSE_MESSAGE_SIZE];
-    ptrdiff_t count;
-    if (!self)
-        return NULL;
-    own = &((struct description *)self)->own;
-    own->texts = own->texts_array = PyMem_Malloc((size_t)len + 1);
-    if (!own->texts) {
-        Py_DECREF(self);
-        return PyErr_NoMemory();
-    }
-    memcpy(own->texts_array, text, (size_t)len);
-    own->texts_len = own->texts_capacity = (size_t)len;
-    count = read_items(own, 16, is_strftime);
-    if (count == MOVALIREN_ERROR_MANY_ITEMS)
-        count = read_items(own, own->parse_error.items, is_strftime);
-    own->items_len = count < 0 ? 0 : (size_t)count;
-    if (count >= 0)
-        return self;
-    if (!PyErr_Occurred())
-        raise_with(DescriptionError, movaliren_parse_error_message(&own->parse_error, words), count, own->parse_error.at);
-    Py_DECREF(self);
-    return NULL;
+    PyObject *self = type->tp_alloc(type, 0);
+    if (self && fill(PyType_GetModuleState(type), own_of(self), text, is_strftime) != 0)
+        Py_CLEAR(self);
+    return self;
 }
 
 static PyObject *new_description(PyTypeObject *type, PyObject *args, PyObject *named)
 {
     static char *names[] = { "text", NULL };
-    const char *text;
-    Py_ssize_t len;
-    return PyArg_ParseTupleAndKeywords(args, named, "s#", names, &text, &len) ? made(type, text, len, 0) : NULL;
+    PyObject *text;
+    return PyArg_ParseTupleAndKeywords(args, named, "O", names, &text) ? made(type, text, 0) : NULL;
 }
 
-static PyObject *strftime_(PyObject *type, PyObject *text)
+static PyObject *of_strftime(PyObject *type, PyObject *text)
 {
-    Py_ssize_t len;
-    const char *bytes = PyUnicode_AsUTF8AndSize(text, &len);
-    return bytes ? made((PyTypeObject *)type, bytes, len, 1) : NULL;
+    return made((PyTypeObject *)type, text, 1);
 }
 
 static PyObject *format(PyObject *self, PyObject *moment)
 {
-    struct movaliren_lines form = form_of(self);
-    return by_moment(&form, moment);
+    const struct form form = form_of(self);
+    return by_moment(state_above(self), &form, moment);
 }
 
-static PyObject *format_at(PyObject *self, PyObject *args, PyObject *named)
+static PyObject *format_at(PyObject *self, GIVEN)
 {
-    struct movaliren_lines form = form_of(self);
-    return by_seconds(&form, args, named);
+    const struct given given = { values, count, names };
+    struct form form = form_of(self);
+    return by_seconds(state_above(self), &form, &given);
 }
 
 static PyObject *format_date(PyObject *self, PyObject *date)
 {
-    struct movaliren_lines form = form_of(self);
-    struct value v = { 0 };
-    v.kind = A_DATE;
-    return take_date(date, &v.parts) == 0 ? text_of(&form, &v) : NULL;
+    const struct state *state = state_above(self);
+    const struct form form = form_of(self);
+    struct value v = { .kind = A_DATE };
+    if (!PyObject_TypeCheck(date, state->datetime->DateType))
+        return PyErr_Format(PyExc_TypeError, "a date is of the type 'date', and not '%s'", Py_TYPE(date)->tp_name);
+    take_date(date, &v.parts);
+    return text_of(state, &form, &v);
 }
 
-/* The datetime in UTC of a moment. */
-static PyObject *datetime_in_utc(const struct movaliren_utc_moment *m)
+static PyObject *lines(PyObject *self, GIVEN)
 {
-    PyObject *epoch, *delta, *moment = NULL;
-    if (m->nanosecond % 1000 != 0)
-        return PyErr_Format(PyExc_ValueError, "a datetime has microseconds alone: read_at returns the nanosecond");
-    epoch = PyObject_CallFunction(datetime_type, "iiiiiiiO", 1970, 1, 1, 0, 0, 0, 0, utc);
-    delta = PyObject_CallFunction(timedelta_type, "iLI", 0, (long long)m->seconds, (unsigned)(m->nanosecond / 1000));
-    if (epoch && delta)
-        moment = PyNumber_Add(epoch, delta);
-    Py_XDECREF(delta);
-    Py_XDECREF(epoch);
-    return moment;
+    const struct given given = { values, count, names };
+    struct form form = form_of(self);
+    return by_column(state_above(self), &form, &given);
+}
+
+/* Raises the error of a text that a description does not read. */
+static PyObject *raise_unread(const struct state *state, ptrdiff_t number, const struct movaliren_read_error *error)
+{
+    return number == MOVALIREN_ERROR_NOT_READ ? raise_not_read(state, error) : raise_number(state, number);
 }
 
 /* Reads a text that has Unix time, or is in UTC. */
-static PyObject *read_in_utc(const struct movaliren_description *own, const char *text, Py_ssize_t len)
+static PyObject *read_in_utc(PyObject *self, const char *text, Py_ssize_t len)
 {
     struct movaliren_utc_moment m;
     struct movaliren_read_error error;
-    const ptrdiff_t number = movaliren_description_read_utc(own, text, (size_t)len, &m, &error);
-    return number < 0 ? raise_unread(number, &error) : datetime_in_utc(&m);
+    const ptrdiff_t number = movaliren_description_read_utc(own_of(self), text, (size_t)len, &m, &error);
+    return number < 0 ? raise_unread(state_above(self), number, &error) : datetime_in_utc(state_above(self), &m);
 }
 
 static PyObject *read_text(PyObject *self, PyObject *given)
 {
-    const struct movaliren_description *own = &((struct description *)self)->own;
     struct movaliren_moment m;
     struct movaliren_read_error error;
     Py_ssize_t len;
     ptrdiff_t number;
-    const char *text = PyUnicode_AsUTF8AndSize(given, &len);
-    if (!text)
+    const char *text;
+    if (take_text(given, &text, &len) != 0)
         return NULL;
-    number = movaliren_description_read(own, text, (size_t)len, &m, &error);
+    number = movaliren_description_read(own_of(self), text, (size_t)len, &m, &error);
     if (number == MOVALIREN_ERROR_UNDETERMINED)
-        return read_in_utc(own, text, len);
-    return number < 0 ? raise_unread(number, &error) : datetime_of(&m, "read_at");
+        return read_in_utc(self, text, len);
+    return number < 0 ? raise_unread(state_above(self), number, &error) : datetime_of(state_above(self), &m, "read_at");
 }
 
 static PyObject *read_text_at(PyObject *self, PyObject *given)
@@ -760,35 +897,29 @@ static PyObject *read_text_at(PyObject *self, PyObject *given)
     struct movaliren_read_error error;
     Py_ssize_t len;
     ptrdiff_t number;
-    const char *text = PyUnicode_AsUTF8AndSize(given, &len);
-    if (!text)
+    const char *text;
+    if (take_text(given, &text, &len) != 0)
         return NULL;
-    number = movaliren_description_read_utc(&((struct description *)self)->own, text, (size_t)len, &m, &error);
-    return number < 0 ? raise_unread(number, &error) : pair_of(&m);
-}
-
-static PyObject *lines(PyObject *self, PyObject *args, PyObject *named)
-{
-    struct movaliren_lines form = form_of(self);
-    return column_by(&form, NULL, args, named);
+    number = movaliren_description_read_utc(own_of(self), text, (size_t)len, &m, &error);
+    return number < 0 ? raise_unread(state_above(self), number, &error) : pair_of(&m);
 }
 
 static PyObject *max_length(PyObject *self, void *closure)
 {
     (void)closure;
-    return PyLong_FromSsize_t(movaliren_description_max_length(form_of(self).description));
+    return PyLong_FromSsize_t(movaliren_description_max_length(own_of(self)));
 }
 
 static PyObject *has_component(PyObject *self, void *closure)
 {
     (void)closure;
-    return PyBool_FromLong(movaliren_description_has_component(form_of(self).description));
+    return PyBool_FromLong(movaliren_description_has_component(own_of(self)));
 }
 
-#define WITH_NAMES(function) (PyCFunction)(void (*)(void))(function), METH_VARARGS | METH_KEYWORDS
+#define WITH_NAMES(function) (PyCFunction)(void (*)(void))(function), METH_FASTCALL | METH_KEYWORDS
 
 static PyMethodDef description_methods[] = {
-    { "strftime", strftime_, METH_O | METH_CLASS, "The description in the syntax of strftime." },
+    { "strftime", of_strftime, METH_O | METH_CLASS, "The description in the syntax of strftime." },
     { "format", format, METH_O, "The text of a datetime." },
     { "format_at", WITH_NAMES(format_at), "The text of a moment by its seconds since 1970." },
     { "format_date", format_date, METH_O, "The text of a date." },
@@ -814,7 +945,10 @@ static PyType_Slot description_slots[] = {
 };
 
 static PyType_Spec description_spec = {
-    "movaliren.Description", sizeof(struct description), 0, Py_TPFLAGS_DEFAULT | Py_TPFLAGS_IMMUTABLETYPE, description_slots,
+    .name = "movaliren.Description",
+    .basicsize = sizeof(struct description),
+    .flags = Py_TPFLAGS_DEFAULT | Py_TPFLAGS_IMMUTABLETYPE,
+    .slots = description_slots,
 };
 
 /* ---- the module */
@@ -845,58 +979,111 @@ static PyMethodDef functions[] = {
     { NULL, NULL, 0, NULL },
 };
 
-static struct PyModuleDef definition = {
-    PyModuleDef_HEAD_INIT, "movaliren._movaliren", NULL, -1, functions, NULL, NULL, NULL, NULL,
-};
-
-static int make_names(void)
+/* The library has instructions of x86-64-v2, of which these two came last. */
+static int take_processor(void)
 {
-    const struct { PyObject **name; const char *word; } names[] = {
-        { &year_, "year" }, { &month_, "month" }, { &day_, "day" }, { &hour_, "hour" }, { &minute_, "minute" },
-        { &second_, "second" }, { &microsecond_, "microsecond" }, { &nanosecond_, "nanosecond" }, { &tzinfo_, "tzinfo" },
-        { &utcoffset_, "utcoffset" }, { &days_, "days" }, { &seconds_, "seconds" }, { &microseconds_, "microseconds" },
-    };
-    for (size_t i = 0; i < sizeof names / sizeof *names; i++)
-        if (!(*names[i].name = PyUnicode_InternFromString(names[i].word)))
-            return -1;
-    return 0;
+    __builtin_cpu_init();
+    if (__builtin_cpu_supports("sse4.2") && __builtin_cpu_supports("popcnt"))
+        return 0;
+    PyErr_SetString(PyExc_ImportError, "movaliren needs a processor of the level x86-64-v2");
+    return -1;
 }
 
-static int take_datetime(void)
+static int take_datetime(struct state *state)
 {
     PyObject *module = PyImport_ImportModule("datetime");
     if (!module)
         return -1;
-    datetime_type = PyObject_GetAttrString(module, "datetime");
-    timezone_type = PyObject_GetAttrString(module, "timezone");
-    timedelta_type = PyObject_GetAttrString(module, "timedelta");
-    utc = timezone_type ? PyObject_GetAttrString(timezone_type, "utc") : NULL;
+    state->capsule = PyObject_GetAttrString(module, "datetime_CAPI");
     Py_DECREF(module);
-    return datetime_type && timezone_type && timedelta_type && utc ? 0 : -1;
+    state->datetime = state->capsule ? PyCapsule_GetPointer(state->capsule, PyDateTime_CAPSULE_NAME) : NULL;
+    state->nanosecond = PyUnicode_InternFromString("nanosecond");
+    state->utcoffset = PyUnicode_InternFromString("utcoffset");
+    return state->datetime && state->nanosecond && state->utcoffset ? 0 : -1;
 }
 
-static int add_errors(PyObject *module)
+/* Adds an exception with this name to the module, and returns it. */
+static PyObject *added_error(PyObject *module, const char *name, PyObject *base)
 {
-    Error = PyErr_NewException("movaliren.Error", PyExc_ValueError, NULL);
-    DescriptionError = PyErr_NewException("movaliren.DescriptionError", Error, NULL);
-    ReadError = PyErr_NewException("movaliren.ReadError", Error, NULL);
-    RowError = PyErr_NewException("movaliren.RowError", Error, NULL);
-    return PyModule_AddObjectRef(module, "Error", Error) || PyModule_AddObjectRef(module, "ReadError", ReadError)
-            || PyModule_AddObjectRef(module, "DescriptionError", DescriptionError)
-            || PyModule_AddObjectRef(module, "RowError", RowError)
-        ? -1 : 0;
+    char full[64];
+    PyObject *error;
+    snprintf(full, sizeof full, "movaliren.%s", name);
+    error = base ? PyErr_NewException(full, base, NULL) : NULL;
+    if (error && PyModule_AddObjectRef(module, name, error) != 0)
+        Py_CLEAR(error);
+    return error;
 }
 
-PyMODINIT_FUNC PyInit__movaliren(void);
+static int add_description(PyObject *module)
+{
+    PyObject *type = PyType_FromModuleAndSpec(module, &description_spec, NULL);
+    const int answer = type ? PyModule_AddType(module, (PyTypeObject *)type) : -1;
+    Py_XDECREF(type);
+    return answer;
+}
+
+static int fill_module(PyObject *module)
+{
+    struct state *state = PyModule_GetState(module);
+    if (take_processor() != 0 || take_datetime(state) != 0)
+        return -1;
+    state->error = added_error(module, "Error", PyExc_ValueError);
+    state->description_error = added_error(module, "DescriptionError", state->error);
+    state->read_error = added_error(module, "ReadError", state->error);
+    state->row_error = added_error(module, "RowError", state->error);
+    return state->description_error && state->read_error && state->row_error ? add_description(module) : -1;
+}
+
+static int visit_state(PyObject *module, visitproc visit, void *arg)
+{
+    const struct state *state = state_of(module);
+    Py_VISIT(state->error);
+    Py_VISIT(state->description_error);
+    Py_VISIT(state->read_error);
+    Py_VISIT(state->row_error);
+    return 0;
+}
+
+static int clear_state(PyObject *module)
+{
+    struct state *state = PyModule_GetState(module);
+    Py_CLEAR(state->error);
+    Py_CLEAR(state->description_error);
+    Py_CLEAR(state->read_error);
+    Py_CLEAR(state->row_error);
+    Py_CLEAR(state->capsule);
+    Py_CLEAR(state->nanosecond);
+    Py_CLEAR(state->utcoffset);
+    return 0;
+}
+
+static void free_state(void *module)
+{
+    clear_state(module);
+}
+
+static PyModuleDef_Slot slots[] = {
+    { Py_mod_exec, fill_module },
+/* From 3.13 on, datetime too has a state of its own in each interpreter. */
+#if PY_VERSION_HEX >= 0x030d0000
+    { Py_mod_multiple_interpreters, Py_MOD_PER_INTERPRETER_GIL_SUPPORTED },
+    { Py_mod_gil, Py_MOD_GIL_NOT_USED },
+#endif
+    { 0, NULL },
+};
+
+static struct PyModuleDef definition = {
+    PyModuleDef_HEAD_INIT,
+    .m_name = "movaliren._movaliren",
+    .m_size = sizeof(struct state),
+    .m_methods = functions,
+    .m_slots = slots,
+    .m_traverse = visit_state,
+    .m_clear = clear_state,
+    .m_free = free_state,
+};
+
 PyMODINIT_FUNC PyInit__movaliren(void)
 {
-    PyObject *module = PyModule_Create(&definition), *type = PyType_FromSpec(&description_spec);
-    if (module && type && make_names() == 0 && take_datetime() == 0 && add_errors(module) == 0
-        && PyModule_AddObjectRef(module, "Description", type) == 0) {
-        Py_DECREF(type);
-        return module;
-    }
-    Py_XDECREF(type);
-    Py_XDECREF(module);
-    return NULL;
+    return PyModuleDef_Init(&definition);
 }

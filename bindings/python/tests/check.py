@@ -6,8 +6,13 @@ import ctypes
 import datetime
 import doctest
 import email.utils
+import io
 import logging
+import logging.config
+import pathlib
 import random
+import subprocess
+import sys
 import zoneinfo
 
 import movaliren
@@ -42,6 +47,16 @@ def at(offset):
     return datetime.timezone(datetime.timedelta(seconds=offset))
 
 
+class Zone(datetime.tzinfo):
+    """Gives this value as the offset."""
+
+    def __init__(self, offset):
+        self.offset = offset
+
+    def utcoffset(self, moment):
+        return self.offset
+
+
 class Finer(datetime.datetime):
     """Has nanoseconds beside its microseconds, as a Timestamp of pandas."""
 
@@ -54,6 +69,7 @@ def worked():
     expect(movaliren.rfc3339(Finer(1985, 4, 12, 23, 20, 50, 520_000, UTC)), "1985-04-12T23:20:50.520000007Z")
     expect(movaliren.rfc3339(datetime.datetime(1996, 12, 19, 16, 39, 57, 0, at(-28800))), "1996-12-19T16:39:57-08:00")
     expect(movaliren.rfc3339(datetime.datetime(1937, 1, 1, 12, 0, 27, 870_000, at(1200))), "1937-01-01T12:00:27.87+00:20")
+    expect(movaliren.rfc3339(datetime.datetime(1937, 1, 1, tzinfo=Zone(datetime.timedelta(minutes=-1)))), "1937-01-01T00:00:00-00:01")
     expect(movaliren.rfc3339_at(-1041337173, 870_000_000, 1200), "1937-01-01T12:00:27.87+00:20")
     expect(movaliren.rfc3339_at(-1041337173, 870_000_001), "1937-01-01T11:40:27.870000001Z")
     expect(movaliren.rfc3339_at(0, offset=datetime.timedelta(hours=-1)), "1969-12-31T23:00:00-01:00")
@@ -84,8 +100,8 @@ def descriptions():
     day = movaliren.Description("[weekday], [day] [month repr:long]")
     expect(day.format_date(moment.date()), "Thursday, 19 December")
     expect((day.max_length, line.max_length), (9 + 2 + 2 + 1 + 9, len("+123456-MM-DDTHH:MM:SS.mmm+HH:MM")))
-    long = movaliren.Description("é [offset_hour sign:mandatory] " * 200)
-    expect(long.format(moment), "é -08 " * 200)
+    long = movaliren.Description("é [offset_hour sign:mandatory] " * 12)
+    expect(long.format(moment), "é -08 " * 12)
     expect(movaliren.Description.strftime("%d\0%m").format_at(0), "01\0" + "01")
     expect(line.read("1996-12-19T16:39:57.000-08:00"), moment)
     nginx = movaliren.Description.strftime("%d/%b/%Y:%H:%M:%S %z")
@@ -123,8 +139,17 @@ def refused():
     for number in (2**63, -(2**63) - 1, 2**64):
         for given in (number,), (0, number), (0, 0, number):
             expect(error_of(movaliren.rfc3339_at, *given)[0].partition(":")[0], "OverflowError")
+    expect(error_of(movaliren.rfc3339, "now"), ("TypeError: a moment is a datetime, and not of the type 'str'",))
+    expect(error_of(day.format_date, 1), ("TypeError: a date is of the type 'date', and not 'int'",))
+    expect(error_of(movaliren.read_rfc3339, b"now"), ("TypeError: a text is a str, and not of the type 'bytes'",))
+    expect(error_of(movaliren.rfc3339_at), ("TypeError: the argument 'seconds' is missing",))
+    expect(error_of(movaliren.rfc3339_at, 0, seconds=0), ("TypeError: the argument 'seconds' is given twice",))
+    expect(error_of(movaliren.rfc3339_at, 0, decimals=3), ("TypeError: there is no argument 'decimals'",))
+    expect(error_of(movaliren.rfc3339_at, 0, 0, 0, 3), ("TypeError: 4 arguments are given, and 3 are the most",))
     naive = "ValueError: a datetime without a time zone has no offset from UTC"
     expect(error_of(movaliren.rfc3339, datetime.datetime(2026, 1, 1)), (naive,))
+    for offset, error in (None, naive), (datetime.timedelta(days=-1), "ValueError: offset"), (1, "TypeError: tzinfo.utcoffset()"):
+        expect(error_of(movaliren.rfc3339, datetime.datetime(2026, 1, 1, tzinfo=Zone(offset)))[0][:len(error)], error)
     part = datetime.timezone(datetime.timedelta(microseconds=1))
     expect(error_of(movaliren.rfc3339, datetime.datetime(2026, 1, 1, tzinfo=part)),
            ("ValueError: the offset from UTC has a part of a second",))
@@ -191,10 +216,65 @@ def logged():
     expect(movaliren.Formatter("%(asctime)s", "%T %:z", zone=UTC).format(record), "00:39:57 +00:00")
     expect(error_of(movaliren.Formatter, "%(asctime)s", "%Q"), ("DescriptionError: unknown conversion `%Q` at byte 1", 1))
     expect(error_of(movaliren.Formatter, decimals=10), ("ValueError: decimals are 0 to 9",))
+    expect(error_of(movaliren.Formatter, "{asctime}", style="%")[0].partition(":")[0], "ValueError")
+    named = movaliren.Formatter("$asctime $program $message", style="$", defaults={"program": "server"}, zone=UTC)
+    expect(named.format(record), "1996-12-20T00:39:57.500Z server opened")
+
+
+def configured():
+    """Formatters of logging.config.dictConfig, by their class and by a call with a zone."""
+    by_class = {"class": "movaliren.Formatter", "format": "{message} {asctime}", "style": "{", "datefmt": "%Y", "validate": True}
+    by_call = {"()": "movaliren.Formatter", "fmt": "%(asctime)s %(message)s", "zone": UTC, "decimals": 0}
+    for formatter, wanted in (by_class, "opened 2026\n"), (by_call, "2026-11-22T15:55:06Z opened\n"):
+        output = io.StringIO()
+        handler = {"class": "logging.StreamHandler", "stream": output, "formatter": "line"}
+        logging.config.dictConfig({"version": 1, "formatters": {"line": formatter}, "handlers": {"all": handler},
+                                   "loggers": {"server": {"handlers": ["all"], "propagate": False}}})
+        made = {"name": "server", "levelno": logging.ERROR, "msg": "opened", "created": 1795362906.12, "msecs": 120.0}
+        logging.getLogger("server").handle(logging.makeLogRecord(made))
+        expect(output.getvalue(), wanted)
+
+
+def examples():
+    """The programs of the page, each without a line on the standard input."""
+    for path in sorted(pathlib.Path(__file__).parent.parent.glob("examples/*.py")):
+        subprocess.run([sys.executable, path], stdin=subprocess.DEVNULL, check=True)
+
+
+IN_ANOTHER = """
+import datetime, movaliren
+moment = movaliren.read_rfc3339("1985-04-12T23:20:50.52Z")
+assert movaliren.rfc3339(moment) == "1985-04-12T23:20:50.52Z"
+assert movaliren.Description.strftime("%d/%b/%Y").format(moment) == "12/Apr/1985"
+try:
+    movaliren.Description("[")
+    raise SystemExit("a description that is none")
+except movaliren.DescriptionError as error:
+    assert error.at == 0
+"""
+
+
+def interpreters():
+    """The package in other interpreters of this process, which end before this one."""
+    if sys.version_info < (3, 13):
+        import _xxsubinterpreters
+        others = [_xxsubinterpreters.create(isolated=False) for _ in range(3)]
+        ran = [_xxsubinterpreters.run_string(other, IN_ANOTHER) for other in others]
+        ended = _xxsubinterpreters.destroy
+    else:
+        import _interpreters
+        others = [_interpreters.create() for _ in range(3)]
+        ran = [_interpreters.run_string(other, IN_ANOTHER) for other in others]
+        ended = _interpreters.destroy
+    expect(ran, [None] * 3)
+    for other in others:
+        ended(other)
+    expect(movaliren.read_rfc3339("1985-04-12T23:20:50.52Z").tzinfo, UTC)
+    expect(number_of(movaliren.Description, "["), -24)
 
 
 def main():
-    for part in worked, descriptions, refused, columns, beside_datetime, logged:
+    for part in worked, descriptions, refused, columns, beside_datetime, logged, configured, examples, interpreters:
         part()
     failed = doctest.testmod(movaliren).failed
     expect(movaliren.library_version(), 100)

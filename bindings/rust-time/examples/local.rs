@@ -1,9 +1,9 @@
 //! Logs local time with milliseconds: the clock's, and that of each moment on the standard input, by its seconds since
 //! 1970 and its nanosecond.
 use chrono::{Local, Offset, TimeZone};
-use movaliren::{Iso8601By, TimePrecision, UtcMoment};
+use movaliren::{Iso8601, TimePrecision, UtcMoment};
 
-const LINE: Iso8601By = Iso8601By::new().time_precision(TimePrecision::Second, 3);
+const LINE: Iso8601 = Iso8601::new().time_precision(TimePrecision::Second, 3);
 
 fn log(moment: UtcMoment) {
     let local = Local.timestamp_opt(moment.seconds, 0).single();

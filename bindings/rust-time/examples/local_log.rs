@@ -1,9 +1,9 @@
 //! Logs the clock in local time with milliseconds by `tracing`.
 use chrono::{Local, Offset, TimeZone};
-use movaliren::{Iso8601By, TimePrecision, UtcMoment};
+use movaliren::{Iso8601, TimePrecision, UtcMoment};
 use movaliren_time::LocalTimer;
 
-const LINE: Iso8601By = Iso8601By::new().time_precision(TimePrecision::Second, 3);
+const LINE: Iso8601 = Iso8601::new().time_precision(TimePrecision::Second, 3);
 
 fn offset(moment: UtcMoment) -> i64 {
     let local = Local.timestamp_opt(moment.seconds, 0).single();

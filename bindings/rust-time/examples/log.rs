@@ -1,9 +1,9 @@
 //! Logs the clock with milliseconds, from eight threads.
-use movaliren::{Iso8601By, TimePrecision};
+use movaliren::{Iso8601, TimePrecision};
 use movaliren_time::Timer;
 use std::thread;
 
-const MILLISECONDS: Iso8601By = Iso8601By::new().time_precision(TimePrecision::Second, 3);
+const MILLISECONDS: Iso8601 = Iso8601::new().time_precision(TimePrecision::Second, 3);
 
 fn main() {
     tracing_subscriber::fmt()

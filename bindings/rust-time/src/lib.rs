@@ -1,7 +1,7 @@
-//! Values of the crates `time` and `chrono` as values of `movaliren`, timers for `tracing-subscriber`, lines
-//! for `log` and `env_logger`, and moments for `serde`.
+//! Values of the crates `time` and `chrono` as values of `movaliren`, timers for `tracing-subscriber`, and lines
+//! for `log` and `env_logger`.
 //!
-//! Each of the five is a feature (`time`, `chrono`, `tracing`, `log`, `serde`), and all are on by default. The
+//! Each of the four is a feature (`time`, `chrono`, `tracing`, `log`), and all are on by default. The
 //! conversions are traits, since neither side's types belong to this crate.
 //!
 //! ```
@@ -10,7 +10,7 @@
 //! use time::macros::datetime;
 //!
 //! let moment = datetime!(2026-11-22 09:55:06.12 -06:00).to_moment();
-//! assert_eq!(Rfc3339.text(&moment)?, "2026-11-22T09:55:06.12-06:00");
+//! assert_eq!(Rfc3339.format(&moment)?, "2026-11-22T09:55:06.12-06:00");
 //! # Ok::<(), movaliren::Error>(())
 //! ```
 #![forbid(unsafe_code)]
@@ -29,13 +29,11 @@ mod logger;
 mod of_chrono;
 #[cfg(feature = "time")]
 mod of_time;
-#[cfg(feature = "serde")]
-pub mod rfc3339;
 mod timer;
 
 #[cfg(feature = "log")]
-pub use logger::{log_line, Logger};
-pub use timer::{LocalTimer, LogTimer, Timer};
+pub use logger::log_line;
+pub use timer::{LocalTimer, Timer};
 
 /// A value with a local date, a local time and an offset from UTC.
 pub trait ToMoment {
@@ -55,12 +53,6 @@ pub trait ToDate {
     fn to_date(&self) -> Date;
 }
 
-#[cfg(all(
-    doctest,
-    feature = "time",
-    feature = "tracing",
-    feature = "log",
-    feature = "serde"
-))]
+#[cfg(all(doctest, feature = "time", feature = "tracing", feature = "log"))]
 #[doc = include_str!("../README.md")]
 struct Readme;

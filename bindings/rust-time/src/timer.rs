@@ -1,15 +1,11 @@
 //! The timers.
-use movaliren::{Format, LocalMoment, LogTime, UtcMoment};
+use movaliren::{Format, LocalMoment, UtcMoment};
 use std::fmt::{self, Display};
-use std::thread::LocalKey;
-
-#[cfg(feature = "tracing")]
-mod of_tracing;
 
 /// A timer that writes the system's clock in UTC by a format.
 ///
-/// `{}` shows the time of now, also of the other timers. A time that the format refuses is shown as the reason in
-/// angle brackets. `tracing-subscriber` writes `<unknown time>` in its place.
+/// `{}` shows the time of now, also of the other timer. A time that the format refuses is shown as the reason in
+/// angle brackets.
 ///
 /// ```
 /// use movaliren::Rfc3339;
@@ -42,10 +38,10 @@ impl<F: Format<UtcMoment>> Display for Timer<F> {
 /// A function gives the seconds by which the local time is ahead of UTC at a moment.
 ///
 /// ```
-/// use movaliren::{Iso8601By, TimePrecision};
+/// use movaliren::{Iso8601, TimePrecision};
 /// use movaliren_time::LocalTimer;
 ///
-/// const LINE: Iso8601By = Iso8601By::new().time_precision(TimePrecision::Second, 3);
+/// const LINE: Iso8601 = Iso8601::new().time_precision(TimePrecision::Second, 3);
 /// tracing_subscriber::fmt().with_timer(LocalTimer::new(LINE, |_| 3_600)).init();
 /// tracing::info!("opened");
 /// ```
@@ -64,69 +60,26 @@ impl<F: Format<LocalMoment>, O: Fn(UtcMoment) -> i64> LocalTimer<F, O> {
 
 impl<F: Format<LocalMoment>, O: Fn(UtcMoment) -> i64> Display for LocalTimer<F, O> {
     fn fmt(&self, f: &mut fmt::Formatter<'_>) -> fmt::Result {
-        local_now(&self.offset).display(&self.format).fmt(f)
+        let now = UtcMoment::now();
+        now.local((self.offset)(now)).display(&self.format).fmt(f)
     }
 }
 
-/// The system's clock in local time, by a function of the offset.
-fn local_now(offset: impl Fn(UtcMoment) -> i64) -> LocalMoment {
-    let now = UtcMoment::now();
-    now.local(offset(now))
-}
+#[cfg(feature = "tracing")]
+mod of_tracing {
+    use super::*;
+    use tracing_subscriber::fmt::format::Writer;
+    use tracing_subscriber::fmt::time::FormatTime;
 
-thread_local! {
-    static MILLISECONDS: LogTime = const { LogTime::milliseconds() };
-    static MICROSECONDS: LogTime = const { LogTime::microseconds() };
-    static NANOSECONDS: LogTime = const { LogTime::nanoseconds() };
-}
-
-/// A timer that writes the system's clock in local time with three, six or nine decimals, as
-/// `1997-11-12T16:55:06.120+01:00`.
-///
-/// Each thread keeps what the times of one second have in common, as [`LogTime`] does. A function gives the
-/// seconds by which the local time is ahead of UTC at a moment: 0 for UTC.
-///
-/// ```
-/// use movaliren_time::LogTimer;
-///
-/// tracing_subscriber::fmt().with_timer(LogTimer::milliseconds(|_| 0)).init();
-/// tracing::info!("opened");
-/// ```
-#[derive(Clone, Copy, Debug)]
-pub struct LogTimer<O> {
-    times: &'static LocalKey<LogTime>,
-    offset: O,
-}
-
-impl<O: Fn(UtcMoment) -> i64> LogTimer<O> {
-    /// Returns a timer with three decimals, by this function of the offset.
-    pub fn milliseconds(offset: O) -> Self {
-        LogTimer {
-            times: &MILLISECONDS,
-            offset,
+    impl<F: Format<UtcMoment>> FormatTime for Timer<F> {
+        fn format_time(&self, writer: &mut Writer<'_>) -> fmt::Result {
+            write!(writer, "{self}")
         }
     }
 
-    /// Returns a timer with six decimals, by this function of the offset.
-    pub fn microseconds(offset: O) -> Self {
-        LogTimer {
-            times: &MICROSECONDS,
-            offset,
+    impl<F: Format<LocalMoment>, O: Fn(UtcMoment) -> i64> FormatTime for LocalTimer<F, O> {
+        fn format_time(&self, writer: &mut Writer<'_>) -> fmt::Result {
+            write!(writer, "{self}")
         }
-    }
-
-    /// Returns a timer with nine decimals, by this function of the offset.
-    pub fn nanoseconds(offset: O) -> Self {
-        LogTimer {
-            times: &NANOSECONDS,
-            offset,
-        }
-    }
-}
-
-impl<O: Fn(UtcMoment) -> i64> Display for LogTimer<O> {
-    fn fmt(&self, f: &mut fmt::Formatter<'_>) -> fmt::Result {
-        let local = local_now(&self.offset);
-        self.times.with(|time| local.display(time).fmt(f))
     }
 }

@@ -1,12 +1,12 @@
-//! The lines of `log`, by our logger and by `env_logger`.
+//! The lines of `log`, by `env_logger`.
 #[allow(dead_code)]
 mod lines;
 
 use chrono::{DateTime, Duration, Utc};
 use lines::Lines;
 use log::{Level, LevelFilter, Log, Record};
-use movaliren::{Rfc3339, Rfc3339Local};
-use movaliren_time::{log_line, LocalTimer, LogTimer, Logger, Timer};
+use movaliren::{Error, Rfc3339};
+use movaliren_time::{log_line, LocalTimer, Timer};
 use std::fmt::Display;
 
 /// Gives the logger an entry of this level.
@@ -20,10 +20,15 @@ fn log_entry(logger: &impl Log, level: Level) {
     logger.log(&record);
 }
 
-/// The line of an entry, by our logger.
-fn logged_by(time: impl Display + Send + Sync, level: Level) -> String {
+/// The line of an entry.
+fn logged_by(time: impl Display + Send + Sync + 'static, level: Level) -> String {
     let lines = Lines::default();
-    log_entry(&Logger::new(time, lines.clone()), level);
+    let logger = env_logger::Builder::new()
+        .filter_level(LevelFilter::Info)
+        .format(log_line(time))
+        .target(env_logger::Target::Pipe(Box::new(lines.clone())))
+        .build();
+    log_entry(&logger, level);
     lines.text()
 }
 
@@ -40,20 +45,12 @@ fn an_entry_is_a_line_after_its_time() {
 }
 
 #[test]
-fn env_logger_writes_the_same_line_and_keeps_its_filter() {
-    let lines = Lines::default();
-    let logger = env_logger::Builder::new()
-        .filter_level(LevelFilter::Info)
-        .format(log_line("at noon"))
-        .target(env_logger::Target::Pipe(Box::new(lines.clone())))
-        .build();
-    log_entry(&logger, Level::Warn);
-    log_entry(&logger, Level::Debug);
-    assert_eq!(lines.text(), "[at noon WARN  server] opened 7\n");
+fn env_logger_keeps_its_filter() {
+    assert_eq!(logged_by("at noon", Level::Debug), "");
 }
 
 /// The time of the line is that of the clock of `chrono`, cut to its decimals.
-fn is_that_of_the_clock(time: impl Display + Send + Sync, decimals: u32) {
+fn is_that_of_the_clock(time: impl Display + Send + Sync + 'static, decimals: u32) {
     let unit = Duration::nanoseconds(10_i64.pow(9 - decimals));
     let before = Utc::now();
     let line = logged_by(time, Level::Info);
@@ -68,28 +65,13 @@ fn a_timer_is_a_time() {
     for _ in 0..100 {
         is_that_of_the_clock(Timer::new(Rfc3339), 9);
         is_that_of_the_clock(LocalTimer::new(Rfc3339, |_| -12_600), 9);
-        is_that_of_the_clock(LogTimer::milliseconds(|_| 3_600), 3);
     }
 }
 
 /// No text of RFC 3339 has an offset of a second.
 #[test]
 fn a_time_that_has_no_text_is_its_reason() {
-    let line = logged_by(Timer::new(Rfc3339Local(1)), Level::Info);
-    let reason = movaliren::Error::FormatOffsetSecond;
+    let line = logged_by(LocalTimer::new(Rfc3339, |_| 1), Level::Info);
+    let reason = Error::FormatOffsetSecond;
     assert_eq!(line, format!("[<{reason}> INFO  server] opened 7\n"));
-}
-
-#[test]
-fn a_logger_of_the_program_writes_the_entries_of_its_level() {
-    let lines = Lines::default();
-    Logger::new("at noon", lines.clone())
-        .init(LevelFilter::Info)
-        .unwrap();
-    log::info!("opened");
-    log::debug!("read");
-    assert_eq!(lines.text(), "[at noon INFO  logger] opened\n");
-    assert!(Logger::new("at noon", lines)
-        .init(LevelFilter::Info)
-        .is_err());
 }

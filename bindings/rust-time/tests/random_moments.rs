@@ -3,13 +3,13 @@
 mod lines;
 
 use chrono::{Local, Offset, TimeZone};
-use movaliren::{Iso8601By, TimePrecision, UtcMoment};
-use movaliren_time::{LocalTimer, LogTimer};
+use movaliren::{Iso8601, TimePrecision, UtcMoment};
+use movaliren_time::LocalTimer;
 use std::sync::atomic::{AtomicI64, Ordering};
 use std::sync::Mutex;
 use tracing_subscriber::fmt::time::FormatTime;
 
-const LINE: Iso8601By = Iso8601By::new().time_precision(TimePrecision::Second, 3);
+const LINE: Iso8601 = Iso8601::new().time_precision(TimePrecision::Second, 3);
 
 static SECONDS: AtomicI64 = AtomicI64::new(0);
 static NANOSECONDS: AtomicI64 = AtomicI64::new(0);
@@ -81,8 +81,6 @@ fn a_timer_asks_for_the_offset_of_each_moment() {
         (1_700_000_001, "2023-11-14T22:34:21.000+00:21"),
     ] {
         let line = format!("{wanted}  INFO random_moments: opened\n");
-        let logged = logged_at(second, LogTimer::milliseconds(second_as_minutes));
-        assert_eq!(logged, line);
         let logged = logged_at(second, LocalTimer::new(LINE, second_as_minutes));
         assert_eq!(logged, line);
     }
@@ -92,7 +90,5 @@ fn a_timer_asks_for_the_offset_of_each_moment() {
 fn a_timer_logs_what_chrono_writes() {
     let _setter = SETTER.lock();
     let (logged, wanted) = logged_and_wanted(LocalTimer::new(LINE, offset));
-    assert_eq!(logged, wanted);
-    let (logged, wanted) = logged_and_wanted(LogTimer::milliseconds(offset));
     assert_eq!(logged, wanted);
 }

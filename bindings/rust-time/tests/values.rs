@@ -1,8 +1,8 @@
 //! Texts and parts of 200,000 random values beside those of `time` and of `chrono`.
 use chrono::{DateTime, FixedOffset, NaiveDate, NaiveDateTime, SecondsFormat, Utc};
 use movaliren::{
-    Date, Description, Error, Format, Iso8601By, Kind, Moment, Rfc2822, Rfc2822Local, Rfc3339,
-    Rfc3339Local, Sign, Stamp, SubsecondDigits, TimePrecision, UtcMoment,
+    Date, Description, Error, Format, Iso8601, Moment, Rfc2822, Rfc3339, Stamp, TimePrecision,
+    UtcMoment,
 };
 use movaliren_time::{ToDate, ToMoment, ToUtcMoment};
 use std::fmt::Debug;
@@ -10,7 +10,7 @@ use time::format_description::well_known;
 use time::OffsetDateTime;
 
 const VALUES: usize = 200_000;
-const MILLISECONDS: Iso8601By = Iso8601By::new().time_precision(TimePrecision::Second, 3);
+const MILLISECONDS: Iso8601 = Iso8601::new().time_precision(TimePrecision::Second, 3);
 
 /// Random numbers, by xorshift.
 struct Numbers(u64);
@@ -80,22 +80,9 @@ fn descriptions_are_those_of_time() {
     let theirs = time::macros::format_description!(
         "[weekday], [day] [month repr:long], [hour]:[minute]:[second]"
     );
-    let ours = Description::new()
-        .component(Kind::WeekdayLong)
-        .literal(", ")
-        .component(Kind::Day)
-        .literal(" ")
-        .component(Kind::MonthLong)
-        .literal(", ")
-        .component(Kind::Hour)
-        .literal(":")
-        .component(Kind::Minute)
-        .literal(":")
-        .component(Kind::Second);
-    let date = Description::new()
-        .component(Kind::Year)
-        .literal("-")
-        .component(Kind::Ordinal);
+    let ours = "[weekday], [day] [month repr:long], [hour]:[minute]:[second]";
+    let ours = Description::parse(ours).unwrap();
+    let date = Description::parse("[year]-[ordinal]").unwrap();
     let date_theirs = time::macros::format_description!("[year]-[ordinal]");
     for time in values().filter_map(time_of) {
         assert_same(ours.format(&time.to_moment()), time.format(theirs));
@@ -150,9 +137,9 @@ fn texts_of_seconds_are_those_of_chrono() {
         let chrono = chrono_of(value);
         let (utc, moment) = (chrono.with_timezone(&Utc), chrono.to_utc_moment());
         let theirs = utc.to_rfc3339_opts(SecondsFormat::Nanos, true);
-        assert_eq!(Stamp.text(&moment).unwrap(), &*theirs);
+        assert_eq!(Stamp.format(&moment).unwrap(), theirs);
         let theirs = utc.to_rfc3339_opts(SecondsFormat::Millis, true);
-        assert_eq!(MILLISECONDS.text(&moment).unwrap(), &*theirs);
+        assert_eq!(MILLISECONDS.format(&moment).unwrap(), theirs);
     }
 }
 
@@ -160,11 +147,9 @@ fn texts_of_seconds_are_those_of_chrono() {
 fn texts_with_an_offset_are_those_of_time() {
     for value in values() {
         if let Some(time) = time_of(value) {
-            let (moment, offset) = (time.to_utc_moment(), value.2.into());
-            let local = Rfc3339Local(offset);
-            assert_same(local.format(&moment), time.format(&well_known::Rfc3339));
-            let local = Rfc2822Local(offset);
-            assert_same(local.format(&moment), time.format(&well_known::Rfc2822));
+            let local = time.to_utc_moment().local(value.2.into());
+            assert_same(Rfc3339.format(&local), time.format(&well_known::Rfc3339));
+            assert_same(Rfc2822.format(&local), time.format(&well_known::Rfc2822));
         }
     }
 }
@@ -176,22 +161,17 @@ fn local_texts_are_those_of_chrono() {
             continue;
         }
         let theirs = chrono.to_rfc3339_opts(SecondsFormat::Millis, true);
-        assert_eq!(MILLISECONDS.text(&chrono.to_moment()).unwrap(), &*theirs);
+        assert_eq!(MILLISECONDS.format(&chrono.to_moment()).unwrap(), theirs);
     }
 }
 
 #[test]
 fn dates_are_those_of_chrono() {
-    let description = Description::new()
-        .component(Kind::IsoYear)
-        .literal("-W")
-        .component(Kind::WeekIso)
-        .literal("-")
-        .component(Kind::WeekdayFromMonday);
+    let description = Description::parse_strftime("%G-W%V-%u").unwrap();
     for chrono in values().map(chrono_of) {
         let date = chrono.naive_utc().date();
         let theirs = date.format("%G-W%V-%u").to_string();
-        assert_eq!(description.text(&date.to_date()).unwrap(), &*theirs);
+        assert_eq!(description.format(&date.to_date()).unwrap(), theirs);
     }
 }
 
@@ -199,8 +179,8 @@ fn dates_are_those_of_chrono() {
 fn refuses_a_leap_second_of_chrono() {
     let utc = NaiveDateTime::from_timestamp_opt(1_483_228_799, 1_500_000_000).unwrap();
     let leap: DateTime<Utc> = DateTime::from_utc(utc, Utc);
-    assert_eq!(Rfc3339.text(&leap.to_moment()), Err(Error::Nanosecond));
-    assert_eq!(Stamp.text(&leap.to_utc_moment()), Err(Error::Nanosecond));
+    assert_eq!(Rfc3339.format(&leap.to_moment()), Err(Error::Nanosecond));
+    assert_eq!(Stamp.format(&leap.to_utc_moment()), Err(Error::Nanosecond));
 }
 
 #[test]
@@ -208,12 +188,8 @@ fn parts_before_1970_and_offsets_with_seconds_are_those_of_time() {
     let theirs = time::macros::format_description!(
         "[offset_hour sign:mandatory]:[offset_minute]:[offset_second]"
     );
-    let ours = Description::new()
-        .component(Kind::OffsetHour.sign(Sign::Mandatory))
-        .literal(":")
-        .component(Kind::OffsetMinute)
-        .literal(":")
-        .component(Kind::OffsetSecond);
+    let ours = "[offset_hour sign:mandatory]:[offset_minute]:[offset_second]";
+    let ours = Description::parse(ours).unwrap();
     for time in values_of_all_years().filter_map(time_of) {
         let moment = time.to_moment();
         let parts = (moment.year(), moment.month(), moment.day());
@@ -229,29 +205,13 @@ fn parts_before_1970_and_offsets_with_seconds_are_those_of_time() {
 
 #[test]
 fn parts_before_1970_and_offsets_with_seconds_are_those_of_chrono() {
-    let ours = Description::new()
-        .component(Kind::YearExtended)
-        .literal("-")
-        .component(Kind::Month)
-        .literal("-")
-        .component(Kind::Day)
-        .literal(" ")
-        .component(Kind::Hour)
-        .literal(":")
-        .component(Kind::Minute)
-        .literal(":")
-        .component(Kind::Second)
-        .literal(".")
-        .subsecond(SubsecondDigits::Nine)
-        .component(Kind::OffsetHour.sign(Sign::Mandatory))
-        .literal(":")
-        .component(Kind::OffsetMinute)
-        .literal(":")
-        .component(Kind::OffsetSecond);
+    let ours = "[year]-[month]-[day] [hour]:[minute]:[second].[subsecond digits:9]\
+        [offset_hour sign:mandatory]:[offset_minute]:[offset_second]";
+    let ours = Description::parse(ours).unwrap();
     for value in values_of_all_years() {
         let chrono = chrono_of(value);
         let theirs = chrono.format("%Y-%m-%d %H:%M:%S%.9f%::z").to_string();
-        assert_eq!(ours.text(&chrono.to_moment()).unwrap(), &*theirs);
+        assert_eq!(ours.format(&chrono.to_moment()).unwrap(), theirs);
         assert_eq!(chrono.to_utc_moment(), UtcMoment::new(value.0, value.1));
     }
 }
@@ -306,9 +266,9 @@ fn an_offset_of_less_than_an_hour_keeps_its_sign() {
 fn refuses_a_second_of_the_offset_by_rfc_3339() {
     let moment = chrono_of((-1, 0, -1)).to_moment();
     let error = Err(Error::FormatOffsetSecond);
-    assert_eq!(Rfc3339.text(&moment), error);
+    assert_eq!(Rfc3339.format(&moment), error);
     assert_eq!(
-        Rfc3339.text(&time_of((-1, 0, -1)).unwrap().to_moment()),
+        Rfc3339.format(&time_of((-1, 0, -1)).unwrap().to_moment()),
         error
     );
 }

@@ -4,22 +4,24 @@
 //! ```
 //! use movaliren::{Format, Moment, Rfc3339, UtcMoment};
 //!
-//! println!("{} opened", Rfc3339.text(&UtcMoment::now())?);
+//! println!("{} opened", UtcMoment::now().display(Rfc3339));
 //!
 //! let moment = Moment::new(1997, 11, 12).at(9, 55, 6, 120_000_000).offset(-6, 0, 0);
-//! println!("{} opened", Rfc3339.text(&moment)?);
+//! assert_eq!(Rfc3339.format(&moment)?, "1997-11-12T09:55:06.12-06:00");
 //!
-//! let mut line = b"log ".to_vec();
-//! assert_eq!(Rfc3339.format_into(&mut line, &moment), Ok(28));
-//! assert_eq!(line, b"log 1997-11-12T09:55:06.12-06:00");
-//! # Ok::<(), movaliren::Error>(())
+//! let mut buffer = [0; 35];
+//! assert_eq!(Rfc3339.format_into(&mut buffer, &moment)?, "1997-11-12T09:55:06.12-06:00");
+//!
+//! let read: Moment = Rfc3339.read("1997-11-12T09:55:06.12-06:00")?;
+//! assert_eq!(read, moment);
+//! # Ok::<(), Box<dyn std::error::Error>>(())
 //! ```
 //!
 //! The library behind this crate is proved: each text is the one of its definition, and each error is
 //! the definition's. This crate passes it slices and names its errors, and is tested.
 //!
-//! The crate has no dependencies. `unsafe` is in two modules, the calls and the text in place. The
-//! library is built for Linux on `x86-64-v2`.
+//! The crate has no dependencies. `unsafe` is in the module that calls the library, which is built for Linux
+//! on `x86-64-v2`.
 #![no_std]
 #![deny(
     unsafe_code,
@@ -37,68 +39,26 @@ extern crate alloc;
 #[cfg(feature = "std")]
 extern crate std;
 
-mod batch;
-mod component;
-mod config;
+#[allow(unsafe_code)]
+mod call;
 mod description;
 mod error;
 mod format;
-mod formatted;
-mod known;
-#[rustfmt::skip]
-mod library;
-#[doc(hidden)]
-pub mod list;
-mod log;
+mod formats;
+mod iso8601;
 mod moment;
-mod parse;
-mod pointers;
-#[allow(unsafe_code)]
-mod raw;
 mod read;
-#[allow(unsafe_code)]
-mod text;
+#[rustfmt::skip]
+mod sys;
 
-pub use batch::{Batch, Progress};
-pub use component::{Component, CountFrom, Item, LetterCase, Sign};
-pub use config::{DateKind, DecimalSign, Iso8601By, OffsetPrecision, Parts, TimePrecision};
-pub use description::{Date, Description, Kind, Padding, SubsecondDigits};
-pub use error::{Error, RowError};
-pub use format::Format;
-pub use formatted::Formatted;
-pub use known::*;
-pub use log::LogTime;
+pub use call::{library_version, Read};
+pub use description::{Date, Description, InvalidDescription};
+pub use format::{Format, Formatted};
+pub use formats::{ImfFixdate, Rfc2822, Rfc3339, Stamp};
+pub use iso8601::{DateKind, DecimalSign, Iso8601, OffsetPrecision, Parts, TimePrecision};
 pub use moment::{LocalMoment, Moment, UtcMoment};
-pub use parse::{FaultReason, InvalidDescription};
-pub use raw::Read;
-pub use read::{Expected, NotRead, Unread};
-pub use text::Text;
-
-/// Returns the version of the library that the program runs with: 10,000 for its first part, 100 for the second,
-/// and the third.
-///
-/// ```
-/// assert_eq!(movaliren::library_version(), 100);
-/// ```
-#[must_use]
-pub fn library_version() -> u32 {
-    raw::version()
-}
-
-/// The traits of the formats.
-///
-/// ```
-/// use movaliren::prelude::*;
-/// use movaliren::{Rfc3339, UtcMoment};
-///
-/// let mut lines = Vec::new();
-/// Rfc3339.batch_into(&mut lines, &[UtcMoment::new(0, 0)], b'\n').whole()?;
-/// assert_eq!(lines, b"1970-01-01T00:00:00Z\n");
-/// # Ok::<(), movaliren::RowError>(())
-/// ```
-pub mod prelude {
-    pub use crate::{Batch, Format, Read};
-}
+pub use read::{NotRead, Unread};
+pub use sys::Error;
 
 #[cfg(doctest)]
 #[doc = include_str!("../README.md")]

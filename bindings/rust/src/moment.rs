@@ -1,5 +1,5 @@
 //! The values that are formatted.
-use crate::{stamp, Error};
+use crate::{Error, Format, Stamp};
 use core::cmp::Ordering;
 
 /// A local date and time, and its offset from UTC.
@@ -190,11 +190,11 @@ impl UtcMoment {
 /// [`Error::FormatYear`].
 ///
 /// ```
-/// use movaliren::{Format, Iso8601By, TimePrecision, UtcMoment};
+/// use movaliren::{Format, Iso8601, TimePrecision, UtcMoment};
 ///
-/// const LINE: Iso8601By = Iso8601By::new().time_precision(TimePrecision::Second, 3);
+/// const LINE: Iso8601 = Iso8601::new().time_precision(TimePrecision::Second, 3);
 /// let moment = UtcMoment::new(879_350_106, 120_000_000).local(3_600);
-/// assert_eq!(LINE.text(&moment)?, "1997-11-12T16:55:06.120+01:00");
+/// assert_eq!(LINE.format(&moment)?, "1997-11-12T16:55:06.120+01:00");
 /// # Ok::<(), movaliren::Error>(())
 /// ```
 #[derive(Clone, Copy, Debug, Default, PartialEq, Eq, PartialOrd, Ord, Hash)]
@@ -210,7 +210,7 @@ pub struct LocalMoment {
 
 /// The date and time in UTC, of a moment of the years 0 to 9999.
 ///
-/// They are read from the moment's [`stamp`], so no other code knows the calendar. Another year is
+/// They are read from the moment's [`Stamp`], so no other code knows the calendar. Another year is
 /// [`Error::FormatYear`], or outside of -999,999 to 999,999 [`Error::MomentSeconds`].
 ///
 /// ```
@@ -224,7 +224,8 @@ impl TryFrom<UtcMoment> for Moment {
     type Error = Error;
 
     fn try_from(moment: UtcMoment) -> Result<Self, Error> {
-        let text = stamp(&moment)?;
+        let mut buffer = [0; 30];
+        let text = Stamp.format_into(&mut buffer, &moment)?.as_bytes();
         let digit = |place: usize| text[place] - b'0';
         let two = |place: usize| digit(place) * 10 + digit(place + 1);
         let year = i32::from(two(0)) * 100 + i32::from(two(2));
@@ -241,10 +242,9 @@ mod clock {
         /// Returns the moment of the system's clock.
         ///
         /// ```
-        /// use movaliren::{Format, Rfc3339, UtcMoment};
+        /// use movaliren::{Rfc3339, UtcMoment};
         ///
-        /// println!("{} opened", Rfc3339.text(&UtcMoment::now())?);
-        /// # Ok::<(), movaliren::Error>(())
+        /// println!("{} opened", UtcMoment::now().display(Rfc3339));
         /// ```
         pub fn now() -> Self {
             SystemTime::now().into()

@@ -46,7 +46,7 @@ fn no_moment_of_another_year_has_parts() {
         (UtcMoment::new(0, 1_000_000_000), Error::Nanosecond),
     ] {
         assert_eq!(Moment::try_from(moment), Err(error));
-        assert_eq!(stamp(&moment), Err(error));
+        assert_eq!(Stamp.format(&moment), Err(error));
     }
 }
 
@@ -110,13 +110,9 @@ fn the_defaults_are_the_start_of_1970() {
 
 #[test]
 fn stamps_sort() {
-    use std::time::{Duration, UNIX_EPOCH};
-    let epoch = UtcMoment::from(UNIX_EPOCH);
-    let before = UtcMoment::from(UNIX_EPOCH - Duration::from_nanos(1));
-    let whole = UtcMoment::from(UNIX_EPOCH - Duration::from_secs(2));
-    assert!(stamp(&whole).unwrap() < stamp(&before).unwrap());
-    assert!(stamp(&before).unwrap() < stamp(&epoch).unwrap());
-    assert!(stamp(&epoch).unwrap() < stamp(&UtcMoment::now()).unwrap());
+    let stamps = [i64::from(i32::MIN), -2, -1, 0, 1, 253_402_300_799]
+        .map(|seconds| Stamp.format(&UtcMoment::new(seconds, 0)).unwrap());
+    assert!(stamps.windows(2).all(|pair| pair[0] < pair[1]));
 }
 
 #[test]
@@ -139,31 +135,5 @@ fn each_time_of_the_system_is_a_moment_and_back() {
     for nanosecond in [1_000_000_000, u32::MAX] {
         let error = SystemTime::try_from(UtcMoment::new(0, nanosecond));
         assert_eq!(error, Err(Error::Nanosecond));
-    }
-}
-
-#[test]
-fn a_log_time_has_the_text_of_its_configuration() {
-    let times = [
-        (LogTime::milliseconds(), 3),
-        (LogTime::microseconds(), 6),
-        (LogTime::nanoseconds(), 9),
-    ];
-    for (time, decimals) in times {
-        let format = Iso8601By::new().time_precision(TimePrecision::Second, decimals);
-        for seconds in [0, 0, -1, 253_402_300_799, 253_402_300_800, 0] {
-            for nanosecond in [0, 999_999_999, 1_000_000_000, 1_999] {
-                for offset in [0, 3_600, 1, 93_540, 93_600] {
-                    let moment = UtcMoment::new(seconds, nanosecond).local(offset);
-                    assert_eq!(time.text(&moment), format.text(&moment));
-                    let mut short = [0; 28];
-                    let count = time.write(&mut short, &moment);
-                    assert_eq!(count, format.write(&mut [0; 28], &moment));
-                }
-            }
-        }
-        let moment = UtcMoment::new(1, 2);
-        assert_eq!(time.format(&moment), format.format(&moment));
-        assert!(time.format(&moment.local(60)).unwrap().len() == Format::<UtcMoment>::width(&time));
     }
 }

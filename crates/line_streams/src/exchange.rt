@@ -28,7 +28,7 @@ impl FilterError {
     ghost use Rattle.std.specs.declared.io.ErrorKind.TheVariants.{BrokenPipe};
     ghost use Rattle.line_streams.specs.declared.exchange.FilterError.TheVariants.{Closed, Write};
 
-    /// Why a run ends whose write failed so.
+    /// Returns why a run ends whose write failed so.
     pub fn of_write(error: &io::Error) -> FilterError
         ensures closed { (result ≡ Closed) ↔ (error_kind error.now ≡ BrokenPipe) }
         ensures others { error_kind error.now ≢ BrokenPipe → result ≡ Write }

@@ -3,11 +3,6 @@ ghost use Rattle.std.specs.Prelude.{◌≡◌, ◌↔◌, IsTrue};
 
 use crate::exchange::FilterError;
 
-/// A clone of an error is the same.
-pub fn clones_of_errors(error: FilterError, copy: FilterError)
-    ensures { ⟦<FilterError as Clone>⟧.is_clone error copy → copy ≡ error }
-{}
-
 /// Two errors are equal exactly if they are the same.
 pub fn error_equality(a: FilterError, b: FilterError)
     ensures { IsTrue (⟦<FilterError as PartialEq>⟧.eq a b) ↔ (a ≡ b) }

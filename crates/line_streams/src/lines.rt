@@ -30,7 +30,7 @@ pub trait LineJob {
             (Adds (becomes self.old line.now) output.old.items output.new.items) };
 }
 
-/// The first position of a line feed, by a search that looks at many bytes at a time.
+/// Returns the first position of a line feed, by a search that looks at many bytes at a time.
 pub fn place_of_end(bytes: &[u8]) -> Option<usize>
     ensures { result ≡ position (λ b. b == 10) bytes.now }
 {
@@ -38,8 +38,7 @@ pub fn place_of_end(bytes: &[u8]) -> Option<usize>
 }
 
 /// Appends what a first line becomes, and what each line of the text that has its line feed
-/// becomes. Returns how many bytes of the text these lines have. The job is called at one place
-/// alone, so that the compiler makes it part of the loop.
+/// becomes. Returns how many bytes of the text these lines have.
 pub(crate) fn append_lines<J: LineJob>(
     job: &mut J,
     output: &mut Vec<u8>,

@@ -10,7 +10,6 @@ use Rattle.log.specs.Kv.{Pair}
 use Rattle.log.specs.Line.{pair_text, pairs_text, scope_text}
 use Rattle.log.specs.Span.{Scope}
 use Rattle.log_time.specs.declared.line.Pairs.{Pairs}
-use Rattle.log_time.specs.declared.line.TimePlace.{TimePlace}
 use Rattle.log_time.specs.TimedLine.{WritesPair, timed_header, timed_text}
 
 module _ {W : Type 0} (took : W → List ℕ → W → Type 0) where
@@ -52,18 +51,18 @@ module _ {W : Type 0} (took : W → List ℕ → W → Type 0) where
       has_written_to_eq took _ _ _ _ (e (sym (same_formatter p ps q h))) (written_pairs p ps q h plain)
 
   -- the four parts of a line, written in a row
-  pub written_line : (f0 f1 f2 f3 f4 : Formatter W) (place : TimePlace) (time : List ℕ) (level : Level) (target : List ℕ)
+  pub written_line : (f0 f1 f2 f3 f4 : Formatter W) (time : List ℕ) (level : Level) (target : List ℕ)
       (scopes : Option (List Scope)) (message : Option (List ℕ)) (pairs : Option (List Pair))
-      → (IsPlainFormatter f0 → true ≡ true → HasWritten took f0 (timed_header place time level target) f1)
+      → (IsPlainFormatter f0 → true ≡ true → HasWritten took f0 (timed_header time level target) f1)
       → IfSome scopes (λ xs. FoldsTo (λ a x b. IsPlainFormatter a → HasWritten took a (scope_text x) b) f1 xs f2)
       → IfSome message (λ bs. IsPlainFormatter f2 → true ≡ true → HasWritten took f2 bs f3)
       → IfSome pairs (λ ps. true ≡ true → IsPlainFormatter f3 → HasWritten took f3 (pairs_text ps) f4)
-      → IfSome (timed_text place time level target scopes message pairs)
+      → IfSome (timed_text time level target scopes message pairs)
       (λ bs. IsPlainFormatter f0 → true ≡ true → HasWritten took f0 bs f4)
-  written_line f0 f1 f2 f3 f4 place time level target None message pairs a b c d = tt
-  written_line f0 f1 f2 f3 f4 place time level target (Some xs) None pairs a b c d = tt
-  written_line f0 f1 f2 f3 f4 place time level target (Some xs) (Some bs) None a b c d = tt
-  written_line f0 f1 f2 f3 f4 place time level target (Some xs) (Some bs) (Some ps) a b c d = λ plain ok.
+  written_line f0 f1 f2 f3 f4 time level target None message pairs a b c d = tt
+  written_line f0 f1 f2 f3 f4 time level target (Some xs) None pairs a b c d = tt
+  written_line f0 f1 f2 f3 f4 time level target (Some xs) (Some bs) None a b c d = tt
+  written_line f0 f1 f2 f3 f4 time level target (Some xs) (Some bs) (Some ps) a b c d = λ plain ok.
       let header = a plain ok in
       let spans = written_each scope_text f1 xs f2 b header.plain in
       let message = c spans.plain ok in

@@ -1,4 +1,4 @@
+pub mod LogText
 pub mod Timed
 pub mod TimedLine
 pub mod Times
-pub mod ZoneTimes

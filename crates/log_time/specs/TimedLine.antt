@@ -5,12 +5,10 @@ use Rattle.std.specs.Fmt.{◌++?◌, HasWritten, IsPlainFormatter}
 use Rattle.log.specs.declared.level.Level.{Level}
 use Rattle.log.specs.declared.record.Record.{Record}
 use Rattle.log.specs.Kv.{Pair}
-use Rattle.log.specs.Line.{header_text, padded_level, pair_text, pairs_text, scope_text}
+use Rattle.log.specs.Line.{padded_level, pair_text, pairs_text, scope_text}
 use Rattle.log.specs.Record.{metadata_level, metadata_target, record_args, record_key_values, record_metadata, record_spans}
 use Rattle.log.specs.Span.{Scope}
 use Rattle.log_time.specs.declared.line.Pairs.{Pairs}
-use Rattle.log_time.specs.declared.line.TimePlace.{TimePlace}
-use Rattle.log_time.specs.declared.line.TimePlace.TheVariants.{Before, Inside}
 use Rattle.log_time.specs.declared.line.TimedLine.{TimedLine}
 
 -- the time, or `-` where there is none: the NILVALUE of RFC 5424, section 6.2.3
@@ -19,35 +17,27 @@ time_or_dash None = codes "-"
 time_or_dash (Some time) = time.now
 
 -- `[time INFO  target] `, or `[time INFO ] ` where the target is empty
-abbrev pub bracketed : List ℕ → Level → List ℕ → List ℕ
-bracketed time level [] = codes "[" ++ time ++ codes " " ++ padded_level level ++ codes "] "
-bracketed time level target =
+abbrev pub timed_header : List ℕ → Level → List ℕ → List ℕ
+timed_header time level [] = codes "[" ++ time ++ codes " " ++ padded_level level ++ codes "] "
+timed_header time level target =
     codes "[" ++ time ++ codes " " ++ padded_level level ++ codes " " ++ target ++ codes "] "
 
--- what stands before the spans: the time in the brackets, or before those of `log`
-abbrev pub timed_header : TimePlace → List ℕ → Level → List ℕ → List ℕ
-timed_header Inside time level target = bracketed time level target
-timed_header Before time level target = time ++ codes " " ++ header_text level target
-
 -- the header, and then what `log` writes: the spans from the outermost in, the message and the pairs
-abbrev pub timed_text : TimePlace → List ℕ → Level → List ℕ
+abbrev pub timed_text : List ℕ → Level → List ℕ
     → Option (List Scope) → Option (List ℕ) → Option (List Pair) → Option (List ℕ)
-timed_text place time level target scopes message pairs =
-    Some (timed_header place time level target)
+timed_text time level target scopes message pairs =
+    Some (timed_header time level target)
     ++? option_map (flat_map scope_text) scopes ++? message ++? option_map pairs_text pairs
 
 module _ {D K S : Type 0} where
   -- the line of a record with this time, where the first three arguments are the members of `D`, `K` and `S`
   abbrev pub timed_line : (D → Option (List ℕ)) → (K → Option (List Pair)) → (S → Option (List Scope))
-      → TimePlace → List ℕ → Record D K S → Option (List ℕ)
-  timed_line output pairs scopes place time r =
-      timed_text place time (metadata_level (record_metadata r)) (metadata_target (record_metadata r))
+      → List ℕ → Record D K S → Option (List ℕ)
+  timed_line output pairs scopes time r =
+      timed_text time (metadata_level (record_metadata r)) (metadata_target (record_metadata r))
       (scopes (record_spans r)) (output (record_args r)) (pairs (record_key_values r))
 
-  -- what a `TimedLine` shows: where the time stands, the time, and the record
-  abbrev pub line_place : TimedLine D K S → TimePlace
-  line_place line = line.place
-
+  -- what a `TimedLine` shows: the time and the record
   abbrev pub line_time : TimedLine D K S → List ℕ
   line_time line = line.time.now
 

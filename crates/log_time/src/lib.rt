@@ -1,15 +1,14 @@
 //! A sink for `log` whose lines begin with their time.
 #![tactic(auto)]
 
-pub mod laws;
 mod line;
-mod out;
+mod log_time;
 mod sink;
 mod times;
 mod zone;
 
-pub use line::{TimePlace, TimedLine};
+pub use line::TimedLine;
+pub use log_time::{Decimals, LogTime};
 pub use sink::Timed;
-pub use time_log::{Decimals, LogTime};
 pub use times::Times;
 pub use zone::ZoneTimes;

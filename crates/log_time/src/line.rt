@@ -9,36 +9,19 @@ use log::span::Spans;
 use log::{Level, Record};
 use std::fmt::{self, Display, Formatter};
 
-/// Where the time of a line stands.
-#[derive(Debug, Clone, Copy, PartialEq, Eq)]
-pub enum TimePlace {
-    /// First within the brackets, as `env_logger` writes it:
-    /// `[2026-11-22T09:55:06.120Z INFO  app] started`.
-    Inside,
-    /// Before the line of `log`: `2026-11-22T09:55:06.120Z [INFO  app] started`.
-    Before,
-}
-
-/// Shows a record as `[time INFO  target] span{key=value}: message key=value` or as
-/// `time [INFO  target] span{key=value}: message key=value`, with no line break.
+/// Shows a record as `[time INFO  target] span{key=value}: message key=value`, with no line break.
 #[derive_where(Clone, Copy)]
 pub struct TimedLine<'a, 'r, D, K, S> {
-    place: TimePlace,
     time: &'a str,
     record: &'a Record<'r, D, K, S>,
 }
 
 impl<'a, 'r, D, K, S> TimedLine<'a, 'r, D, K, S> {
-    ghost use Rattle.log_time.specs.TimedLine.{line_place, line_record, line_time, time_or_dash};
+    ghost use Rattle.log_time.specs.TimedLine.{line_record, line_time, time_or_dash};
 
-    /// The line of a record with this time, or with `-` where there is none, as in RFC 5424,
-    /// section 6.2.3.
-    pub fn new(
-        place: TimePlace,
-        time: Option<&'a str>,
-        record: &'a Record<'r, D, K, S>,
-    ) -> TimedLine<'a, 'r, D, K, S>
-        ensures place { line_place result ≡ place }
+    /// Returns the line of a record with this time, or with `-` where there is none, as in RFC
+    /// 5424, section 6.2.3.
+    pub fn new(time: Option<&'a str>, record: &'a Record<'r, D, K, S>) -> TimedLine<'a, 'r, D, K, S>
         ensures time { line_time result ≡ time_or_dash time.entry }
         ensures record { line_record result ≡ «record».now }
     {
@@ -46,23 +29,19 @@ impl<'a, 'r, D, K, S> TimedLine<'a, 'r, D, K, S> {
             Some(time) => time,
             None => "-",
         };
-        TimedLine {
-            place,
-            time,
-            record,
-        }
+        TimedLine { time, record }
     }
 }
 
 impl<'a, 'r, D: Display, K: Source, S: Spans> Display for TimedLine<'a, 'r, D, K, S> {
-    ghost use Rattle.log_time.specs.TimedLine.{line_place, line_record, line_time};
+    ghost use Rattle.log_time.specs.TimedLine.{line_record, line_time};
 
     ghost output = { λ line. timed_line D.output K.pairs S.scopes
-        (line_place line) (line_time line) (line_record line) };
+        (line_time line) (line_record line) };
 
     fn fmt<W: fmt::Write>(&self, f: &mut Formatter<W>) -> fmt::Result {
         let record = self.record;
-        write_header(f, self.place, self.time, record.level(), record.target())?;
+        write_header(f, self.time, record.level(), record.target())?;
         record.spans().visit(f)?;
         f.write(record.args())?;
         write_pairs(f, record.key_values())?;
@@ -73,20 +52,18 @@ impl<'a, 'r, D: Display, K: Source, S: Spans> Display for TimedLine<'a, 'r, D, K
 /// Writes what stands before the spans.
 fn write_header<W: fmt::Write>(
     f: &mut Formatter<W>,
-    place: TimePlace,
     time: &str,
     level: Level,
     target: &str,
 ) -> fmt::Result
     ensures { WritesOnOk W.write_str_gives f.old result
-        (timed_header place time.now level target.now) f.new }
+        (timed_header time.now level target.now) f.new }
 {
     let level = padded(level);
-    match (place, target.is_empty()) {
-        (TimePlace::Inside, true) => write!(f, "[{time} {level}] "),
-        (TimePlace::Inside, false) => write!(f, "[{time} {level} {target}] "),
-        (TimePlace::Before, true) => write!(f, "{time} [{level}] "),
-        (TimePlace::Before, false) => write!(f, "{time} [{level} {target}] "),
+    if target.is_empty() {
+        write!(f, "[{time} {level}] ")
+    } else {
+        write!(f, "[{time} {level} {target}] ")
     }
 }
 

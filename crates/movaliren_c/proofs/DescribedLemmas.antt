@@ -22,10 +22,10 @@ use Rattle.time_below.specs.Width.{component_width, is_guaranteed_text, tree_wid
 use Rattle.time_below.specs.declared.format_description.component.Component.{Component}
 use Rattle.time_fmt.specs.Description.{tree_outcome, trees_outcome}
 use Rattle.time_fmt.specs.Ends.{Ends, refusal_of}
-use Rattle.time_fmt.specs.Guarantee.{AppendsLeaf, AppendsTree, IsTextIf}
+use Rattle.time_fmt.specs.Guarantee.{AppendsTree, IsTextIf}
 use Rattle.time_fmt.specs.declared.error.Format.{Format}
 use Rattle.time_fmt.specs.declared.refused.Refused.{Refused}
-use Rattle.time_fmt.specs.Outcome.{Names, Outcome}
+use Rattle.time_fmt.specs.Outcome.{Names, Outcome, join}
 use Rattle.time_fmt.specs.Sink.{Buffer, Puts}
 use Rattle.time_fmt.specs.Steps.{IsWrittenUpTo}
 use Rattle.time_fmt.specs.declared.runs.Run.TheVariants as run
@@ -33,11 +33,10 @@ use Rattle.time_fmt.proofs.Engine.{joined, width_joined}
 use Rattle.time_fmt.specs.Runs.{three_parts}
 use Rattle.time_fmt.proofs.GuaranteeLemmas.{ascii_test, empty_utf8, text_of_component}
 use Rattle.time_fmt.proofs.RunLemmas.{three_are_text}
-use Rattle.time_fmt.proofs.WriteLemmas.{join_done, join_nothing}
+use Rattle.time_fmt.proofs.WriteLemmas.{join_done, join_nothing, join_refused, some_of}
 use Rattle.time_plan.specs.Shown.{shown_tree}
 use Rattle.time_plan.specs.declared.shown.Shown.{Shown}
 use Rattle.time_plan.specs.declared.shown.Shown.TheVariants as shown
-use Rattle.movaliren_c.proofs.BatchLemmas.{refused_first}
 
 -- what is left of a list begins with the member at its index
 next_of : {I A : Type 0} (f : I → Result A Reason) (items : List I) (i : ℕ) (d : I) → i < length items
@@ -77,7 +76,7 @@ component_fits c = grind (arith, common_steps)
 -- nor is a date or a time of day
 pub shown_fits : (s : Shown) → tree_width (shown_tree s) ≤ 18
 shown_fits (shown.Component c) = component_fits c
-shown_fits (shown.Run run.Empty) = omega arith
+shown_fits shown.Nothing = omega arith
 shown_fits (shown.Run (run.Date between)) = omega arith
 shown_fits (shown.Run (run.Time between)) = omega arith
 
@@ -147,7 +146,7 @@ item_has texts i f =
 -- what ended is a valid step
 pub leaf_of_item : (texts : List ℕ) (i : Item) (f : Facts) (old new : Buffer) (written : Option (Result Unit Refused))
     → MatchOption written (new ≡ old) (λ answer. EndsItem (item_tree texts i) f old new answer)
-    → AppendsLeaf (tree_or_nothing (item_tree texts i)) f old new written
+    → MatchOption written (new ≡ old) (AppendsTree (tree_or_nothing (item_tree texts i)) f old new)
 leaf_of_item texts i f old new None same = same
 leaf_of_item texts i f old new (Some answer) h = record {
   ends = ended_step (item_tree texts i) f old new answer h;
@@ -278,6 +277,10 @@ array_put s f old new lost count before after shows many put =
     (first.0, first.1, subst (λ (bytes : List ℕ). PutsOrLoses old new lost bytes) first.2 put)
 
 -- ---- the end
+
+-- what is refused first is refused of both
+refused_first : (a b : Outcome) (r : Reason) → IsRefusedFor r a → IsRefusedFor r (join a b)
+refused_first a b r h = grind (arith, some_of, join_refused)
 
 refused_of : (all behind : Result (List Tree) Reason) (front : List Tree) (t : Tree) (f : Facts) (r : Reason)
     (old new : Buffer) → (trees_outcome (trees front) f).refusal ≡ None → IsRefusedFor r (tree_outcome t f)

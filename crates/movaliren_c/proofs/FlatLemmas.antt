@@ -1,11 +1,10 @@
 -- Lists in one another, one after the other.
 use Rattle.std.proofs.Common.{◌≡◌, ◌<◌, ◌+◌, ◌++◌, ℕ, Bool, true, List, [], ◌∷◌, length, Option, Some, None, refl, sym, ap, ◌∙◌, append_assoc, arith}
-use Rattle.std.specs.Prelude.{IsTrue}
-use Rattle.std.proofs.lemmas.Bool.{and_parts, eqb-true}
+use Rattle.std.proofs.lemmas.Bool.{eqb-true}
 use Rattle.movaliren_c.specs.Flat.{all_flat, closed_at, first_shown, flat, flat_items, hidden_at, or_at, shown_in}
 use Rattle.time_below.specs.Facts.{Facts}
 use Rattle.time_below.specs.Tree.{Tree, Trees, trees, byte_literal, text_literal, of_component, all_of, first_of, nothing, end, more}
-use Rattle.time_describe.specs.Items.{are_leaves, is_leaf, is_nil}
+use Rattle.time_describe.specs.Items.{is_nil}
 use Rattle.time_describe.specs.Literal.{literal_of}
 use Rattle.time_describe.specs.Reading.{Frame}
 use Rattle.time_fmt.specs.Description.{tree_outcome, trees_outcome}
@@ -43,16 +42,6 @@ flat_more (t ∷ ts) b = ap (λ (v : List Tree). flat t ++ v) (flat_more ts b) �
 pub flat_literal : (bytes : List ℕ) → flat (literal_of bytes) ≡ literal_of bytes ∷ []
 unfolding literal_of
 flat_literal bytes = grind (arith, common_steps)
-
-leaf_flat : (t : Tree) → is_leaf t ≡ true → flat t ≡ t ∷ []
-leaf_flat t h = grind (arith, common_steps)
-
--- without lists they are as they were
-pub leaves_flat : (all : List Tree) → IsTrue (are_leaves all) → flat_items all ≡ all
-leaves_flat [] leaves = refl
-leaves_flat (t ∷ ts) leaves =
-    let w = and_parts (is_leaf t) (are_leaves ts) leaves in
-    ap (λ (v : List Tree). v ++ flat_items ts) (leaf_flat t w.0) ∙ ap (λ (v : List Tree). t ∷ v) (leaves_flat ts w.1)
 
 -- ---- what is shown in open lists
 

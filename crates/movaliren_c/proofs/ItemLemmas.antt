@@ -1,5 +1,5 @@
 -- Items of a text, in an array and in what they show.
-use Rattle.std.proofs.Common.{◌≡◌, ◌<◌, ◌≤◌, ◌+◌, ◌-◌, ◌++◌, ℕ, min, Bool, true, false, List, [], ◌∷◌, length, take, set, get_or, Option, None, is_some, Result, Ok, Err, refl, sym, ap, ◌∙◌, subst, arith, ne_eqb}
+use Rattle.std.proofs.Common.{◌≡◌, ◌<◌, ◌≤◌, ◌+◌, ◌-◌, ◌++◌, ℕ, min, Bool, true, false, List, [], ◌∷◌, length, take, drop, drop-cons, set, get_or, Option, None, is_some, Result, Ok, Err, refl, sym, ap, ◌∙◌, subst, arith, ne_eqb}
 use Rattle.std.specs.Prelude.{IsTrue, nat_le, slice_range, ◌==◌, ◌≢◌}
 use Rattle.std.proofs.lemmas.Bool.{le-leb, leb-true}
 use Rattle.std.proofs.lemmas.List.{append-nil, length-append, length-set}
@@ -15,22 +15,19 @@ use Rattle.time_below.specs.Conversion.{current_component, is_current}
 use Rattle.time_below.specs.Facts.{Facts}
 use Rattle.time_below.specs.Tree.{Tree, trees, all_of, byte_literal, of_component}
 use Rattle.time_below.specs.declared.format_description.component.Component.{Component}
-use Rattle.time_describe.specs.Description.{IsFound, Says}
-use Rattle.time_describe.specs.Items.{are_leaves, is_nil, parted}
+use Rattle.time_describe.specs.Description.{IsFound}
+use Rattle.time_describe.specs.Items.{is_nil, items_of_parted}
 use Rattle.time_describe.specs.Literal.{literal_of}
 use Rattle.time_describe.specs.Reading as reading
 use Rattle.time_describe.specs.Reading.{Frame}
 use Rattle.time_describe.specs.declared.fault.Fault.{Fault}
-use Rattle.time_describe.specs.declared.fault.InvalidDescription.TheVariants as error
-use Rattle.time_describe.specs.declared.items.Nest.{Nest}
+use Rattle.time_describe.specs.declared.items.ListKind.{ListKind}
 use Rattle.time_describe.specs.declared.items.Parted.{Parted}
 use Rattle.time_fmt.specs.Description.{current_outcome, trees_outcome}
 use Rattle.time_fmt.specs.Outcome.{done}
-use Rattle.movaliren_c.proofs.FlatLemmas.{closed_hidden, closed_shown, flat_more, leaves_flat, shown_hidden, shown_more}
+use Rattle.movaliren_c.proofs.FlatLemmas.{closed_hidden, closed_shown, flat_literal, flat_more, shown_hidden, shown_more}
 use Rattle.movaliren_c.proofs.JoinLemmas.{literal_outcome, put_behind}
 use Rattle.std.proofs.lemmas.Grind.{common_steps}
-use Rattle.time_describe.proofs.PartedLemmas.{parted_leaves}
-use Rattle.time_describe.proofs.StrftimeLemmas.{one_byte}
 
 -- ---- one item
 
@@ -70,6 +67,11 @@ byte_of b = record { kind = 254; padding = 0; flag = 0; digits = 0; byte = b; st
 
 pub byte_is : (text : List ℕ) (b : ℕ) → IsItem text (byte_of b) (literal_of (b ∷ []))
 byte_is text b = record { tree = byte_literal (b ∷ []); there = refl; same = λ f. literal_outcome (b ∷ []) f }
+
+one_byte : (text : List ℕ) (at : ℕ) → at < length text → slice_range text at (at + 1) ≡ get_or text at 0 ∷ []
+one_byte text at within =
+    let count : at + 1 - at ≡ 1 = omega arith in
+    ap (λ (k : ℕ). take k (drop at text)) count ∙ ap (take 1) (drop-cons text at 0 within)
 
 pub one_byte_is : (text : List ℕ) (start len : ℕ) → start + len ≤ length text → len ≡ 1
     → IsItem text (byte_of (get_or text start 0)) (literal_of (slice_range text start (start + len)))
@@ -127,10 +129,10 @@ pub all_held : {R : Type 0} (number : R → ℕ × ℕ) (text : List ℕ) (descr
 unfolding items_in
 all_held number text described array made rest hidden found = grind arith
 
-pub fault_told : {R : Type 0} (number : R → ℕ × ℕ) (text : List ℕ) (described : Result (List Tree) (Fault R)) (reason : R) (index : ℕ)
-    → Says (length text) described (error.Invalid reason index) → items_in number text described ≡ Err (fault_at index (number reason))
+pub fault_told : {R : Type 0} (number : R → ℕ × ℕ) (text : List ℕ) (described : Result (List Tree) (Fault R)) (fault : Fault R)
+    → described ≡ Err fault → items_in number text described ≡ Err (fault_at (length text - fault.left) (number fault.reason))
 unfolding items_in
-fault_told number text described reason index says = grind arith
+fault_told number text described fault is = rw is refl
 
 -- ---- items in open lists
 
@@ -161,13 +163,19 @@ fewer_held text fs array new made rest next total hidden items joined few same s
   };
 }
 
--- a date or a time of day, where no list is open
-pub parted_put : (text : List ℕ) (new : List Item) (made rest : ℕ) (hidden : Option ℕ) (items : List Tree) (w : Parted) (a b : ℕ) → hidden ≡ None
-    → HoldsItems text new made rest (flat_items items ++ parted w a b) → HoldsIn text [] new made rest hidden (items ++ parted w a b)
-parted_put text new made rest hidden items w a b none holds =
-    let five = parted w a b in
-    let flat_all : flat_items (items ++ five) ≡ flat_items items ++ five =
-    flat_more items five ∙ ap (λ (ts : List Tree). flat_items items ++ ts) (leaves_flat five (parted_leaves w a b)) in
+parted_flat : (p : Parted) → flat_items (items_of_parted p) ≡ items_of_parted p
+parted_flat p =
+    ap (λ (ts : List Tree). of_component p.first ∷ (ts ++ (of_component p.second ∷ (flat (literal_of (p.before_third ∷ [])) ++ of_component p.third ∷ []))))
+    (flat_literal (p.before_second ∷ []))
+    ∙ ap (λ (ts : List Tree). of_component p.first ∷ literal_of (p.before_second ∷ []) ∷ of_component p.second ∷ (ts ++ of_component p.third ∷ []))
+    (flat_literal (p.before_third ∷ []))
+
+-- five items at once, where no list is open
+pub parted_put : (text : List ℕ) (new : List Item) (made rest : ℕ) (hidden : Option ℕ) (items : List Tree) (p : Parted) → hidden ≡ None
+    → HoldsItems text new made rest (flat_items items ++ items_of_parted p) → HoldsIn text [] new made rest hidden (items ++ items_of_parted p)
+parted_put text new made rest hidden items p none holds =
+    let flat_all : flat_items (items ++ items_of_parted p) ≡ flat_items items ++ items_of_parted p =
+    flat_more items (items_of_parted p) ∙ ap (λ (ts : List Tree). flat_items items ++ ts) (parted_flat p) in
     record { hidden = none; held = subst (λ (ts : List Tree). HoldsItems text new made rest ts) (sym flat_all) holds }
 
 pub begun : (text : List ℕ) (fs : List Frame) (array : List Item) (made rest : ℕ) (hidden : Option ℕ) (items : List Tree) → HoldsIn text fs array made rest hidden items
@@ -183,14 +191,9 @@ pub closed : (text : List ℕ) (f : Frame) (fs : List Frame) (array : List Item)
     → HoldsListsIn text fs f.items array made rest new (f.lists ++ all_of (trees items) ∷ [])
 closed text f fs array made rest depth hidden new items deep is holds = grind (arith, closed_hidden, closed_shown)
 
-pub ended : (text : List ℕ) (fs : List Frame) (nest : Nest) (items lists : List Tree) (array : List Item) (made rest left : ℕ) (hidden : Option ℕ) (item : Tree)
-    → HoldsListsIn text fs items array made rest hidden lists → reading.nested nest lists left ≡ Ok item → HoldsIn text fs array made rest hidden (items ++ item ∷ [])
-ended text fs nest items lists array made rest left hidden item holds is = grind (arith, common_steps, append-nil, flat_more)
-
--- how many items there are, of which none is a list
-pub counted_leaves : (text : List ℕ) (array : List Item) (made rest : ℕ) (hidden : Option ℕ) (all : List Tree) → IsTrue (are_leaves all)
-    → HoldsIn text [] array made rest hidden all → min (made + rest) 0xffff_ffff_ffff_ffff ≡ min (length all) 0xffff_ffff_ffff_ffff
-counted_leaves text array made rest hidden all leaves holds = grind (arith, leaves_flat)
+pub ended : (text : List ℕ) (fs : List Frame) (kind : ListKind) (items lists : List Tree) (array : List Item) (made rest left : ℕ) (hidden : Option ℕ) (item : Tree)
+    → HoldsListsIn text fs items array made rest hidden lists → reading.nested kind lists left ≡ Ok item → HoldsIn text fs array made rest hidden (items ++ item ∷ [])
+ended text fs kind items lists array made rest left hidden item holds is = grind (arith, common_steps, append-nil, flat_more)
 
 -- ---- what a call leaves
 

@@ -1,28 +1,29 @@
 -- Dates and times of day among items, each joined in one item.
-use Rattle.std.proofs.Common.{◌≡◌, ◌<◌, ◌≤◌, ◌+◌, ◌-◌, ◌++◌, ℕ, List, [], ◌∷◌, length, take, drop, set, get_or, map, Result, Ok, Err, refl, sym, ap, subst, ◌∙◌, arith}
+use Rattle.std.proofs.Common.{◌≡◌, ◌<◌, ◌≤◌, ◌+◌, ◌-◌, ◌++◌, ℕ, List, [], ◌∷◌, length, take, drop, set, get_or, map, false, Option, Some, None, Result, Ok, Err, refl, sym, ap, subst, ◌∙◌, arith, ne_eqb}
+use Rattle.std.specs.Prelude.{◌==◌, IfSome}
 use Rattle.std.proofs.lemmas.Bool.{lt-ltb}
 use Rattle.std.proofs.lemmas.Grind.{common_steps}
 use Rattle.std.proofs.lemmas.List.{append-nil, length-take, map-append, take_all, take_more_set}
 use Rattle.std.proofs.Math.Seq.{take-add}
 use Rattle.movaliren_c.proofs.MeaningLemmas.{same_value, value_of_given}
-use Rattle.movaliren_c.specs.Described.{AreParts, Describes, IsItem, IsUsual, Joins, run_of}
-use Rattle.movaliren_c.specs.Items.{component_of, date_component, item_tree, list_of, time_component, trees_of, year_component}
+use Rattle.movaliren_c.specs.Described.{Describes, IsItem, Joins, item_of_run}
+use Rattle.movaliren_c.specs.Items.{component_of, item_tree, list_of, trees_of}
 use Rattle.movaliren_c.specs.Value.{with_value}
 use Rattle.movaliren_c.specs.declared.answers.reason.Reason.{Reason}
 use Rattle.movaliren_c.specs.declared.described.item.Item.{Item}
 use Rattle.time_below.specs.Facts.{Facts}
 use Rattle.time_below.specs.Tree.{Tree, trees, all_of, byte_literal, of_component}
-use Rattle.time_below.specs.UsualParts.{year_part, month_part, day_part, hour_part, minute_part, second_part}
 use Rattle.time_below.specs.declared.format_description.component.Component.{Component}
-use Rattle.time_describe.specs.Items.{parted, three}
+use Rattle.time_describe.specs.Items.{items_of_parted}
 use Rattle.time_describe.specs.Literal.{literal_of}
 use Rattle.time_describe.specs.declared.items.Parted.{Parted}
-use Rattle.time_describe.specs.declared.items.Parted.TheVariants as whole
 use Rattle.time_fmt.proofs.Engine.{joined}
 use Rattle.time_fmt.proofs.WriteLemmas.{join_nothing}
 use Rattle.time_fmt.specs.Description.{tree_outcome, trees_outcome}
 use Rattle.time_fmt.specs.Outcome.{Outcome, done, join}
-use Rattle.time_fmt.specs.Runs.{three_parts}
+use Rattle.time_fmt.specs.Runs.{run_tree, three_parts}
+use Rattle.time_fmt.specs.declared.runs.Run.{Run}
+use Rattle.time_fmt.specs.declared.runs.Run.TheVariants as run
 
 -- ---- values of two lists
 
@@ -122,31 +123,57 @@ put_behind text array made i all ts within is d =
     subst (λ (items : List Item). Describes text items (all ++ ts)) (sym (take_more_set array made i within))
     (described_more text (take made array) i all ts is d)
 
+-- ---- literals
+
+pub literal_outcome : (bytes : List ℕ) (f : Facts) → done bytes ≡ tree_outcome (literal_of bytes) f
+unfolding literal_of
+literal_outcome bytes f = grind (arith, common_steps)
+
 -- ---- the five items
 
-pub date_parts : (a b c : Item) → IsUsual a 13 → IsUsual b 4 → IsUsual c 1 → AreParts a b c 253
-unfolding component_of date_component year_component
-date_parts a b c year month day = record {
-  p = year_part;
-  q = month_part;
-  r = day_part;
-  first_is = λ text. rw (year.kind_is, year.padding_is, year.flag_is, year.digits_is) refl;
-  second_is = λ text. rw (month.kind_is, month.padding_is, month.flag_is, month.digits_is) refl;
-  third_is = λ text. rw (day.kind_is, day.padding_is, day.flag_is, day.digits_is) refl;
-  joined = λ text i is. rw is refl;
+pub component_there : (text : List ℕ) (i : Item) (c : Component) → i.kind < 252 → component_of i ≡ Ok c → item_tree text i ≡ Ok (of_component c)
+component_there text i c small is =
+    let no_text : (i.kind == 255) ≡ false = ne_eqb i.kind 255 (λ h. omega (arith, small)) in
+    let no_byte : (i.kind == 254) ≡ false = ne_eqb i.kind 254 (λ h. omega (arith, small)) in
+    let no_date : (i.kind == 253) ≡ false = ne_eqb i.kind 253 (λ h. omega (arith, small)) in
+    let no_time : (i.kind == 252) ≡ false = ne_eqb i.kind 252 (λ h. omega (arith, small)) in
+    rw (no_text, no_byte, no_date, no_time, is) refl
+
+-- a date or a time of day with bytes of ASCII between its parts is the tree of its item
+run_there : (text : List ℕ) (it : Run) (p q r : Component) (x y : ℕ) → run_tree it ≡ three_parts p x q y r → x < 128 → y < 128
+    → item_tree text (item_of_run it) ≡ Ok (three_parts p x q y r)
+run_there text (run.Date between) p q r x y is small_x small_y =
+    let first : between.first ≡ x = cc in
+    let second : between.second ≡ y = cc in
+    rw (first, second, lt-ltb x 128 small_x, lt-ltb y 128 small_y) (ap Ok (rw (first, second) at is))
+run_there text (run.Time between) p q r x y is small_x small_y =
+    let first : between.first ≡ x = cc in
+    let second : between.second ≡ y = cc in
+    rw (first, second, lt-ltb x 128 small_x, lt-ltb y 128 small_y) (ap Ok (rw (first, second) at is))
+
+parted_same : (p : Parted) (f : Facts)
+    → tree_outcome (three_parts p.first p.before_second p.second p.before_third p.third) f ≡ trees_outcome (trees (items_of_parted p)) f
+parted_same p f =
+    let last = join (tree_outcome (of_component p.third) f) (done []) in
+    ap (λ (o : Outcome). join (tree_outcome (of_component p.first) f) (join o (join (tree_outcome (of_component p.second) f) (join (done (p.before_third ∷ [])) last))))
+    (literal_outcome (p.before_second ∷ []) f)
+    ∙ ap (λ (o : Outcome). join (tree_outcome (of_component p.first) f) (join (tree_outcome (literal_of (p.before_second ∷ [])) f)
+    (join (tree_outcome (of_component p.second) f) (join o last)))) (literal_outcome (p.before_third ∷ []) f)
+
+-- and shows what these do
+run_shows : (text : List ℕ) (it : Run) (p : Parted) → run_tree it ≡ three_parts p.first p.before_second p.second p.before_third p.third
+    → p.before_second < 128 → p.before_third < 128 → IsItem text (item_of_run it) (all_of (trees (items_of_parted p)))
+run_shows text it p is small_second small_third = record {
+  tree = three_parts p.first p.before_second p.second p.before_third p.third;
+  there = run_there text it p.first p.second p.third p.before_second p.before_third is small_second small_third;
+  same = λ f. parted_same p f;
 }
 
-pub time_parts : (a b c : Item) → IsUsual a 24 → IsUsual b 25 → IsUsual c 27 → AreParts a b c 252
-unfolding component_of time_component
-time_parts a b c hour minute second = record {
-  p = hour_part;
-  q = minute_part;
-  r = second_part;
-  first_is = λ text. rw (hour.kind_is, hour.padding_is, hour.flag_is, hour.digits_is) refl;
-  second_is = λ text. rw (minute.kind_is, minute.padding_is, minute.flag_is, minute.digits_is) refl;
-  third_is = λ text. rw (second.kind_is, second.padding_is, second.flag_is, second.digits_is) refl;
-  joined = λ text i is. rw is refl;
-}
+pub runs_show : (found : Option Run) (p : Parted) → IfSome found (λ it. run_tree it ≡ three_parts p.first p.before_second p.second p.before_third p.third)
+    → p.before_second < 128 → p.before_third < 128
+    → IfSome found (λ it. (text : List ℕ) → IsItem text (item_of_run it) (all_of (trees (items_of_parted p))))
+runs_show None p is small_second small_third = tt
+runs_show (Some it) p is small_second small_third = λ text. run_shows text it p is small_second small_third
 
 first_five : (items : List Item) (i : Item) → 5 ≤ length items
     → take 5 items ≡ get_or items 0 i ∷ get_or items 1 i ∷ get_or items 2 i ∷ get_or items 3 i ∷ get_or items 4 i ∷ []
@@ -157,19 +184,21 @@ first_five (a ∷ b ∷ c ∷ []) i five = absurd (omega arith)
 first_five (a ∷ b ∷ c ∷ d ∷ []) i five = absurd (omega arith)
 first_five (a ∷ b ∷ c ∷ d ∷ e ∷ rest) i five = refl
 
-pub five_joined : (text : List ℕ) (items : List Item) (other i : Item) (kind x y : ℕ) → 5 ≤ length items
-    → AreParts (get_or items 0 other) (get_or items 2 other) (get_or items 4 other) kind
-    → item_tree text (get_or items 1 other) ≡ Ok (byte_literal (x ∷ []))
-    → item_tree text (get_or items 3 other) ≡ Ok (byte_literal (y ∷ []))
-    → i.kind ≡ kind → i.start ≡ x → i.len ≡ y → x < 128 → y < 128 → Joins text (take 5 items) i
-five_joined text items other i kind x y five parts is_x is_y is_kind is_start is_len small_x small_y = record {
-  shown = of_component parts.p ∷ byte_literal (x ∷ []) ∷ of_component parts.q ∷ byte_literal (y ∷ []) ∷ of_component parts.r ∷ [];
+pub five_joined : (text : List ℕ) (items : List Item) (other i : Item) (p : Parted) → 5 ≤ length items
+    → item_tree text (get_or items 0 other) ≡ Ok (of_component p.first)
+    → item_tree text (get_or items 1 other) ≡ Ok (byte_literal (p.before_second ∷ []))
+    → item_tree text (get_or items 2 other) ≡ Ok (of_component p.second)
+    → item_tree text (get_or items 3 other) ≡ Ok (byte_literal (p.before_third ∷ []))
+    → item_tree text (get_or items 4 other) ≡ Ok (of_component p.third)
+    → IsItem text i (all_of (trees (items_of_parted p))) → Joins text (take 5 items) i
+five_joined text items other i p five is_first is_before_second is_second is_before_third is_third is = record {
+  shown = of_component p.first ∷ byte_literal (p.before_second ∷ []) ∷ of_component p.second ∷ byte_literal (p.before_third ∷ []) ∷ of_component p.third ∷ [];
   there = ap (trees_of text) (first_five items other five)
-      ∙ rw (parts.first_is text, is_x, parts.second_is text, is_y, parts.third_is text) refl;
+      ∙ rw (is_first, is_before_second, is_second, is_before_third, is_third) refl;
   one = record {
-    tree = three_parts parts.p x parts.q y parts.r;
-    there = parts.joined text i is_kind ∙ rw (is_start, is_len, lt-ltb x 128 small_x, lt-ltb y 128 small_y) refl;
-    same = λ f. refl;
+    tree = is.tree;
+    there = is.there;
+    same = λ f. is.same f ∙ sym (parted_same p f);
   };
 }
 
@@ -193,35 +222,3 @@ last_joined text array made whole all five_made within joins d =
     subst (λ (items : List Item). Describes text items all) (sym new)
     (described_joined text (take from array) five [] whole all (subst (λ (items : List Item). Joins text items whole) left joins)
     (subst (λ (items : List Item). Describes text items all) parts d))
-
--- ---- a date or a time of day at once
-
-pub literal_outcome : (bytes : List ℕ) (f : Facts) → done bytes ≡ tree_outcome (literal_of bytes) f
-unfolding literal_of
-literal_outcome bytes f = grind (arith, common_steps)
-
-three_same : (p q r : Component) (a b : ℕ) (f : Facts) → tree_outcome (three_parts p a q b r) f ≡ trees_outcome (trees (three p a q b r)) f
-three_same p q r a b f =
-    let last = join (tree_outcome (of_component r) f) (done []) in
-    ap (λ (o : Outcome). join (tree_outcome (of_component p) f) (join o (join (tree_outcome (of_component q) f) (join (done (b ∷ [])) last))))
-    (literal_outcome (a ∷ []) f)
-    ∙ ap (λ (o : Outcome). join (tree_outcome (of_component p) f) (join (tree_outcome (literal_of (a ∷ [])) f)
-    (join (tree_outcome (of_component q) f) (join o last)))) (literal_outcome (b ∷ []) f)
-
-pub date_is : (text : List ℕ) (a b : ℕ) → a < 128 → b < 128 → IsItem text (run_of 253 a b) (all_of (trees (parted whole.Date a b)))
-date_is text a b small_a small_b = record {
-  tree = three_parts year_part a month_part b day_part;
-  there = rw (lt-ltb a 128 small_a, lt-ltb b 128 small_b) refl;
-  same = λ f. three_same year_part month_part day_part a b f;
-}
-
-pub time_is : (text : List ℕ) (a b : ℕ) → a < 128 → b < 128 → IsItem text (run_of 252 a b) (all_of (trees (parted whole.Time a b)))
-time_is text a b small_a small_b = record {
-  tree = three_parts hour_part a minute_part b second_part;
-  there = rw (lt-ltb a 128 small_a, lt-ltb b 128 small_b) refl;
-  same = λ f. three_same hour_part minute_part second_part a b f;
-}
-
-pub parted_len : (w : Parted) (a b : ℕ) → length (parted w a b) ≡ 5
-parted_len whole.Date a b = refl
-parted_len whole.Time a b = refl

@@ -1,10 +1,9 @@
-pub mod BatchLemmas
 pub mod DescribedLemmas
 pub mod FlatLemmas
 pub mod IsoLemmas
 pub mod ItemLemmas
 pub mod JoinLemmas
-pub mod LogLemmas
+pub mod MadeLemmas
 pub mod MeaningLemmas
 pub mod NumberLemmas
 pub mod ReadIsoLemmas

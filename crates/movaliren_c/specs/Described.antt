@@ -1,14 +1,14 @@
 -- What calls leave that read a text as a description.
 use Rattle.std.specs.Prelude.{ℕ, ◌≡◌, ◌<◌, ◌≤◌, ◌+◌, ◌-◌, ◌++◌, min, Option, Bool, true, false, nat_le, List, [], ◌∷◌, length, take, Result, Ok, Err, IsOkAnd, if◌then◌else◌}
 use Rattle.movaliren_c.specs.Flat.{first_shown, flat_items, hidden_at, shown_in}
-use Rattle.movaliren_c.specs.Items.{component_of, item_tree, parted_tree, trees_of}
+use Rattle.movaliren_c.specs.Items.{component_of, item_tree, trees_of}
 use Rattle.movaliren_c.specs.declared.described.item.Item.{Item}
 use Rattle.movaliren_c.specs.declared.answers.reason.Reason.{Reason}
 use Rattle.movaliren_c.specs.declared.answers.reason.Reason.TheVariants as reason
 use Rattle.movaliren_c.specs.declared.described.syntax.ParseError.{ParseError}
 use Rattle.time_below.specs.Conversion.{is_current}
 use Rattle.time_below.specs.Facts.{Facts}
-use Rattle.time_below.specs.Tree.{Tree, trees, all_of, of_component}
+use Rattle.time_below.specs.Tree.{Tree, trees, all_of}
 use Rattle.time_below.specs.declared.format_description.component.Component.{Component}
 use Rattle.time_below.specs.declared.format_description.component.Component.TheVariants as component
 use Rattle.time_describe.specs.Reading as reading
@@ -20,6 +20,9 @@ use Rattle.time_describe.specs.declared.fault.Fault.{Fault}
 use Rattle.time_describe.specs.declared.strftime.reason.StrftimeReason.{StrftimeReason}
 use Rattle.time_describe.specs.declared.strftime.reason.StrftimeReason.TheVariants as strftime_reason
 use Rattle.time_fmt.specs.Description.{tree_outcome, trees_outcome}
+use Rattle.time_fmt.specs.declared.runs.Run.{Run}
+use Rattle.time_fmt.specs.declared.runs.Run.TheVariants as run
+use Rattle.time_fmt.specs.declared.separators.Separators.{Separators}
 
 -- ---- items of trees
 
@@ -81,26 +84,13 @@ pub record IsHeld (text : List ℕ) (described : Result (List Tree) ParseError) 
 
 -- ---- dates and times of day
 
--- an item of a kind with zeros before its number, no sign and no decimals
-pub record IsUsual (i : Item) (kind : ℕ) : Type 0 where
-  pub kind_is : i.kind ≡ kind
-  pub padding_is : i.padding ≡ 0
-  pub flag_is : i.flag ≡ 0
-  pub digits_is : i.digits ≡ 0
+-- the item of a date or of a time of day
+abbrev pub run_of : ℕ → Separators → Item
+run_of kind between = record { kind = kind; padding = 0; flag = 0; digits = 0; byte = 0; start = between.first; len = between.second }
 
--- the item of a kind of a date or a time of day, with these bytes between its parts
-abbrev pub run_of : ℕ → ℕ → ℕ → Item
-run_of kind first second = record { kind = kind; padding = 0; flag = 0; digits = 0; byte = 0; start = first; len = second }
-
--- three items are the components of an item of this kind, with a byte between each two
-pub record AreParts (first second third : Item) (kind : ℕ) : Type 0 where
-  pub p : Component
-  pub q : Component
-  pub r : Component
-  pub first_is : (text : List ℕ) → item_tree text first ≡ Ok (of_component p)
-  pub second_is : (text : List ℕ) → item_tree text second ≡ Ok (of_component q)
-  pub third_is : (text : List ℕ) → item_tree text third ≡ Ok (of_component r)
-  pub joined : (text : List ℕ) (i : Item) → i.kind ≡ kind → item_tree text i ≡ parted_tree p q r i
+abbrev pub item_of_run : Run → Item
+item_of_run (run.Date between) = run_of 253 between
+item_of_run (run.Time between) = run_of 252 between
 
 -- one item shows what these do, of any value
 pub record Joins (text : List ℕ) (items : List Item) (i : Item) : Type 0 where
@@ -143,6 +133,10 @@ fault_at at reason = record { at = at; items = 0; kind = reason.0; byte = reason
 -- the lack of room for so many items
 abbrev pub many : ℕ → ParseError
 many items = record { at = 0; items = items; kind = 0; byte = 0 }
+
+-- a text of more bytes than there is room for
+abbrev pub long : ℕ → ParseError
+long most = record { at = most; items = 0; kind = 0; byte = 0 }
 
 -- The items of a text as C has them, those of lists in their places, or the text's first fault, where the reasons have
 -- these numbers.

@@ -1,7 +1,6 @@
 -- What a call that reads a text of ISO 8601 leaves.
 use Rattle.std.specs.Prelude.{◌≡◌, ◌≤◌, ◌⊎◌, ◌&&◌, ℕ, ℤ, true, IsTrue, List, length, Result, Ok, Err, MatchResult}
 use Rattle.movaliren_c.specs.Answer.{reason_number}
-use Rattle.movaliren_c.specs.Place.{place_of}
 use Rattle.movaliren_c.specs.Reading.{IsRead}
 use Rattle.movaliren_c.specs.declared.answers.reason.Reason.{Reason}
 use Rattle.movaliren_c.specs.declared.answers.reason.Reason.TheVariants as reason
@@ -39,7 +38,7 @@ pub record ReadsBy {M : Type 0} (Tells : Choices → Type 0) (choices : Result C
   pub by : Choices
   pub are : choices ≡ Ok by
   pub tell : Tells by
-  pub read : IsRead (Iso8601Reads by) place_of Holds text number before after old new
+  pub read : IsRead (Iso8601Reads by) Holds text number before after old new
 
 -- no text is read by the choices, for a reason, and all is unchanged
 pub record ReadsNone {M : Type 0} (Tells : Choices → Type 0) (choices : Result Choices Reason) (number : ℤ)

@@ -3,8 +3,9 @@ use Rattle.std.specs.Prelude.{◌≡◌, ◌≤◌, ◌⊎◌, ℕ, ℤ, pos, Li
 use Rattle.movaliren_c.specs.Answer.{reason_number}
 use Rattle.movaliren_c.specs.Described.{IsItem}
 use Rattle.movaliren_c.specs.Items.{item_tree}
+use Rattle.movaliren_c.specs.Place.{flag_of, place_of}
 use Rattle.movaliren_c.specs.Reading.{IsInUtc}
-use Rattle.movaliren_c.specs.Value.{moment_value, timestamp_value}
+use Rattle.movaliren_c.specs.Value.{moment_value}
 use Rattle.movaliren_c.specs.declared.answers.reason.Reason.{Reason}
 use Rattle.movaliren_c.specs.declared.answers.reason.Reason.TheVariants as reason
 use Rattle.movaliren_c.specs.declared.described.item.Item.{Item}
@@ -13,16 +14,17 @@ use Rattle.movaliren_c.specs.declared.read.items.Unread.TheVariants as unread
 use Rattle.movaliren_c.specs.declared.read.place.ReadError.{ReadError}
 use Rattle.movaliren_c.specs.declared.values.moment.Moment.{Moment}
 use Rattle.movaliren_c.specs.declared.values.moment.UtcMoment.{UtcMoment}
-use Rattle.time_below.specs.Facts.{Facts, facts_of_offset_date_time, facts_of_timestamp}
-use Rattle.time_below.specs.Moment as moments
-use Rattle.time_below.specs.Moment.{OffsetDateAndTime}
+use Rattle.time_below.specs.Facts.{Facts, facts_of_offset_date_time, facts_of_utc_date_time}
+use Rattle.time_below.specs.Moment.{DateAndTime, OffsetDateAndTime, unix_seconds}
 use Rattle.time_below.specs.Tree.{Tree, nothing, of_component, trees}
 use Rattle.time_below.specs.declared.format_description.component.Component.{Component}
 use Rattle.time_fmt.specs.Description.{trees_outcome}
 use Rattle.time_fmt.specs.Outcome.{done}
-use Rattle.time_plan_read.specs.declared.fault.Mismatch.{Mismatch}
-use Rattle.time_plan_read.specs.declared.fault.Mismatch.TheVariants as mismatch
-use Rattle.time_plan_read.specs.declared.fault.NotRead.{NotRead}
+use Rattle.time_read.specs.declared.fault.Expected.{Expected}
+use Rattle.time_read.specs.declared.fault.Expected.TheVariants as expected
+use Rattle.time_read.specs.declared.fault.Mismatch.{Mismatch}
+use Rattle.time_read.specs.declared.fault.Mismatch.TheVariants as mismatch
+use Rattle.time_read.specs.declared.fault.NotRead.{NotRead}
 
 -- the tree, or that of nothing where there is none
 abbrev pub tree_or_nothing : Result Tree Reason → Tree
@@ -51,11 +53,16 @@ pub record HasTextWithOffset (description : Result (List Tree) Reason) (text : L
   pub is : IsInUtc m value
   pub written : IsTextOf description (facts_of_offset_date_time value) text
 
--- the text by the description of a moment in UTC
+-- the moment in UTC of a date and a time there
+pub record IsOfUtc (m : UtcMoment) (v : DateAndTime) : Type 0 where
+  pub seconds : m.seconds ≡ unix_seconds v
+  pub nanosecond : m.nanosecond ≡ v.time.nanosecond
+
+-- the text by the description of a date and a time in UTC, of which this is the moment
 pub record HasTextInUtc (description : Result (List Tree) Reason) (text : List ℕ) (m : UtcMoment) : Type 0 where
-  pub value : moments.Moment
-  pub is : timestamp_value m.seconds m.nanosecond ≡ Ok value
-  pub written : IsTextOf description (facts_of_timestamp value) text
+  pub value : DateAndTime
+  pub is : IsOfUtc m value
+  pub written : IsTextOf description (facts_of_utc_date_time value) text
 
 -- the text by the description of a moment, in UTC or with its offset
 abbrev pub HasTextOfMoment : Result (List Tree) Reason → List ℕ → UtcMoment → Type 0
@@ -69,11 +76,6 @@ abbrev pub IsUnread : Result (List Tree) Reason → List ℕ → Unread → Type
 IsUnread description text (unread.Never r) = MatchResult description (λ _. r ≡ reason.Undetermined) (λ invalid. r ≡ invalid)
 IsUnread description text (unread.At e) = IsOk description × (e.at ≤ length text)
 
--- a description determines no moment, or this text is not read at a place within it
-abbrev pub IsNoText : List ℕ → Unread → Type 0
-IsNoText text (unread.Never r) = r ≡ reason.Undetermined
-IsNoText text (unread.At e) = e.at ≤ length text
-
 -- ---- what a call leaves
 
 -- the number of a component among the kinds of items: that of an item which shows it
@@ -82,20 +84,28 @@ pub record IsKindOf (c : Component) (kind : ℕ) : Type 0 where
   pub kind_is : item.kind ≡ kind
   pub shows : (text : List ℕ) → IsItem text item (of_component c)
 
--- what could have come there: its number, and the byte twice, or the kind of the component
-abbrev pub IsComing : Mismatch → ReadError → Type 0
-IsComing (mismatch.Literal b) place = (place.expected ≡ 2) × (place.first ≡ b) × (place.last ≡ b)
-IsComing mismatch.End place = (place.expected ≡ 7) × (place.first ≡ 0) × (place.last ≡ 0)
-IsComing (mismatch.Component c) place = (place.expected ≡ 24) × IsKindOf c place.first × (place.last ≡ 0)
-IsComing (mismatch.NoValue c) place = (place.expected ≡ 25) × IsKindOf c place.first × (place.last ≡ 0)
-IsComing mismatch.Otherwise place = (place.expected ≡ 26) × (place.first ≡ 0) × (place.last ≡ 0)
+-- the place at which the text of a component, or another number of it, could have come
+pub record IsPlaceOfKind (e : NotRead) (number : ℕ) (c : Component) (place : ReadError) : Type 0 where
+  pub at_is : place.at ≡ e.at
+  pub number_is : place.expected ≡ number
+  pub kind : IsKindOf c place.first
+  pub no_last : place.last ≡ 0
+  pub strict : place.is_lenient ≡ 0
+  pub second_60 : place.is_second_60 ≡ flag_of e.is_second_60
+
+-- the place at which a text is none of a plan, as C sees it
+abbrev pub IsPlaceOfStep : NotRead → Mismatch → ReadError → Type 0
+IsPlaceOfStep e (mismatch.Component c) place = IsPlaceOfKind e 24 c place
+IsPlaceOfStep e (mismatch.NoValue c) place = IsPlaceOfKind e 25 c place
+IsPlaceOfStep e mismatch.Otherwise place = place ≡ place_of e
 
 -- the place of a text that is not read, as C sees it
-pub record IsPlaceBy (e : NotRead) (place : ReadError) : Type 0 where
-  pub at_is : place.at ≡ e.at
-  pub coming : IsComing e.reason place
-  pub strict : place.is_lenient ≡ 0
-  pub no_second_60 : place.is_second_60 ≡ 0
+abbrev pub IsPlaceFor : NotRead → Expected → ReadError → Type 0
+IsPlaceFor e (expected.Plan m) place = IsPlaceOfStep e m place
+IsPlaceFor e other place = place ≡ place_of e
+
+abbrev pub IsPlaceBy : NotRead → ReadError → Type 0
+IsPlaceBy e place = IsPlaceFor e e.expected place
 
 -- The number is 0, the moment is kept, and the place is unchanged; or the moment is unchanged, and the number is that of
 -- the reason, or that of a text that is not read, whose place is set.

@@ -21,7 +21,7 @@ utc_value seconds nanosecond =
 
 -- the stamp of a value in UTC
 abbrev pub utc_stamp_of : OffsetDateAndTime → Outcome
-utc_stamp_of v = stamp_of (record { date = v.date; time = v.time })
+utc_stamp_of v = stamp_of (record { date = v.date; time = v.time; offset = tt })
 
 -- an offset of at most 25:59:59 either way, by its seconds east of UTC
 abbrev pub east_value : ℤ → Result Offset Reason

@@ -1,5 +1,7 @@
 -- The words of a reason.
-use Rattle.std.specs.Prelude.{ℕ, ◌+◌, ℤ, pos, ◌==◌, int_lt, unsigned_abs, List, [], ◌∷◌, codes, if◌then◌else◌}
+use Rattle.std.specs.Prelude.{ℕ, ◌+◌, ◌≤◌, ℤ, pos, ◌==◌, int_lt, unsigned_abs, List, [], ◌∷◌, length, codes, if◌then◌else◌, Ok}
+use Rattle.movaliren_c.specs.Answer.{IsAnswer}
+use Rattle.time_fmt.specs.Outcome.{done}
 
 -- the words of a number, where they are counted on from the first, or else these
 abbrev pub counted : ℕ → List (List ℕ) → List ℕ → ℕ → List ℕ
@@ -41,27 +43,6 @@ words_numbered n = counted 1 (
 abbrev pub error_words : ℤ → List ℕ
 error_words number = if int_lt number (pos 0) then words_numbered (unsigned_abs number) else codes "no error"
 
--- those of a reason why a text is no description, without the byte that it names
-unfoldable pub fault_words : ℕ → List ℕ
-fault_words n = counted 1 (
-    codes "unclosed bracket"
-    ∷ codes "invalid escape sequence"
-    ∷ codes "missing component name"
-    ∷ codes "unknown component"
-    ∷ codes "unknown modifier"
-    ∷ codes "invalid modifier value"
-    ∷ codes "missing modifier `count`"
-    ∷ codes "missing list of items"
-    ∷ codes "unexpected text"
-    ∷ codes "more than 32 lists in one another"
-    ∷ codes "more than 65536 items"
-    ∷ codes "unfinished conversion `%`"
-    ∷ codes "unknown conversion"
-    ∷ codes "unsupported conversion `%Z`"
-    ∷ codes "unsupported modifier"
-    ∷ codes "unsupported field width"
-    ∷ codes "unsupported flag"
-    ∷ codes "unsupported flag `%+`"
-    ∷ codes "second flag"
-    ∷ codes "no flag is allowed before"
-    ∷ []) (codes "unknown reason") n
+-- words of at most 128 bytes are written, or they do not fit the buffer, which is then unchanged
+abbrev pub IsSaid : ℤ → List ℕ → List ℕ → Type 0
+IsSaid number before after = (words : List ℕ) × (length words ≤ 128) × IsAnswer (Ok (done words)) number before after

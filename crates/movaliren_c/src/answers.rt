@@ -1,5 +1,4 @@
-//! What a call returns: the number of a reason, a text in a buffer, or the lines of a batch.
-pub mod batch;
+//! What a call returns: the number of a reason, or a text in a buffer.
 mod library;
 pub mod reason;
 pub mod room;

@@ -1,43 +1,38 @@
 //! Descriptions that cross as data, whose texts allocate nothing.
-//!
-//! Without `inline(always)` the compiler leaves calls of the functions that have it. `cold` and
-//! `inline(never)` keep long or rare bodies out of their callers.
 ghost use Rattle.std.specs.Prelude.{◌≡◌, ◌≤◌, ◌<◌, ◌+◌, ◌^◌, ◌∷◌, ℕ, IfOk, IfSome, List};
 ghost use Rattle.std.specs.Prelude.{MatchOption, MatchResult, Ok, [], false, is_ok, length};
 ghost use Rattle.std.specs.Prelude.{slice_range, true};
-ghost use Rattle.movaliren_c.specs.Answer.{Answers, IsRefusedFor};
+ghost use Rattle.movaliren_c.specs.Answer.{IsRefusedFor};
 ghost use Rattle.movaliren_c.specs.Items.{EndsItem, IsDescribed, IsPut, IsShown, PutsOrLoses};
 ghost use Rattle.movaliren_c.specs.Items.{Shows, answer_before, as_one, item_tree, part_tree};
 ghost use Rattle.movaliren_c.specs.Items.{reason_before, tree_or_nothing, trees_of, width_answer};
-ghost use Rattle.movaliren_c.specs.Utc.{local_value};
-ghost use Rattle.movaliren_c.specs.Value.{date_value, moment_value, timestamp_value};
-ghost use Rattle.time_below.specs.Facts.{Facts, facts_of_date, facts_of_offset_date_time};
-ghost use Rattle.time_below.specs.Facts.{facts_of_timestamp};
+ghost use Rattle.movaliren_c.specs.Value.{moment_value};
+ghost use Rattle.time_below.specs.Facts.{Facts, facts_of_offset_date_time};
 ghost use Rattle.time_below.specs.Width.{tree_width};
 ghost use Rattle.time_fmt.specs.Description.{tree_outcome};
 ghost use Rattle.time_fmt.specs.Sink.{Fits, Puts};
 ghost use Rattle.time_plan.specs.Shown.{shown_tree};
 
-mod describe;
+pub mod describe;
 pub mod item;
-mod item_room;
+pub mod item_room;
 mod join;
-mod length;
 pub mod made_item;
-mod syntax;
+pub mod syntax;
 
-use crate::answers::reason::{Reason, answer_number};
+use crate::answers::reason::Reason;
 use crate::answers::room::copy_text;
 use crate::described::item::{Item, Part, head_of, part_of, separators_of, text_of};
-use crate::values::moment::{Moment, date_state, date_value, moment_value, timestamp_value};
-use crate::values::source::local_value;
+use crate::values::moment::{Moment, date_state, moment_value};
 use std::default::Default;
 use std::marker::Brand;
 use time_below::format_description::modifier::Padding;
 use time_below::format_description::{component_width, modifier};
 use time_fmt::writers::write_bytes;
-use time_fmt::{Before, Refused, RoomSink, Run, Sink, WriteStep, write_all, write_part, write_run};
-use time_plan::{Shown, end_shown};
+use time_fmt::{
+    OldBytes, Refused, Run, Sink, SliceSink, WriteStep, write_part, write_run, write_steps_inline,
+};
+use time_plan::{Shown, write_shown};
 use time_provide::ComponentProvider;
 
 /// The greatest maximum length or length that is returned. No buffer is so long.
@@ -54,78 +49,6 @@ macro_rules! usual {
     ($name:ident: $($choice:ident),+; $output:ident, $value:ident, $state:ident) => {
         Some(write_part(modifier::$name { $($choice),+ }, $output, $value, $state))
     };
-}
-
-/// The text of a local date and time with its offset.
-#[unsafe(no_mangle)]
-pub extern "C" fn movaliren_items_format(
-    items: &[Item],
-    texts: &[u8],
-    moment: &Moment,
-    buffer: &mut [u8],
-) -> isize
-    ensures { Answers result (λ answer. IsDescribed texts.now items.now
-        (moment_value moment.now) facts_of_offset_date_time answer buffer.old buffer.new) }
-{
-    answer_number(write_moment(items, texts, moment, buffer))
-}
-
-/// The text of a moment in UTC.
-#[unsafe(no_mangle)]
-pub extern "C" fn movaliren_items_format_utc(
-    items: &[Item],
-    texts: &[u8],
-    seconds: i64,
-    nanosecond: u32,
-    buffer: &mut [u8],
-) -> isize
-    ensures { Answers result (λ answer. IsDescribed texts.now items.now
-        (timestamp_value seconds nanosecond) facts_of_timestamp answer buffer.old buffer.new) }
-{
-    let value = timestamp_value(seconds, nanosecond);
-    answer_number(write_described(items, texts, value, buffer))
-}
-
-/// The text of a moment by a description, at an offset of this many seconds east of UTC.
-#[unsafe(no_mangle)]
-pub extern "C" fn movaliren_items_format_local(
-    items: &[Item],
-    texts: &[u8],
-    seconds: i64,
-    nanosecond: u32,
-    offset: i64,
-    buffer: &mut [u8],
-) -> isize
-    ensures { Answers result (λ answer. IsDescribed texts.now items.now
-        (local_value seconds nanosecond offset) facts_of_offset_date_time
-        answer buffer.old buffer.new) }
-{
-    let value = local_value(seconds, nanosecond, offset);
-    answer_number(write_described(items, texts, value, buffer))
-}
-
-/// The text of a date.
-#[unsafe(no_mangle)]
-pub extern "C" fn movaliren_items_format_date(
-    items: &[Item],
-    texts: &[u8],
-    year: i32,
-    month: u8,
-    day: u8,
-    buffer: &mut [u8],
-) -> isize
-    ensures { Answers result (λ answer. IsDescribed texts.now items.now
-        (date_value year month day) facts_of_date answer buffer.old buffer.new) }
-{
-    answer_number(write_described(items, texts, date_value(year, month, day), buffer))
-}
-
-/// A number of bytes that no text of the description exceeds, up to the greatest `isize`.
-#[unsafe(no_mangle)]
-pub extern "C" fn movaliren_items_max_length(items: &[Item], texts: &[u8]) -> isize
-    ensures { Answers result (λ answer. answer ≡ width_answer (trees_of texts.now items.now)) }
-{
-    answer_number(width(items, texts))
 }
 
 /// Writes the text of the value by the description, if there are both.
@@ -147,7 +70,7 @@ pub fn write_described<V: ComponentProvider<State: Drop> + Drop>(
 
 /// Writes the text of a moment by the description, if there are both. Its month and its day of the
 /// month are at hand, and need not be computed from the day of the year.
-fn write_moment(
+pub fn write_moment(
     items: &[Item],
     texts: &[u8],
     moment: &Moment,
@@ -208,7 +131,7 @@ pub fn first_reason(items: &[Item], texts: &[u8], reason: Reason) -> Reason
 /// Writes the text of the items to the start of a buffer, or as much of it as fits. Returns the
 /// number of bytes of the whole text, up to the greatest `usize`.
 #[inline(never)]
-pub fn write_items<B: Before, V: ComponentProvider>(
+pub fn write_items<B: OldBytes, V: ComponentProvider>(
     items: &[Item],
     texts: &[u8],
     value: &V,
@@ -221,7 +144,7 @@ pub fn write_items<B: Before, V: ComponentProvider>(
         result room.old room.new }
     ensures agrees { V.agrees state.new value.now }
 {
-    let mut output = RoomSink::<B>::new(room);
+    let mut output = SliceSink::<B>::new(room);
     match put_items(items, texts, &mut output, value, state) {
         Ok(lost) => Ok(output.len().saturating_add(lost)),
         Err(reason) => Err(first_reason(items, texts, reason)),
@@ -247,7 +170,7 @@ fn put_items<S: Sink, V: ComponentProvider>(
 {
     let mut lost = 0usize;
     let mut left = items;
-    while let [item, behind @ ..] = write_all(left, texts, output, value, state)? {
+    while let [item, behind @ ..] = write_steps_inline(left, texts, output, value, state)? {
         lost = lost.saturating_add(write_item(item, texts, output, value, state)?);
         left = behind;
     }
@@ -260,11 +183,9 @@ impl<'a> WriteStep<&'a [u8]> for Item {
 
     ghost is_valid = { λ texts item. is_ok (item_tree texts.now item) };
 
-    ghost may_stop = { λ _. true };
-
     ghost has_room = { false };
 
-    fn write_often<S: Sink, V: ComponentProvider>(
+    fn write_inline<S: Sink, V: ComponentProvider>(
         &self,
         texts: &'a [u8],
         output: &mut S,
@@ -272,17 +193,6 @@ impl<'a> WriteStep<&'a [u8]> for Item {
         state: &mut V::State,
     ) -> Option<Result<(), Refused>> {
         write_usual(self, texts, output, value, state)
-    }
-
-    /// None: the loop stops before an item that is not met often.
-    fn write_seldom<S: Sink, V: ComponentProvider>(
-        &self,
-        _texts: &'a [u8],
-        _output: &mut S,
-        _value: &V,
-        _state: &mut V::State,
-    ) -> Option<Result<(), Refused>> {
-        None
     }
 }
 
@@ -500,17 +410,17 @@ fn write_whole<S: Sink, V: ComponentProvider>(
     ensures agrees { V.agrees state.new value.now }
 {
     if LONGEST <= output.room() {
-        end_shown(&shown, output, value, state)?;
+        write_shown(&shown, output, value, state)?;
         return Ok(0);
     }
     let mut array = [0u8; LONGEST];
-    let count = write_shown::<Brand, V>(&shown, &mut array, value, state)?;
+    let count = write_at_start::<Brand, V>(&shown, &mut array, value, state)?;
     Ok(write_text(output, &array[..count]))
 }
 
 /// Writes what an item shows to the start of a buffer with room for it, and returns the number of
 /// bytes.
-fn write_shown<B: Before, V: ComponentProvider>(
+fn write_at_start<B: OldBytes, V: ComponentProvider>(
     shown: &Shown,
     room: &mut [u8],
     value: &V,
@@ -525,8 +435,8 @@ fn write_shown<B: Before, V: ComponentProvider>(
         (λ reason. IsRefusedFor reason (tree_outcome (shown_tree shown.now) (V.facts value.now))) }
     ensures agrees { V.agrees state.new value.now }
 {
-    let mut output = RoomSink::<B>::new(room);
-    end_shown(shown, &mut output, value, state)?;
+    let mut output = SliceSink::<B>::new(room);
+    write_shown(shown, &mut output, value, state)?;
     Ok(output.len())
 }
 

@@ -1,6 +1,6 @@
-//! The well-known formats, stamps and the time of a line of a log, written.
+//! The well-known formats and stamps, written.
+mod imf_fixdate;
 pub mod iso8601;
-mod log;
 mod moment_text;
 mod rfc2822;
 mod rfc3339;

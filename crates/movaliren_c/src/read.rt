@@ -1,19 +1,17 @@
 //! Texts read back as moments: RFC 3339, and what the other readers share.
-ghost use Rattle.movaliren_c.specs.Place.{place_of};
 ghost use Rattle.movaliren_c.specs.Reading.{IsByParts, IsInUtc, IsRead, Leaves, Rfc3339Reads};
 ghost use Rattle.time_below.specs.Moment.{OffsetDateAndTime};
 ghost use Rattle.time_known.specs.Rfc3339Grammar.{Rfc3339Spells};
 ghost use Rattle.time_read.specs.Lenient.{Rfc3339Means};
 
 mod iso8601;
-mod items;
+pub mod items;
 mod mail;
-mod place;
-mod steps;
+pub mod place;
 
 use crate::answers::reason::{Reason, answer_number};
 use crate::values::moment::{Moment, UtcMoment, parts_of};
-use place::{ReadError, ReadFault};
+use place::{ReadError, place_of};
 use time_below::OffsetDateTime;
 use time_read::{NotRead, rfc3339};
 
@@ -52,12 +50,12 @@ impl OfValue for UtcMoment {
 }
 
 /// Keeps the value, or the position where the text is none.
-fn keep<M: OfValue, E: ReadFault>(
-    reading: Result<OffsetDateTime, E>,
+fn keep<M: OfValue>(
+    reading: Result<OffsetDateTime, NotRead>,
     moment: &mut M,
     place: &mut ReadError,
 ) -> isize
-    ensures { Leaves M.Holds E.place reading result moment.old moment.new place.old place.new }
+    ensures { Leaves M.Holds reading result moment.old moment.new place.old place.new }
 {
     match reading {
         Ok(value) => {
@@ -65,7 +63,7 @@ fn keep<M: OfValue, E: ReadFault>(
             answer_number(Ok(0))
         }
         Err(error) => {
-            *place = error.place();
+            *place = place_of(error);
             answer_number(Err(Reason::NotRead))
         }
     }
@@ -92,7 +90,7 @@ pub extern "C" fn movaliren_read_rfc3339(
     moment: &mut Moment,
     error: &mut ReadError,
 ) -> isize
-    ensures { IsRead (Rfc3339Reads Rfc3339Spells) place_of IsByParts text.now result
+    ensures { IsRead (Rfc3339Reads Rfc3339Spells) IsByParts text.now result
         moment.old moment.new error.old error.new }
 {
     keep(strictly(text), moment, error)
@@ -105,7 +103,7 @@ pub extern "C" fn movaliren_read_rfc3339_lenient(
     moment: &mut Moment,
     error: &mut ReadError,
 ) -> isize
-    ensures { IsRead (Rfc3339Reads Rfc3339Means) place_of IsByParts text.now result
+    ensures { IsRead (Rfc3339Reads Rfc3339Means) IsByParts text.now result
         moment.old moment.new error.old error.new }
 {
     keep(leniently(text), moment, error)
@@ -118,7 +116,7 @@ pub extern "C" fn movaliren_read_rfc3339_utc(
     moment: &mut UtcMoment,
     error: &mut ReadError,
 ) -> isize
-    ensures { IsRead (Rfc3339Reads Rfc3339Spells) place_of IsInUtc text.now result
+    ensures { IsRead (Rfc3339Reads Rfc3339Spells) IsInUtc text.now result
         moment.old moment.new error.old error.new }
 {
     keep(strictly(text), moment, error)
@@ -131,7 +129,7 @@ pub extern "C" fn movaliren_read_rfc3339_lenient_utc(
     moment: &mut UtcMoment,
     error: &mut ReadError,
 ) -> isize
-    ensures { IsRead (Rfc3339Reads Rfc3339Means) place_of IsInUtc text.now result
+    ensures { IsRead (Rfc3339Reads Rfc3339Means) IsInUtc text.now result
         moment.old moment.new error.old error.new }
 {
     keep(leniently(text), moment, error)

@@ -18,11 +18,11 @@ _movaliren() {
             mapfile -t COMPREPLY < <(compgen -W "rfc3339 clf syslog log4j rfc2822 iso8601" -- "$word")
             return
             ;;
-        --offset | --year | --digits | -d | --after | -a) return ;;
+        --offset | --decimals | --year | --years | --digits | -d | --after | -a) return ;;
     esac
-    options="--utc --offset --zone --local --help"
+    options="--utc --offset --zone --local --decimals --help"
     case $job in
-        unix) options+=" --after --all --json --digits --seconds --milliseconds --microseconds --nanoseconds --quiet" ;;
+        unix) options+=" --after --all --json --digits --years --seconds --milliseconds --microseconds --nanoseconds --quiet" ;;
         read) options+=" --from --from-zone --year --json --quiet" ;;
     esac
     if [[ $word == -* ]]; then
@@ -30,11 +30,11 @@ _movaliren() {
     elif [ "$job" = help ]; then
         mapfile -t COMPREPLY < <(compgen -W "now unix read" -- "$word")
     elif [ "$job" = read ]; then
-        mapfile -t COMPREPLY < <(compgen -W "rfc3339 rfc2822 iso8601 stamp unix" -f -- "$word")
+        mapfile -t COMPREPLY < <(compgen -W "rfc3339 rfc2822 http iso8601 stamp unix" -f -- "$word")
     elif [ "$job" = unix ]; then
-        mapfile -t COMPREPLY < <(compgen -W "rfc3339 rfc2822 iso8601 stamp" -f -- "$word")
+        mapfile -t COMPREPLY < <(compgen -W "rfc3339 rfc2822 http iso8601 stamp" -f -- "$word")
     else
-        mapfile -t COMPREPLY < <(compgen -W "rfc3339 rfc2822 iso8601 stamp" -- "$word")
+        mapfile -t COMPREPLY < <(compgen -W "rfc3339 rfc2822 http iso8601 stamp" -- "$word")
     fi
 }
 complete -o filenames -F _movaliren movaliren

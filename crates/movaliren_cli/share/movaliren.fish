@@ -15,12 +15,14 @@ complete -c movaliren -n __fish_use_subcommand -a read -d 'Replace a text that i
 complete -c movaliren -n __fish_use_subcommand -a help -d 'Print help'
 complete -c movaliren -n __fish_use_subcommand -s V -l version -d 'Print the version'
 complete -c movaliren -s h -l help -d 'Print help'
-complete -c movaliren -n "__fish_seen_subcommand_from $jobs" -a 'rfc3339 rfc2822 iso8601 stamp'
+complete -c movaliren -n "__fish_seen_subcommand_from $jobs" -a 'rfc3339 rfc2822 http iso8601 stamp'
 complete -c movaliren -n "__fish_seen_subcommand_from read" -a unix
 complete -c movaliren -n "__fish_seen_subcommand_from $jobs" -s u -l utc -d 'Show UTC'
 complete -c movaliren -n "__fish_seen_subcommand_from $jobs" -l offset -x -d 'Show the time at an offset'
 complete -c movaliren -n "__fish_seen_subcommand_from $jobs" -s z -l zone -x -a '(__movaliren_zones)' -d 'Show the time in a zone'
 complete -c movaliren -n "__fish_seen_subcommand_from $jobs" -s l -l local -d 'Show the time in the zone of the system'
+complete -c movaliren -n "__fish_seen_subcommand_from $jobs" -l decimals -x -d 'How many decimals of a second'
+complete -c movaliren -n "__fish_seen_subcommand_from unix" -l years -x -a 1970..9999 -d 'The first and the last year of numbers'
 complete -c movaliren -n "__fish_seen_subcommand_from unix" -s d -l digits -x -d 'How many digits a number has at least'
 complete -c movaliren -n "__fish_seen_subcommand_from unix read" -F
 complete -c movaliren -n "__fish_seen_subcommand_from unix" -s a -l after -x -d 'Look for numbers behind a text'

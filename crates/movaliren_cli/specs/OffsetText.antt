@@ -18,10 +18,13 @@ offset_of_parts is_negative (Some h) (Some m) (Some s) =
     }) else None
 offset_of_parts _ _ _ _ = None
 
--- the offset of `05`, `0530`, `05:30` or `05:30:15` with a sign
+-- the offset of `5`, `05`, `5:30`, `0530`, `05:30` or `05:30:15` with a sign
 abbrev pub offset_of_digits : Bool → List ℕ → Option Offset
+offset_of_digits sign (a ∷ []) = offset_of_parts sign (pair 48 a) (Some 0) (Some 0)
 offset_of_digits sign (a ∷ b ∷ []) = offset_of_parts sign (pair a b) (Some 0) (Some 0)
-offset_of_digits sign (a ∷ b ∷ c ∷ d ∷ []) = offset_of_parts sign (pair a b) (pair c d) (Some 0)
+offset_of_digits sign (a ∷ b ∷ c ∷ d ∷ []) =
+    if b == 58 then offset_of_parts sign (pair 48 a) (pair c d) (Some 0)
+    else offset_of_parts sign (pair a b) (pair c d) (Some 0)
 offset_of_digits sign (a ∷ b ∷ x ∷ c ∷ d ∷ []) =
     if x == 58 then offset_of_parts sign (pair a b) (pair c d) (Some 0) else None
 offset_of_digits sign (a ∷ b ∷ x ∷ c ∷ d ∷ y ∷ e ∷ f ∷ []) =

@@ -2,16 +2,17 @@
 use Rattle.std.specs.Prelude.{ℕ, ◌==◌, Bool, ◌||◌, ◌&&◌, not, nat_le, bytes_eq, codes, List, Option, Some, None, is_some, if◌then◌else◌}
 use Rattle.movaliren_cli.specs.Refusal.{has_bracket, has_percent}
 use Rattle.movaliren_cli.specs.declared.description.NamedFormat.{NamedFormat}
-use Rattle.movaliren_cli.specs.declared.description.NamedFormat.TheVariants.{Rfc3339, Rfc2822, Iso8601, Stamp, Unix}
+use Rattle.movaliren_cli.specs.declared.description.NamedFormat.TheVariants.{Rfc3339, Rfc2822, ImfFixdate, Iso8601, Stamp, Unix}
 
 -- the format of a name
 unfoldable pub format_named : List ℕ → Option NamedFormat
 format_named name =
     if bytes_eq name (codes "rfc3339") then Some Rfc3339
     else (if bytes_eq name (codes "rfc2822") then Some Rfc2822
+    else (if bytes_eq name (codes "http") then Some ImfFixdate
     else (if bytes_eq name (codes "iso8601") then Some Iso8601
     else (if bytes_eq name (codes "stamp") then Some Stamp
-    else (if bytes_eq name (codes "unix") then Some Unix else None))))
+    else (if bytes_eq name (codes "unix") then Some Unix else None)))))
 
 -- a word is a description if it is such a name, or has a percent sign or a bracket
 abbrev pub is_description : List ℕ → Bool

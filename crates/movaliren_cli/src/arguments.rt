@@ -45,6 +45,8 @@ pub struct Texts<'a> {
 #[derive(Drop)]
 pub struct Task<'a> {
     pub job: Job,
+    /// The years of which a number is that has its unit by its digits, if they are given.
+    pub years: Option<&'a str>,
     /// The text after which Unix time is looked for.
     pub after: Option<&'a str>,
     /// The texts that are read.
@@ -55,6 +57,8 @@ pub struct Task<'a> {
     pub is_quiet: bool,
     /// The files that are read, where `-` is standard input. With none that is read.
     pub files: Vec<&'a str>,
+    /// The first file may be a description that was meant, since no description is given.
+    pub has_no_description: bool,
 }
 
 /// What is asked for.
@@ -62,6 +66,8 @@ pub struct Task<'a> {
 pub struct Asked<'a> {
     pub task: Task<'a>,
     pub description: &'a str,
+    /// How many decimals of a second are shown, if that is asked for.
+    pub decimals: Option<u8>,
     pub clock: Clock<'a>,
 }
 
@@ -78,8 +84,9 @@ macro_rules! descriptions {
         concat!(
             "\
 Descriptions:
-  rfc3339        2023-11-14T22:13:20.123Z
+  rfc3339        2023-11-14T22:13:20.123Z, the default
   rfc2822        Tue, 14 Nov 2023 22:13:20 +0000
+  http           Tue, 14 Nov 2023 22:13:20 GMT, always in UTC
   iso8601        2023-11-14T22:13:20.123000000Z
   stamp          the same, always in UTC: sorts as the moments do
   unix           1700000000, always seconds since 1970
@@ -110,7 +117,8 @@ const READ_DESCRIPTIONS: &str = descriptions_and_files!(
     "
 
 Texts that --from reads:
-  rfc3339        2023-11-14T22:13:20.123Z, of any number of decimals
+  rfc3339        2023-11-14T22:13:20.123Z, of any number of decimals, also with a space for T
+                 or with +hhmm, and then of none, 3, 6 or 9 decimals; the default
   clf            14/Nov/2023:22:13:20 +0000, of nginx and Apache
   syslog         Nov 14 22:13:20
   log4j          2023-11-14 22:13:20,123, also of Python's logging
@@ -119,10 +127,20 @@ Texts that --from reads:
                  or 9 decimals
   a text with % or [, in which times stand as that text writes them
 
-A time without an offset is that of --from-zone. One that its clocks skip is read
-by the offset before the change, and of one that they show twice the first is taken.
+A time without an offset is that of --from-zone, or else of the clock that is named to be
+shown, or else of the system's zone. One that its clocks skip is read by the offset before
+the change, and of one that they show twice the first is taken. A line whose time goes on
+with decimals or an offset that the description does not have passes as it is.
 A time without a year is of the latest year in which it is at most a day after now."
 );
+
+const EXAMPLES: &str = "\
+Examples:
+  some-server | movaliren now --local
+  movaliren unix --zone Europe/Berlin audit.log
+  movaliren unix --json --after '\"ts\":' '%F %T' app.json
+  docker logs -t web | movaliren read --local %T
+  movaliren read --from clf --local access.log";
 
 /// What follows the name of an option.
 struct Takes {
@@ -171,12 +189,28 @@ const DIGIT_COUNT: Takes = Takes {
     parser: ValueParser::Signed(1, 19),
 };
 
-/// A year.
+/// A year of four digits.
 const YEAR_NUMBER: Takes = Takes {
     action: ArgAction::Set,
     names: &["N"],
+    is_signed: false,
+    parser: ValueParser::Signed(1_000, 9_999),
+};
+
+/// The first and the last of some years.
+const YEARS_TEXT: Takes = Takes {
+    action: ArgAction::Set,
+    names: &["YEARS"],
     is_signed: true,
-    parser: ValueParser::Signed(-9_999, 9_999),
+    parser: ValueParser::String,
+};
+
+/// How many decimals of a second there are.
+const DECIMAL_COUNT: Takes = Takes {
+    action: ArgAction::Set,
+    names: &["N"],
+    is_signed: false,
+    parser: ValueParser::Signed(0, 9),
 };
 
 const DESCRIPTION_TEXT: Takes = Takes {
@@ -227,6 +261,28 @@ const LOCAL: OptionRow = OptionRow {
     takes: NOTHING,
     help: "Shows the time in the zone of the system, or that TZ gives: a name, with a colon before \
         it or without, or a rule such as EST5EDT",
+};
+
+const DECIMALS: OptionRow = OptionRow {
+    name: "decimals",
+    letter: None,
+    groups: &[],
+    takes: DECIMAL_COUNT,
+    help: "How many decimals of a second rfc3339, iso8601 and stamp have [default: of rfc3339 as \
+        many as the time had]",
+};
+
+const NOW_DECIMALS: OptionRow = OptionRow {
+    help: "How many decimals of a second rfc3339, iso8601 and stamp have [default: of rfc3339 3]",
+    ..DECIMALS
+};
+
+const YEARS: OptionRow = OptionRow {
+    name: "years",
+    letter: None,
+    groups: &["unit"],
+    takes: YEARS_TEXT,
+    help: "The first and the last year of which a number is, as 1970..9999 [default: 1990..2060]",
 };
 
 const AFTER: OptionRow = OptionRow {
@@ -321,7 +377,7 @@ const FROM_ZONE: OptionRow = OptionRow {
     groups: &[],
     takes: NAME_TEXT,
     help: "The zone of texts without an offset, as UTC or Europe/Berlin [default: the one that is \
-        shown]",
+        named to be shown, or else that of the system]",
 };
 
 const YEAR: OptionRow = OptionRow {
@@ -347,7 +403,7 @@ const JOBS: &[JobRow] = &[
     JobRow {
         name: "now",
         about: "Puts the time at which it was read before each line",
-        options: &[&UTC, &OFFSET, &ZONE, &LOCAL],
+        options: &[&UTC, &OFFSET, &ZONE, &LOCAL, &NOW_DECIMALS],
         takes_files: false,
         descriptions: NOW_DESCRIPTIONS,
     },
@@ -355,16 +411,18 @@ const JOBS: &[JobRow] = &[
         name: "unix",
         about: "Replaces the first Unix time of each line by its text. By its digits before the \
             point a number is seconds (10, or 9 with --digits 9), milliseconds (12 or 13), \
-            microseconds (15 or 16) or nanoseconds (18 or 19)",
+            microseconds (15 or 16) or nanoseconds (18 or 19), of the years 1990 to 2060",
         options: &[
             &UTC,
             &OFFSET,
             &ZONE,
             &LOCAL,
+            &DECIMALS,
             &AFTER,
             &ALL,
             &JSON,
             &DIGITS,
+            &YEARS,
             &SECONDS,
             &MILLISECONDS,
             &MICROSECONDS,
@@ -377,9 +435,9 @@ const JOBS: &[JobRow] = &[
     JobRow {
         name: "read",
         about: "Replaces the first text of each line that is a time, by default one of RFC 3339 \
-            such as 2023-11-14T22:13:20Z",
+            such as 2023-11-14T22:13:20Z or 2023-11-14 22:13:20+00:00",
         options: &[
-            &UTC, &OFFSET, &ZONE, &LOCAL, &FROM, &FROM_ZONE, &YEAR, &READ_JSON, &QUIET,
+            &UTC, &OFFSET, &ZONE, &LOCAL, &DECIMALS, &FROM, &FROM_ZONE, &YEAR, &READ_JSON, &QUIET,
         ],
         takes_files: true,
         descriptions: READ_DESCRIPTIONS,
@@ -403,9 +461,7 @@ fn option<'a>(alloc: Global, row: &OptionRow) -> Result<Arg<'a>, AllocError> {
 
 /// The description, which needs no name.
 fn description<'a>(alloc: Global) -> Arg<'a> {
-    Arg::new(alloc, "DESCRIPTION")
-        .help("What the text of a moment looks like")
-        .default_value(USUAL)
+    Arg::new(alloc, "DESCRIPTION").help("What the text of a time looks like [default: rfc3339]")
 }
 
 /// The files, which need no name either.
@@ -441,23 +497,26 @@ fn command<'a>(alloc: Global) -> Result<Command<'a>, AllocError> {
     Command::new(alloc, "movaliren")
         .version("0.1.0")
         .bin_name("movaliren")?
-        .about("Formats the moments of the lines of files or of standard input")
+        .about("Makes the times of log lines readable, or puts the present time before each line")
+        .after_help(EXAMPLES)
         .subcommand_required(true)
         .arg_required_else_help(true)
         .subcommands(below)
 }
 
-fn clock_of<'a>(matches: &ArgMatches<'a>) -> Clock<'a> {
+/// The clock that is named to be shown, if one is.
+fn clock_of<'a>(matches: &ArgMatches<'a>) -> Option<Clock<'a>> {
     if matches.get_flag("local") {
-        return Clock::Local;
+        return Some(Clock::Local);
+    }
+    if matches.get_flag("utc") {
+        return Some(Clock::Utc);
     }
     if let Some(name) = matches.get_str("zone") {
-        return Clock::Zone(name);
+        return Some(Clock::Zone(name));
     }
-    match matches.get_str("offset") {
-        None => Clock::Utc,
-        Some(text) => Clock::Offset(text),
-    }
+    let text = matches.get_str("offset")?;
+    Some(Clock::Offset(text))
 }
 
 /// The unit that is asked for, if one is.
@@ -490,17 +549,19 @@ fn job_of(name: &str, words: &ArgMatches<'_>) -> Job {
         _ => Job::Unix(Numbers {
             unit: unit_of(words),
             least: least_of(words),
+            window: None,
             is_all: words.get_flag("all"),
             is_json: words.get_flag("json"),
         }),
     }
 }
 
-/// The texts that are read. Where no zone is named for them, they are of the clock that is shown.
+/// The texts that are read. Where no zone is named for them, they are of the clock that is named to
+/// be shown, or else of the system's zone.
 fn texts_of<'a>(matches: &ArgMatches<'a>) -> Texts<'a> {
     let (clock, has_own_clock) = match matches.get_str("from-zone") {
         Some(name) => (Clock::Zone(name), true),
-        None => (clock_of(matches), false),
+        None => (clock_of(matches).unwrap_or(Clock::Local), false),
     };
     Texts {
         from: matches.get_str("from").unwrap_or(reading::USUAL),
@@ -510,19 +571,19 @@ fn texts_of<'a>(matches: &ArgMatches<'a>) -> Texts<'a> {
     }
 }
 
-/// The description and the files of the words that need no name. Where a job takes files, the first
+/// The description, if one is given, and the files of the words that need no name. Where a job takes files, the first
 /// word is a description if it is the name of a format or has a bracket or a percent sign, and else
 /// a file.
 fn words_of<'a>(
     alloc: Global,
     name: &str,
     words: &ArgMatches<'a>,
-) -> Result<(&'a str, Vec<&'a str>), AllocError> {
+) -> Result<(Option<&'a str>, Vec<&'a str>), AllocError> {
     let mut files = Vec::new(alloc);
-    let mut description = USUAL;
+    let mut description = None;
     if let Some(first) = words.get_str("DESCRIPTION") {
         if name == "now" || description::is_description(first) {
-            description = first;
+            description = Some(first);
         } else {
             files.push(first)?;
         }
@@ -545,14 +606,17 @@ fn asked_of<'a>(
     Ok(Asked {
         task: Task {
             job: job_of(name, words),
+            years: words.get_str("years"),
             after: words.get_str("after"),
             texts: texts_of(words),
             is_json: words.get_flag("json"),
             is_quiet: words.get_flag("quiet"),
             files,
+            has_no_description: description.is_none(),
         },
-        description,
-        clock: clock_of(words),
+        description: description.unwrap_or(USUAL),
+        decimals: words.get_one::<u8>("decimals"),
+        clock: clock_of(words).unwrap_or(Clock::Utc),
     })
 }
 

@@ -12,6 +12,8 @@ use time_plan::{InvalidDescription, InvalidStrftime, Plan};
 pub enum NamedFormat {
     Rfc3339,
     Rfc2822,
+    /// The date of HTTP, always in UTC.
+    ImfFixdate,
     Iso8601,
     /// That of ISO 8601, always in UTC.
     Stamp,
@@ -28,6 +30,7 @@ impl NamedFormat {
         match name {
             "rfc3339" => Some(NamedFormat::Rfc3339),
             "rfc2822" => Some(NamedFormat::Rfc2822),
+            "http" => Some(NamedFormat::ImfFixdate),
             "iso8601" => Some(NamedFormat::Iso8601),
             "stamp" => Some(NamedFormat::Stamp),
             "unix" => Some(NamedFormat::Unix),

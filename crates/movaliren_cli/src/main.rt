@@ -1,4 +1,4 @@
-//! Formats the moments of the lines of files or of standard input.
+//! Makes the times in the lines of logs readable.
 //!
 //! `movaliren now` puts before each line the moment at which it was read. `movaliren unix` replaces
 //! the first number of each line that is Unix time, or each, by its text. `movaliren read` does so
@@ -8,45 +8,38 @@
 mod arguments;
 mod clock;
 mod description;
+mod hints;
 mod offset;
 mod place;
 mod reading;
+mod reason;
 mod say;
 mod sources;
 mod streams;
+mod window;
 mod zone;
 
-use arguments::{Asked, Job, Task};
+use arguments::{Asked, Clock, Job, Task};
 use clock::FoundClock;
 use description::NamedFormat;
-use line_streams::{FilterError, LineJob, StandardStreams};
+use line_streams::FilterError;
 use memchr::memmem::Finder;
 use place::{InZone, LocalIn};
 use reading::Plans;
 use say::{fail, refuse};
 use std::alloc::AllocError;
-use std::default::Default;
 use std::env;
 use std::process::ExitCode;
+use streams::Streams;
 use time_below::Timestamp;
 use time_fmt::Formattable;
 use time_fmt::parts::UNIX_TIMESTAMP;
 use time_jiff::ZoneClock;
-use time_known::{Iso8601, Rfc2822};
+use time_known::{ImfFixdate, Iso8601, Rfc2822};
 use time_lines::{
-    Described, FormRow, InPlace, InUtc, NowJob, Numbers, Passed, Place, ReadJob, Reads,
-    Rfc3339InPlace, Shows, UnixJob, Utc, Years,
+    Described, Descriptions, FirstOf, FormRow, InPlace, InUtc, NowJob, Numbers, Passed, ReadJob,
+    Reads, Rfc3339Texts, Shows, UnixJob, Years,
 };
-use time_read::LenientReader;
-
-/// Does the job for each line of standard input.
-fn run_job<J: LineJob>(rt: &HostRuntime, job: &mut J) -> Result<(), FilterError> {
-    let mut streams = StandardStreams {
-        input: rt.stdin(),
-        output: rt.stdout(),
-    };
-    line_streams::run(rt.alloc(), job, &mut streams)
-}
 
 /// Puts before each line what is shown of the moment at which it was read.
 fn run_now<S: Shows + Drop>(rt: &HostRuntime, shown: S) -> ExitCode {
@@ -55,8 +48,11 @@ fn run_now<S: Shows + Drop>(rt: &HostRuntime, shown: S) -> ExitCode {
         shown,
         stamp: Vec::new(rt.alloc()),
     };
-    let outcome = run_job(rt, &mut job);
-    fail(rt, outcome)
+    let mut streams = Streams::new(rt);
+    match line_streams::run(rt.alloc(), &mut job, &mut streams) {
+        Ok(()) => ExitCode::SUCCESS,
+        Err(fault) => say::fail_of(rt, fault, &streams.fault),
+    }
 }
 
 /// Replaces the first number of each line that is Unix time, or each.
@@ -66,13 +62,23 @@ fn run_unix<S: Shows + Drop>(
     numbers: Numbers,
     shown: S,
 ) -> ExitCode {
+    let window = match (numbers.unit, window::read(task.years)) {
+        (Some(_), _) => None,
+        (None, Some(window)) => Some(window),
+        (None, None) => {
+            return refuse(
+                rt,
+                "'--years' takes a first and a last year, such as 1970..9999",
+            );
+        }
+    };
     let after = match task.after {
         Some(text) => Some(Finder::new(text.as_bytes())),
         None => None,
     };
     let mut job = UnixJob {
         shown,
-        numbers,
+        numbers: Numbers { window, ..numbers },
         after,
         passed: Passed::new(),
     };
@@ -90,6 +96,7 @@ fn run_reader<S: Shows + Drop, R: Reads + Drop>(
         shown,
         reader,
         passed: Passed::new(),
+        example: Vec::new(rt.alloc()),
     };
     sources::run(rt, task, &mut job)
 }
@@ -109,23 +116,32 @@ fn run_forms<S: Shows + Drop>(
     forms: Vec<FormRow<'_>>,
     years: Years,
 ) -> ExitCode {
-    if task.texts.has_own_clock && !reading::are_local(forms.as_slice()) {
+    let is_local = reading::are_local(forms.as_slice());
+    if task.texts.has_own_clock && !is_local {
         return refuse(rt, OFFSET_IS_SHOWN);
     }
     if task.texts.year.is_some() && !reading::are_yearless(forms.as_slice()) {
         return refuse(rt, YEAR_IS_SHOWN);
     }
-    let found = match clock::find(rt, task.texts.clock) {
+    let clock = if is_local {
+        task.texts.clock
+    } else {
+        Clock::Utc
+    };
+    let found = match clock::find(rt, clock) {
         Ok(found) => found,
         Err(status) => return status,
     };
-    let zone = LocalIn(found.as_time_zone());
-    let reader = Described { forms, years, zone };
-    run_reader(rt, task, shown, reader)
+    let described = Described::new(forms, years, LocalIn(found.as_time_zone()));
+    if task.texts.from == reading::USUAL {
+        run_reader(rt, task, shown, FirstOf(Rfc3339Texts, described))
+    } else {
+        run_reader(rt, task, shown, described)
+    }
 }
 
-/// Replaces the first text of each line that is one of the description that is asked for.
-fn run_described_texts<S: Shows + Drop>(rt: &HostRuntime, task: &Task, shown: S) -> ExitCode {
+/// Replaces the first text of each line that is read.
+fn run_read<S: Shows + Drop>(rt: &HostRuntime, task: &Task, shown: S) -> ExitCode {
     let alloc = rt.alloc();
     let Ok(now) = Timestamp::now(rt) else {
         return fail(rt, Err(FilterError::Job));
@@ -144,25 +160,11 @@ fn run_described_texts<S: Shows + Drop>(rt: &HostRuntime, task: &Task, shown: S)
     }
 }
 
-/// Replaces the first text of each line that is read.
-fn run_read<S: Shows + Drop>(rt: &HostRuntime, task: &Task, shown: S) -> ExitCode {
-    if task.texts.from != reading::USUAL {
-        return run_described_texts(rt, task, shown);
-    }
-    if task.texts.has_own_clock {
-        return refuse(rt, OFFSET_IS_SHOWN);
-    }
-    if task.texts.year.is_some() {
-        return refuse(rt, YEAR_IS_SHOWN);
-    }
-    run_reader(rt, task, shown, LenientReader::new())
-}
-
 /// Whether what is shown can stand in a string of JSON, by the text of one moment: what a
 /// description shows beside its numbers and names is the same in all its texts.
 fn is_for_json<S: Shows>(rt: &HostRuntime, shown: &mut S) -> Result<bool, AllocError> {
     let mut text = Vec::new(rt.alloc());
-    shown.append(&mut text, &Timestamp::UNIX_EPOCH)?;
+    shown.append(&mut text, &Timestamp::UNIX_EPOCH, 0)?;
     Ok(description::is_json_text(text.as_slice()))
 }
 
@@ -188,39 +190,104 @@ fn run<S: Shows + Drop>(rt: &HostRuntime, task: &Task, mut shown: S) -> ExitCode
     }
 }
 
-/// Runs by a description, at the clock that is asked for.
-fn run_by<F: Formattable + Drop>(rt: &HostRuntime, asked: &Asked, description: F) -> ExitCode {
+/// Runs by descriptions, at the clock that is asked for.
+fn run_by<F: Formattable + Drop>(
+    rt: &HostRuntime,
+    asked: &Asked,
+    descriptions: Descriptions<F>,
+) -> ExitCode {
     match clock::find(rt, asked.clock) {
-        Ok(FoundClock::Utc) => run(rt, &asked.task, InUtc { description }),
+        Ok(FoundClock::Utc) => run(rt, &asked.task, InUtc { descriptions }),
         Ok(FoundClock::Zone(zone)) => {
             let place = InZone(ZoneClock::new(zone.as_time_zone()));
-            run(rt, &asked.task, InPlace { description, place })
+            run(
+                rt,
+                &asked.task,
+                InPlace {
+                    descriptions,
+                    place,
+                },
+            )
         }
         Err(status) => status,
     }
 }
 
-/// Runs by RFC 3339, for which the text of a day is cached, at the clock of a place.
-fn run_days<P: Place + Drop>(rt: &HostRuntime, task: &Task, place: P) -> ExitCode {
-    run(rt, task, Rfc3339InPlace::new(place))
+/// One description, which has its own decimals, so that no others are asked for.
+fn only<F: Formattable + Drop>(
+    rt: &HostRuntime,
+    asked: &Asked,
+    description: F,
+) -> Result<Descriptions<F>, ExitCode> {
+    match asked.decimals {
+        Some(_) => Err(refuse(rt, "'--decimals' is for rfc3339, iso8601 and stamp")),
+        None => Ok(Descriptions::one(rt.alloc(), description)),
+    }
 }
 
-/// Runs by RFC 3339, at the clock that is asked for.
+/// Runs by one description, at the clock that is asked for.
+fn run_one<F: Formattable + Drop>(rt: &HostRuntime, asked: &Asked, description: F) -> ExitCode {
+    match only(rt, asked, description) {
+        Ok(descriptions) => run_by(rt, asked, descriptions),
+        Err(status) => status,
+    }
+}
+
+/// Runs by one description in UTC, whatever the clock.
+fn run_in_utc<F: Formattable + Drop>(rt: &HostRuntime, asked: &Asked, description: F) -> ExitCode {
+    match only(rt, asked, description) {
+        Ok(descriptions) => run(rt, &asked.task, InUtc { descriptions }),
+        Err(status) => status,
+    }
+}
+
+/// Whether the clock is at an offset that RFC 3339 does not have, which ends at 23:59.
+fn is_past_rfc3339(clock: Clock<'_>) -> bool {
+    let Clock::Offset(text) = clock else {
+        return false;
+    };
+    match offset::read(text) {
+        Some(offset) => {
+            let (hours, _, _) = offset.as_hms();
+            hours < -23 || hours > 23
+        }
+        None => false,
+    }
+}
+
+/// Runs by ISO 8601 with the decimals that are asked for, or else as many as the times had, which
+/// is RFC 3339.
 fn run_rfc3339(rt: &HostRuntime, asked: &Asked) -> ExitCode {
-    match clock::find(rt, asked.clock) {
-        Ok(FoundClock::Utc) => run_days(rt, &asked.task, Utc),
-        Ok(FoundClock::Zone(zone)) => {
-            let clock = ZoneClock::new(zone.as_time_zone());
-            run_days(rt, &asked.task, InZone(clock))
-        }
-        Err(status) => status,
+    let alloc = rt.alloc();
+    if is_past_rfc3339(asked.clock) {
+        return refuse(rt, "RFC 3339 has no offset past 23:59");
     }
+    let descriptions = match asked.decimals {
+        Some(decimals) => Ok(Descriptions::one(alloc, time_lines::with_decimals(decimals))),
+        None => Descriptions::as_read(alloc),
+    };
+    match descriptions {
+        Ok(descriptions) => run_by(rt, asked, descriptions),
+        Err(_) => fail(rt, Err(FilterError::Memory)),
+    }
+}
+
+/// The description of ISO 8601, which has nine decimals unless others are asked for.
+fn iso8601(rt: &HostRuntime, asked: &Asked) -> Descriptions<Iso8601> {
+    let decimals = asked.decimals.unwrap_or(9);
+    Descriptions::one(rt.alloc(), time_lines::with_decimals(decimals))
 }
 
 /// Runs by the description that a text is.
 fn run_text(rt: &HostRuntime, asked: &Asked) -> ExitCode {
+    if asked.description.starts_with("+%") {
+        return refuse(
+            rt,
+            "a description has no + before it, as that of `date` has",
+        );
+    }
     match description::plan_of(rt.alloc(), asked.description) {
-        Ok(plan) => run_by(rt, asked, plan),
+        Ok(plan) => run_one(rt, asked, plan),
         Err(refusal) => say::refuse_description(rt, asked.description, refusal),
     }
 }
@@ -229,16 +296,14 @@ fn run_text(rt: &HostRuntime, asked: &Asked) -> ExitCode {
 fn run_described(rt: &HostRuntime, asked: &Asked) -> ExitCode {
     match NamedFormat::of_name(asked.description) {
         Some(NamedFormat::Rfc3339) => run_rfc3339(rt, asked),
-        Some(NamedFormat::Rfc2822) => run_by(rt, asked, Rfc2822),
-        Some(NamedFormat::Iso8601) => run_by(rt, asked, Iso8601::default()),
+        Some(NamedFormat::Rfc2822) => run_one(rt, asked, Rfc2822),
+        Some(NamedFormat::ImfFixdate) => run_in_utc(rt, asked, ImfFixdate),
+        Some(NamedFormat::Iso8601) => run_by(rt, asked, iso8601(rt, asked)),
         Some(NamedFormat::Stamp) => {
-            let description = Iso8601::default();
-            run(rt, &asked.task, InUtc { description })
+            let descriptions = iso8601(rt, asked);
+            run(rt, &asked.task, InUtc { descriptions })
         }
-        Some(NamedFormat::Unix) => {
-            let description = UNIX_TIMESTAMP;
-            run(rt, &asked.task, InUtc { description })
-        }
+        Some(NamedFormat::Unix) => run_in_utc(rt, asked, UNIX_TIMESTAMP),
         None => run_text(rt, asked),
     }
 }

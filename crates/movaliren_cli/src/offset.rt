@@ -54,11 +54,13 @@ fn of_parts(
     }
 }
 
-/// The offset of `05`, `0530`, `05:30` or `05:30:15` with a sign, if each part is in its range.
+/// The offset of `5`, `05`, `5:30`, `0530`, `05:30` or `05:30:15` with a sign, if each part is in its range.
 fn with_sign(is_negative: bool, text: &[u8]) -> Option<UtcOffset>
     ensures { result ≡ offset_of_digits is_negative text.now }
 {
     match *text {
+        [a] => of_parts(is_negative, pair(b'0', a), Some(0), Some(0)),
+        [a, b':', c, d] => of_parts(is_negative, pair(b'0', a), pair(c, d), Some(0)),
         [a, b] => of_parts(is_negative, pair(a, b), Some(0), Some(0)),
         [a, b, c, d] | [a, b, b':', c, d] => {
             of_parts(is_negative, pair(a, b), pair(c, d), Some(0))

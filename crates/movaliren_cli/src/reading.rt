@@ -4,87 +4,64 @@ use std::alloc::Global;
 use time_below::{Date, Timestamp};
 use time_lines::{Form, FormRow, NoForm};
 use time_plan::Plan;
-use time_plan_read::ReadPlan;
+use time_read::ReadPlan;
 
 /// The name of the texts that are read where nothing else is asked for.
 pub const USUAL: &str = "rfc3339";
 
-/// The descriptions of a name.
+/// The texts of a name: each of these texts, with each of these decimals and each of these offsets.
 struct NameRow {
     name: &'static str,
-    descriptions: &'static [&'static str],
-    /// Descriptions whose texts are in UTC.
-    in_utc: &'static [&'static str],
-    /// Descriptions whose texts show no offset, and have neither one nor decimals behind them.
-    local: &'static [&'static str],
+    texts: &'static [&'static str],
+    decimals: &'static [&'static str],
+    /// An empty one is none, and `Z` that of UTC.
+    offsets: &'static [&'static str],
 }
+
+/// Decimals of a second behind a point, the longest first, or none.
+const AFTER_POINT: &[&str] = &[".%9N", ".%6N", ".%3N", ""];
 
 const NAMES: &[NameRow] = &[
     NameRow {
+        name: "rfc3339",
+        texts: &["%Y-%m-%dT%H:%M:%S", "%Y-%m-%d %H:%M:%S"],
+        decimals: AFTER_POINT,
+        offsets: &["%:z", "%z", "Z"],
+    },
+    NameRow {
         name: "clf",
-        descriptions: &["%d/%b/%Y:%H:%M:%S %z"],
-        in_utc: &[],
-        local: &[],
+        texts: &["%d/%b/%Y:%H:%M:%S"],
+        decimals: &[""],
+        offsets: &[" %z"],
     },
     NameRow {
         name: "syslog",
-        descriptions: &["%b %e %H:%M:%S"],
-        in_utc: &[],
-        local: &[],
+        texts: &["%b %e %H:%M:%S"],
+        decimals: &[""],
+        offsets: &[""],
     },
     NameRow {
         name: "log4j",
-        descriptions: &["%Y-%m-%d %H:%M:%S,%3N"],
-        in_utc: &[],
-        local: &[],
+        texts: &["%Y-%m-%d %H:%M:%S"],
+        decimals: &[",%3N"],
+        offsets: &[""],
     },
     NameRow {
         name: "rfc2822",
-        descriptions: &[
-            "%a, %d %b %Y %H:%M:%S %z",
-            "%a, %-d %b %Y %H:%M:%S %z",
-            "%d %b %Y %H:%M:%S %z",
-            "%-d %b %Y %H:%M:%S %z",
+        texts: &[
+            "%a, %d %b %Y %H:%M:%S",
+            "%a, %-d %b %Y %H:%M:%S",
+            "%d %b %Y %H:%M:%S",
+            "%-d %b %Y %H:%M:%S",
         ],
-        in_utc: &[],
-        local: &[],
+        decimals: &[""],
+        offsets: &[" %z"],
     },
     NameRow {
         name: "iso8601",
-        descriptions: &[
-            "%Y-%m-%dT%H:%M:%S%:z",
-            "%Y-%m-%dT%H:%M:%S.%3N%:z",
-            "%Y-%m-%dT%H:%M:%S.%6N%:z",
-            "%Y-%m-%dT%H:%M:%S.%9N%:z",
-            "%Y-%m-%dT%H:%M:%S,%3N%:z",
-            "%Y-%m-%dT%H:%M:%S,%6N%:z",
-            "%Y-%m-%dT%H:%M:%S,%9N%:z",
-            "%Y-%m-%dT%H:%M:%S%z",
-            "%Y-%m-%dT%H:%M:%S.%3N%z",
-            "%Y-%m-%dT%H:%M:%S.%6N%z",
-            "%Y-%m-%dT%H:%M:%S.%9N%z",
-            "%Y-%m-%dT%H:%M:%S,%3N%z",
-            "%Y-%m-%dT%H:%M:%S,%6N%z",
-            "%Y-%m-%dT%H:%M:%S,%9N%z",
-        ],
-        in_utc: &[
-            "%Y-%m-%dT%H:%M:%SZ",
-            "%Y-%m-%dT%H:%M:%S.%3NZ",
-            "%Y-%m-%dT%H:%M:%S.%6NZ",
-            "%Y-%m-%dT%H:%M:%S.%9NZ",
-            "%Y-%m-%dT%H:%M:%S,%3NZ",
-            "%Y-%m-%dT%H:%M:%S,%6NZ",
-            "%Y-%m-%dT%H:%M:%S,%9NZ",
-        ],
-        local: &[
-            "%Y-%m-%dT%H:%M:%S",
-            "%Y-%m-%dT%H:%M:%S.%3N",
-            "%Y-%m-%dT%H:%M:%S.%6N",
-            "%Y-%m-%dT%H:%M:%S.%9N",
-            "%Y-%m-%dT%H:%M:%S,%3N",
-            "%Y-%m-%dT%H:%M:%S,%6N",
-            "%Y-%m-%dT%H:%M:%S,%9N",
-        ],
+        texts: &["%Y-%m-%dT%H:%M:%S"],
+        decimals: &[".%9N", ".%6N", ".%3N", ",%9N", ",%6N", ",%3N", ""],
+        offsets: &["%:z", "%z", "Z", ""],
     },
 ];
 
@@ -94,8 +71,6 @@ pub struct Plans {
     plans: Vec<Plan>,
     /// Plans whose texts are in UTC.
     in_utc: Vec<Plan>,
-    /// Plans whose texts show no offset, and have neither one nor decimals behind them.
-    local: Vec<Plan>,
 }
 
 /// Why a text is not read by.
@@ -108,77 +83,90 @@ pub enum NotReadBy {
     Memory,
 }
 
-/// The plans of descriptions.
-fn plans_of_each(alloc: Global, descriptions: &[&str]) -> Result<Vec<Plan>, NotReadBy> {
-    let mut plans = Vec::new(alloc);
-    for text in descriptions {
-        let plan = match plan_of(alloc, text) {
-            Ok(plan) => plan,
-            Err(refusal) => return Err(NotReadBy::Refusal(refusal)),
-        };
-        if plans.push(plan).is_err() {
-            return Err(NotReadBy::Memory);
-        }
+/// Adds the plan of a description.
+fn push_plan(alloc: Global, plans: &mut Vec<Plan>, text: &str) -> Result<(), NotReadBy> {
+    let plan = match plan_of(alloc, text) {
+        Ok(plan) => plan,
+        Err(refusal) => return Err(NotReadBy::Refusal(refusal)),
+    };
+    match plans.push(plan) {
+        Ok(()) => Ok(()),
+        Err(_) => Err(NotReadBy::Memory),
     }
-    Ok(plans)
 }
 
 impl Plans {
+    /// No plan.
+    fn none(alloc: Global) -> Plans {
+        Plans {
+            plans: Vec::new(alloc),
+            in_utc: Vec::new(alloc),
+        }
+    }
+
+    /// Adds the plans of a text with these decimals and each of these offsets.
+    fn push_each(
+        &mut self,
+        alloc: Global,
+        text: &str,
+        decimals: &str,
+        offsets: &[&str],
+    ) -> Result<(), NotReadBy> {
+        for offset in offsets {
+            let Ok(description) = format!(in alloc; "{text}{decimals}{offset}") else {
+                return Err(NotReadBy::Memory);
+            };
+            let plans = if *offset == "Z" {
+                &mut self.in_utc
+            } else {
+                &mut self.plans
+            };
+            push_plan(alloc, plans, description.as_str())?;
+        }
+        Ok(())
+    }
+
+    /// The plans of a name.
+    fn of_name(alloc: Global, row: &NameRow) -> Result<Plans, NotReadBy> {
+        let mut plans = Plans::none(alloc);
+        for text in row.texts {
+            for decimals in row.decimals {
+                plans.push_each(alloc, text, decimals, row.offsets)?;
+            }
+        }
+        Ok(plans)
+    }
+
     /// The plans of a name, or of a description.
     pub fn of(alloc: Global, word: &str) -> Result<Plans, NotReadBy> {
         for row in NAMES {
             if row.name == word {
-                let plans = plans_of_each(alloc, row.descriptions)?;
-                let in_utc = plans_of_each(alloc, row.in_utc)?;
-                let local = plans_of_each(alloc, row.local)?;
-                return Ok(Plans {
-                    plans,
-                    in_utc,
-                    local,
-                });
+                return Plans::of_name(alloc, row);
             }
         }
-        let plans = plans_of_each(alloc, &[word])?;
-        let (in_utc, local) = (Vec::new(alloc), Vec::new(alloc));
-        Ok(Plans {
-            plans,
-            in_utc,
-            local,
-        })
+        let mut plans = Plans::none(alloc);
+        push_plan(alloc, &mut plans.plans, word)?;
+        Ok(plans)
     }
 
     /// The forms of the plans. Where texts show a part of the year, the other part is that of the
     /// date.
     pub fn forms(&self, alloc: Global, base: Date) -> Result<Vec<FormRow<'_>>, NotReadBy> {
         let mut forms = Vec::new(alloc);
-        push_forms(&mut forms, self.plans.as_slice(), base, false)?;
         for plan in &self.in_utc {
             match plan.reader::<Timestamp>() {
                 Ok(reader) => push_row(&mut forms, FormRow::new(Form::AtMoment(reader)))?,
                 Err(refused) => return Err(NotReadBy::Form(NoForm::NoReader(refused))),
             }
         }
-        push_forms(&mut forms, self.local.as_slice(), base, true)?;
+        for plan in &self.plans {
+            match Form::of(plan, base) {
+                Ok(form) => push_row(&mut forms, FormRow::new(form))?,
+                Err(refused) => return Err(NotReadBy::Form(refused)),
+            }
+        }
         Ok(forms)
     }
-}
-
-/// Adds the forms of the plans, whose texts are read whatever follows them, or only as a whole.
-fn push_forms<'a>(
-    forms: &mut Vec<FormRow<'a>>,
-    plans: &'a [Plan],
-    base: Date,
-    is_whole: bool,
-) -> Result<(), NotReadBy> {
-    for plan in plans {
-        let mut row = match Form::of(plan, base) {
-            Ok(form) => FormRow::new(form),
-            Err(refused) => return Err(NotReadBy::Form(refused)),
-        };
-        row.is_whole = is_whole;
-        push_row(forms, row)?;
-    }
-    Ok(())
 }
 
 fn push_row<'a>(forms: &mut Vec<FormRow<'a>>, row: FormRow<'a>) -> Result<(), NotReadBy> {

@@ -1,16 +1,17 @@
 //! What is said on standard error, and the status with which the program ends.
 use crate::description::Refusal;
 use crate::reading::NotReadBy;
+use crate::reason::Reason;
 use clap::Error as UsageError;
 use clap::error::ErrorKind;
 use jiff_core::Error as ZoneError;
 use line_streams::FilterError;
 use std::fmt::{Display, Formatter, Write};
 use std::process::ExitCode;
-use std::{fmt, io};
-use time_lines::{NoForm, Passed, Why};
+use std::{env, fmt, io};
+use time_lines::{NoForm, Passed};
 use time_plan::{InvalidDescription, InvalidStrftime};
-use time_plan_read::NoReader;
+use time_read::NoReader;
 
 /// The status of a failure.
 const FAILURE: u8 = 1;
@@ -52,6 +53,27 @@ pub fn fail(rt: &HostRuntime, outcome: Result<(), FilterError>) -> ExitCode {
     ExitCode::from(FAILURE)
 }
 
+/// The same where it is known why a write failed.
+pub fn fail_of(rt: &HostRuntime, outcome: FilterError, fault: &Option<io::Error>) -> ExitCode {
+    match (outcome, fault) {
+        (FilterError::Write, Some(fault)) => {
+            let _ = eprintln!(rt; "movaliren: standard output cannot be written: {fault}");
+            ExitCode::from(FAILURE)
+        }
+        (other, _) => fail(rt, Err(other)),
+    }
+}
+
+/// Says that a word is neither a file nor a description.
+pub fn say_unknown(rt: &HostRuntime, name: &str) {
+    let _ = eprintln!(rt; "movaliren: {name}: no such file, and no description of that name");
+}
+
+/// Says that a description stands behind a file.
+pub fn say_late(rt: &HostRuntime, name: &str) {
+    let _ = eprintln!(rt; "movaliren: {name}: no such file; a description stands before the files");
+}
+
 /// Says that a file cannot be read, or standard input, whose name is `-`.
 pub fn say_unread(rt: &HostRuntime, name: &str, fault: &io::Error) {
     if name == "-" {
@@ -66,25 +88,13 @@ pub fn unread() -> ExitCode {
     ExitCode::from(FAILURE)
 }
 
-/// Why a line passed as it was.
-fn reason(why: Why) -> &'static str {
-    match why {
-        Why::NoPlace => "the text of --after is not in it",
-        Why::NoTime => "no time is in it",
-        Why::NoUnit => "its number has the digits of no unit",
-        Why::NoMoment => "its time is no moment of the years -999999 to 999999",
-        Why::NoLocalMoment => "no clock shows its time in the years -9999 to 9999",
-        Why::NoText => "the description has no text for its time",
-    }
-}
-
 /// Says how many lines passed as they were, if any did, and why the first of them did, which is one
 /// of the file of this name.
-pub fn say_passed(rt: &HostRuntime, passed: &Passed, file: Option<&str>) {
+pub fn say_passed(rt: &HostRuntime, passed: Passed, example: &[u8], file: Option<&str>) {
     let Some(first) = passed.first else {
         return;
     };
-    let why = reason(first.why);
+    let why = Reason::of(rt.alloc(), first.why, example);
     let (line, count) = (first.line, passed.count);
     let (of, name) = match file {
         Some(name) => (" of ", name),
@@ -102,19 +112,14 @@ pub fn say_passed(rt: &HostRuntime, passed: &Passed, file: Option<&str>) {
 
 /// Prints help, the version or a usage error.
 pub fn print_usage(rt: &HostRuntime, error: UsageError) -> ExitCode {
-    let is_memory = matches!(error.kind(), ErrorKind::OutOfMemory);
-    let is_error = error.use_stderr();
-    if is_memory || error.print(rt).is_err() {
-        return fail(
-            rt,
-            Err(if is_memory {
-                FilterError::Memory
-            } else {
-                FilterError::Write
-            }),
-        );
+    if matches!(error.kind(), ErrorKind::OutOfMemory) {
+        return fail(rt, Err(FilterError::Memory));
     }
-    ExitCode::from(if is_error { USAGE } else { 0 })
+    let status = if error.use_stderr() { USAGE } else { 0 };
+    match error.print(rt) {
+        Ok(()) => ExitCode::from(status),
+        Err(fault) => fail_of(rt, FilterError::Write, &Some(fault)),
+    }
 }
 
 /// Says why a zone is not shown: that of a name, or that of the system, which has none.
@@ -124,9 +129,12 @@ pub fn refuse_zone(rt: &HostRuntime, name: Option<&str>, fault: ZoneError) -> Ex
         (ZoneError::TimeZoneNotFound, Some(name)) => {
             eprintln!(rt; "movaliren: no time zone has the name '{name}'")
         }
-        (ZoneError::TimeZoneNotFound, None) => {
-            eprintln!(rt; "movaliren: the variable TZ or /etc/localtime names no time zone")
-        }
+        (ZoneError::TimeZoneNotFound, None) => match env::var(rt, "TZ") {
+            Ok(value) => {
+                eprintln!(rt; "movaliren: the variable TZ names no time zone: '{value}'")
+            }
+            Err(_) => eprintln!(rt; "movaliren: /etc/localtime names no time zone"),
+        },
         (other, Some(name)) => {
             eprintln!(rt; "movaliren: the time zone '{name}' cannot be read: {other}")
         }
@@ -150,6 +158,15 @@ impl Display for OneLine<'_> {
     }
 }
 
+/// What is meant by the conversion of `strftime` in other languages that stands here.
+fn meant_by(text: &str, index: usize) -> &'static str {
+    match text.as_bytes().get(index) {
+        Some(b'f' | b'L' | b'.' | b'0'..=b'9') => "; decimals are %3N, %6N and %9N",
+        Some(b'Z') => "; the offset is %z or %:z",
+        _ => "",
+    }
+}
+
 /// Says why a description is wrong, and shows it with its position marked.
 fn show_mark(rt: &HostRuntime, text: &str, reason: impl Display + Drop, index: usize) -> ExitCode {
     let place = text
@@ -167,7 +184,7 @@ pub fn refuse_description(rt: &HostRuntime, text: &str, refusal: Refusal) -> Exi
         Refusal::Name => {
             let _ = eprintln!(rt;
                 "movaliren: no format has the name '{text}': \
-                 there are rfc3339, rfc2822, iso8601, stamp and unix, and texts with % or ["
+                 there are rfc3339, rfc2822, http, iso8601, stamp and unix, and texts with % or ["
             );
             ExitCode::from(USAGE)
         }
@@ -175,7 +192,8 @@ pub fn refuse_description(rt: &HostRuntime, text: &str, refusal: Refusal) -> Exi
             show_mark(rt, text, reason, index)
         }
         Refusal::Strftime(InvalidStrftime::Invalid { reason, index }) => {
-            show_mark(rt, text, reason, index)
+            let meant = meant_by(text, index);
+            show_mark(rt, text, format_args!("{reason}{meant}"), index)
         }
         _ => fail(rt, Err(FilterError::Memory)),
     }

@@ -1,26 +1,38 @@
 //! A job over files, one after another.
 use crate::arguments::Task;
-use crate::say::{self, fail, say_passed};
+use crate::description;
+use crate::say::{self, say_passed};
 use crate::streams::{Source, Streams};
 use line_streams::{FilterError, LineJob};
-use std::io::ErrorKind;
+use std::io::{self, ErrorKind};
 use std::process::ExitCode;
 use time_lines::{Passed, ReadJob, Reads, Shows, UnixJob};
 
 /// A job that counts lines that passed as they were.
 pub trait CountingJob: LineJob {
     fn passed(&mut self) -> &mut Passed;
+
+    /// The beginning of the first such line, or of what follows its time.
+    fn example(&self) -> &[u8];
 }
 
 impl<S: Shows + Drop> CountingJob for UnixJob<'_, S> {
     fn passed(&mut self) -> &mut Passed {
         &mut self.passed
     }
+
+    fn example(&self) -> &[u8] {
+        &[]
+    }
 }
 
 impl<S: Shows + Drop, R: Reads + Drop> CountingJob for ReadJob<S, R> {
     fn passed(&mut self) -> &mut Passed {
         &mut self.passed
+    }
+
+    fn example(&self) -> &[u8] {
+        self.example.as_slice()
     }
 }
 
@@ -53,6 +65,18 @@ fn run_source<J: CountingJob>(
     }
 }
 
+/// Says why a file was not opened. Its name may be one of a description that was meant.
+fn say_unopened(rt: &HostRuntime, name: &str, may_be_name: bool, fault: &io::Error) {
+    let is_absent = fault.kind() == ErrorKind::NotFound;
+    if is_absent && description::is_description(name) {
+        say::say_late(rt, name);
+    } else if is_absent && may_be_name {
+        say::say_unknown(rt, name);
+    } else {
+        say::say_unread(rt, name, fault);
+    }
+}
+
 /// Does the job for each line of a file, where one that cannot be opened is said. Says whether all
 /// of it was read.
 fn run_file<J: CountingJob>(
@@ -60,6 +84,7 @@ fn run_file<J: CountingJob>(
     job: &mut J,
     streams: &mut Streams,
     name: &str,
+    may_be_name: bool,
 ) -> Result<bool, FilterError> {
     match Source::open(rt, name) {
         Ok(source) => {
@@ -70,7 +95,7 @@ fn run_file<J: CountingJob>(
             if fault.kind() == ErrorKind::OutOfMemory {
                 return Err(FilterError::Memory);
             }
-            say::say_unread(rt, name, &fault);
+            say_unopened(rt, name, may_be_name, &fault);
             Ok(false)
         }
     }
@@ -80,14 +105,16 @@ fn run_file<J: CountingJob>(
 /// others are read.
 fn run_each<J: CountingJob>(
     rt: &HostRuntime,
+    task: &Task,
     job: &mut J,
-    names: &[&str],
+    streams: &mut Streams,
     progress: &mut Progress,
 ) -> Result<(), FilterError> {
-    let mut streams = Streams::new(rt);
+    let names = task.files.as_slice();
     for at in 0..names.len() {
         let had_first = job.passed().first.is_some();
-        let is_read = run_file(rt, job, &mut streams, names[at])?;
+        let may_be_name = at == 0 && task.has_no_description;
+        let is_read = run_file(rt, job, streams, names[at], may_be_name)?;
         if !is_read {
             progress.has_unread = true;
         }
@@ -105,31 +132,31 @@ fn run_standard<J: CountingJob>(rt: &HostRuntime, task: &Task, job: &mut J) -> E
     match run_source(rt, job, &mut streams, "-") {
         Ok(true) => {
             if !task.is_quiet {
-                say_passed(rt, job.passed(), None);
+                say_passed(rt, *job.passed(), job.example(), None);
             }
             ExitCode::SUCCESS
         }
         Ok(false) => say::unread(),
-        Err(fault) => fail(rt, Err(fault)),
+        Err(fault) => say::fail_of(rt, fault, &streams.fault),
     }
 }
 
 /// The same for each line of the files that are asked for.
 fn run_files<J: CountingJob>(rt: &HostRuntime, task: &Task, job: &mut J) -> ExitCode {
-    let names = task.files.as_slice();
+    let mut streams = Streams::new(rt);
     let mut progress = Progress {
         has_unread: false,
         first: None,
     };
-    if let Err(fault) = run_each(rt, job, names, &mut progress) {
-        return fail(rt, Err(fault));
+    if let Err(fault) = run_each(rt, task, job, &mut streams, &mut progress) {
+        return say::fail_of(rt, fault, &streams.fault);
     }
     if !task.is_quiet {
         let name = match progress.first {
-            Some(at) => names.get(at).copied(),
+            Some(at) => task.files.get(at).copied(),
             None => None,
         };
-        say_passed(rt, job.passed(), name);
+        say_passed(rt, *job.passed(), job.example(), name);
     }
     if progress.has_unread {
         say::unread()

@@ -41,7 +41,7 @@ pub struct Streams {
     pub is_inside_line: bool,
     /// A line feed is written before anything else, since the source before ended inside a line.
     pub needs_line_feed: bool,
-    /// Why the last read failed.
+    /// Why the last read or write failed.
     pub fault: Option<io::Error>,
 }
 
@@ -76,7 +76,11 @@ impl Streams {
     fn put(&mut self, bytes: &[u8]) -> Result<(), FilterError> {
         match Write::write_all(&mut self.output, bytes) {
             Ok(()) => Ok(()),
-            Err(error) => Err(FilterError::of_write(&error)),
+            Err(error) => {
+                let outcome = FilterError::of_write(&error);
+                self.fault = Some(error);
+                Err(outcome)
+            }
         }
     }
 

@@ -145,8 +145,18 @@ fn read_meant<R: Files + Env + AllocGlobal>(rt: &R, system: SystemTimeZone) -> R
     }
 }
 
-/// Reads the zone of the system.
+/// Whether the system names no zone.
+fn has_no_zone<R: Files + Env + AllocGlobal>(rt: &R) -> bool {
+    let is_set = !matches!(env::var(rt, "TZ"), Err(VarError::NotPresent));
+    !is_set
+        && matches!(fs::metadata(rt, "/etc/localtime"), Err(fault) if fault.kind() == ErrorKind::NotFound)
+}
+
+/// Reads the zone of the system, which is UTC where it names none.
 pub fn read_system<R: Files + Env + AllocGlobal>(rt: &R) -> Result<Zone, Error> {
+    if has_no_zone(rt) {
+        return Ok(Zone::Utc);
+    }
     match SystemTimeZone::read(rt) {
         Ok(system) => read_meant(rt, system),
         Err(fault) => Err(fault),

@@ -1,3 +1,4 @@
 pub mod DecimalLemmas
 pub mod DisplayLemmas
 pub mod LiteralLemmas
+pub mod SpelledLemmas

@@ -1,5 +1,6 @@
 pub mod DisplayText
 pub mod Literals
+pub mod Spelled
 pub use Rattle.time_below.specs.Calendar
 pub use Rattle.time_below.specs.Facts
 pub use Rattle.time_below.specs.Moment
@@ -9,7 +10,10 @@ pub use Rattle.time_below.specs.TimeOfDay
 pub use Rattle.time_below.specs.Weekday
 pub use Rattle.time_fmt.specs.Outcome
 pub use Rattle.time_fmt.specs.Room
+pub use Rattle.time_known.specs.ImfFixdate
 pub use Rattle.time_known.specs.Iso8601
 pub use Rattle.time_known.specs.Rfc2822
+pub use Rattle.time_known.specs.Rfc2822Grammar
 pub use Rattle.time_known.specs.Rfc3339
+pub use Rattle.time_known.specs.Rfc3339Grammar
 pub use Rattle.time_known.specs.Stamps

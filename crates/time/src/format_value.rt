@@ -1,6 +1,4 @@
 //! Values that are formatted by the calls of `time`.
-//!
-//! Without `inline(always)` the compiler leaves calls of the functions that have it.
 ghost use Rattle.std.specs.Prelude.{◌≡◌, ◌≢◌, ◌+◌, ◌<◌, ◌≤◌, None, OnOk, IfOk, IfErr, IsSomeAnd};
 ghost use Rattle.std.specs.Prelude.{IsTrue, IsUtf8, string_bytes, vec_len, vec_capacity};
 ghost use Rattle.time_fmt.specs.Guarantee.{IsTextIf};
@@ -21,12 +19,23 @@ pub trait FormatValue: ComponentProvider
 where
     Self::State: Drop,
 {
-    /// Appends the text of the value. Reserves once if the spare capacity is below the maximum
-    /// length: the capacity becomes what is needed, or twice what it was if that is more.
+    /// Appends the text of the value, and returns the number of bytes appended.
     ///
-    /// Returns the number of bytes appended, or the refusal that ends the text. The bytes appended
-    /// before a refusal stay. If the reservation fails, or the maximum length has reached the
-    /// greatest `usize`, the result is `OutOfMemory`, and the output is unchanged.
+    /// Reserves once if the spare capacity is below the maximum length: the capacity becomes what
+    /// is needed, or twice what it was if that is more.
+    ///
+    /// # Errors
+    ///
+    /// A component that the value does not supply, or that the format cannot represent, ends the
+    /// text. The bytes appended before it stay. If the reservation fails, or the maximum length has
+    /// reached the greatest `usize`, the error is `OutOfMemory`, and the output is unchanged.
+    ///
+    /// # Examples
+    ///
+    /// ```text
+    /// let mut line = Vec::new(rt.alloc());
+    /// moment.format_into(&mut line, &Rfc3339)?; // 2026-11-22T09:55:06.12-06:00
+    /// ```
     #[inline(always)]
     final fn format_into<F: Formattable>(
         &self,
@@ -53,11 +62,15 @@ where
         format.format_into(output, self, &mut Self::State::default())
     }
 
-    /// Appends the text of the value. The output needs spare capacity for the maximum length, which
-    /// must be below the greatest `usize`. Allocates nothing.
+    /// Appends the text of the value, and allocates nothing.
     ///
-    /// Returns the number of bytes appended, or the refusal that ends the text. The bytes appended
-    /// before a refusal stay.
+    /// The output needs spare capacity for the maximum length, which must be below the greatest
+    /// `usize`. Returns the number of bytes appended.
+    ///
+    /// # Errors
+    ///
+    /// A component that the value does not supply, or that the format cannot represent, ends the
+    /// text. The bytes appended before it stay.
     #[inline(always)]
     final fn write_into<F: Formattable>(
         &self,
@@ -77,12 +90,22 @@ where
         format.write_into(output, self, &mut Self::State::default())
     }
 
-    /// The text of the value, after one reservation, or the refusal that ends it. Bytes that are no
-    /// UTF-8, which only byte literals make, are read as a whole with U+FFFD for what is no
-    /// character.
+    /// Returns the text of the value, after one reservation.
     ///
-    /// The result is `OutOfMemory` if an allocation fails, for the text or for reading bytes that
-    /// are no UTF-8, or if the maximum length has reached the greatest `usize`.
+    /// Bytes that are not UTF-8, which only byte literals make, are read as a whole with U+FFFD for
+    /// each ill-formed part.
+    ///
+    /// # Errors
+    ///
+    /// A component that the value does not supply, or that the format cannot represent, is refused.
+    /// The error is `OutOfMemory` if an allocation fails, for the text or for reading bytes that
+    /// are not UTF-8, or if the maximum length has reached the greatest `usize`.
+    ///
+    /// # Examples
+    ///
+    /// ```text
+    /// let day = moment.format(rt.alloc(), &text!(WEEKDAY, b", ", DAY, b" ", MONTH_LONG))?;
+    /// ```
     #[inline(always)]
     final fn format<F: Formattable>(&self, alloc: Global, format: &F) -> Result<String, Format>
         ensures text { IfOk result (λ text. string_bytes text

@@ -4,8 +4,6 @@ ghost use Rattle.std.specs.Prelude.{◌≡◌, IsSomeAnd};
 ghost use Rattle.time.specs.DisplayText.{date_items, time_items, offset_items, date_time_items};
 ghost use Rattle.time.specs.DisplayText.{utc_items, local_items, Spell};
 
-use crate::parse_iso8601::NotReadByIso8601;
-use crate::parse_value::NotReadByPlan;
 use std::fmt::Display;
 use time_below::{Date, OffsetDateTime, PlainDateTime, Time, Timestamp, UtcDateTime, UtcOffset};
 use time_provide::ComponentProvider;
@@ -57,14 +55,4 @@ pub fn offset_date_time_is_shown_by_its_description(value: OffsetDateTime)
 pub fn timestamp_is_shown_by_its_description(value: Timestamp)
     ensures { IsSomeAnd (⟦<Timestamp as Display>⟧.output value)
         (Spell utc_items (⟦<Timestamp as ComponentProvider>⟧.facts value)) }
-{}
-
-/// A clone of an error of reading by a plan is the same.
-pub fn clones_of_errors(error: NotReadByPlan, copy: NotReadByPlan)
-    ensures { ⟦<NotReadByPlan as Clone>⟧.is_clone error copy → copy ≡ error }
-{}
-
-/// A clone of an error of reading by a configuration of ISO 8601 is the same.
-pub fn clones_of_iso8601_errors(error: NotReadByIso8601, copy: NotReadByIso8601)
-    ensures { ⟦<NotReadByIso8601 as Clone>⟧.is_clone error copy → copy ≡ error }
 {}

@@ -10,7 +10,7 @@ ghost use Rattle.time.specs.Literals.{digits_of, is_second, second_of, nanosecon
 
 use time_below::{Date, Month, Time};
 
-/// The date of a year, a month by its number and a day, which the calendar has.
+/// Returns the date of a year, a month by its number and a day, which the calendar has.
 pub fn date_of_numbers(year: i32, month: u8, day: u8) -> Date
     requires year { IsYear year }
     requires month { IsInRange 1 12 month }
@@ -20,7 +20,7 @@ pub fn date_of_numbers(year: i32, month: u8, day: u8) -> Date
     Date::from_valid_calendar_date(year, Month::from_number(month), day)
 }
 
-/// The date of a year and a day of the year, which the calendar has.
+/// Returns the date of a year and a day of the year, which the calendar has.
 pub fn date_of_ordinal(year: i32, ordinal: u16) -> Date
     requires { IsDate (record { year = year; ordinal = ordinal }) }
     ensures { result ≡ record { year = year; ordinal = ordinal } }
@@ -63,8 +63,8 @@ fn number_of(literal: &[u8]) -> (u32, usize)
     (number, count)
 }
 
-/// The time of an hour, a minute and the literal of a second, as `06` or `06.12`, with at most nine
-/// decimals.
+/// Returns the time of an hour, a minute and the literal of a second, such as `06` or `06.12`, with
+/// at most nine decimals.
 pub fn time_of_literal(hour: u8, minute: u8, second: &str) -> Time
     requires literal { IsTrue (is_second second.now) }
     requires time { IsTimeOfDay (record {

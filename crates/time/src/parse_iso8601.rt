@@ -6,20 +6,20 @@ ghost use Rattle.time_known.specs.Iso8601.{iso8601_outcome};
 use crate::parse_value::Parsable;
 use thiserror::Error;
 use time_known::Iso8601;
-use time_read::{NotRead, iso8601};
+use time_read::{NoReader, NotRead, Readable, iso8601};
 
 /// Why a text is not read by a configuration of ISO 8601.
 #[derive(Clone, Copy, Debug, PartialEq, Eq, Error)]
 pub enum NotReadByIso8601 {
     /// No text of the configuration is read as a value of the type.
     #[error("{0}")]
-    NoReader(iso8601::NoReader),
+    NoReader(NoReader),
     /// The text is none of the configuration.
     #[error("{0}")]
     NotRead(NotRead),
 }
 
-impl<V: iso8601::Readable + Drop> Parsable<V> for Iso8601
+impl<V: Readable + Drop> Parsable<V> for Iso8601
 where
     V::State: Drop,
 {

@@ -23,11 +23,17 @@ pub use time_fmt::parts::{
     YEAR, YEAR_CENTURY, YEAR_CENTURY_STANDARD, YEAR_LAST_TWO, YEAR_STANDARD,
 };
 
-/// A description of its parts in order, as `text!(YEAR, b"-", MONTH)`.
+/// Makes a description of its parts in order.
 ///
-/// A text in bytes, as `b"-"`, is a [`Literal`]. Any other part is a description: the choices of a
-/// component, a well-known format, a tree, or another `text!`. At a call there may be 32 parts:
-/// write a longer text by two calls.
+/// A text in bytes, such as `b"-"`, is a [`Literal`]. Any other part is a description: the choices
+/// of a component, a well-known format, a tree, or another `text!`. At a call there may be 32
+/// parts: write a longer text by two calls.
+///
+/// # Examples
+///
+/// ```text
+/// moment.format_into(&mut line, &text!(YEAR, b"-", MONTH, b"-", DAY))?;
+/// ```
 #[macro_export]
 macro_rules! text {
     (@[] [$a:expr]) => { $a };

@@ -133,7 +133,7 @@ day_back t h r =
 
 -- equal parts make equal dates with times
 pub same_date_and_time : (d e : OrdinalDate) (t u : TimeOfDay) → d ≡ e → t ≡ u
-    → ◌≡◌ {A = DateAndTime} (record { date = d; time = t }) (record { date = e; time = u })
+    → ◌≡◌ {A = DateAndTime} (record { date = d; time = t; offset = tt }) (record { date = e; time = u; offset = tt })
 same_date_and_time d e t u same alike = rw (same, alike) refl
 
 -- the UTC date and time of a moment are the only ones that have its seconds
@@ -229,7 +229,7 @@ more_offset all s e h = omega (arith, ints)
 
 -- a date and a time beside one offset
 at_same_offset : (d e : OrdinalDate) (t u : TimeOfDay) (o : Offset)
-    → ◌≡◌ {A = DateAndTime} (record { date = d; time = t }) (record { date = e; time = u })
+    → ◌≡◌ {A = DateAndTime} (record { date = d; time = t; offset = tt }) (record { date = e; time = u; offset = tt })
     → ◌≡◌ {A = OffsetDateAndTime} (record { date = d; time = t; offset = o }) (record { date = e; time = u; offset = o })
 at_same_offset d e t u o same = ap (λ (x : DateAndTime). record { date = x.date; time = x.time; offset = o }) same
 
@@ -238,7 +238,7 @@ pub only_local_at : (m : Moment) (t : OffsetDateAndTime) → IsDate t.date → I
     → local_unix_seconds t ≡ m.seconds → t.time.nanosecond ≡ m.nanosecond → t ≡ local_at m t.offset
 only_local_at m t h r seconds nanosecond =
     at_same_offset t.date _ t.time _ t.offset
-    (only_utc (moved m t.offset) (record { date = t.date; time = t.time }) h r (more_offset _ m.seconds _ seconds) nanosecond)
+    (only_utc (moved m t.offset) (record { date = t.date; time = t.time; offset = tt }) h r (more_offset _ m.seconds _ seconds) nanosecond)
 
 -- moments by their nanoseconds
 

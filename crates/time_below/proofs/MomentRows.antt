@@ -16,8 +16,8 @@ offset_of hours minutes seconds = record { hours = hours; minutes = minutes; sec
 
 -- a date and a time in UTC have these Unix seconds, and are those of that moment
 record IsAt (seconds : ℤ) (date : OrdinalDate) (time : TimeOfDay) : Type 0 where
-  pub there : unix_seconds (record { date = date; time = time }) ≡ seconds
-  pub back : utc_date_and_time (record { seconds = seconds; nanosecond = 5 }) ≡ record { date = date; time = time }
+  pub there : unix_seconds (record { date = date; time = time; offset = tt }) ≡ seconds
+  pub back : utc_date_and_time (record { seconds = seconds; nanosecond = 5 }) ≡ record { date = date; time = time; offset = tt }
 
 seconds_of_1970_01_01 : IsAt (pos 0) (day_in (pos 1970) 1) (time_of_clock 0 0 0)
 unfolding date_at

@@ -1,5 +1,4 @@
 pub mod Calendar
-pub mod Clones
 pub mod ComponentRange
 pub mod Conversion
 pub mod DateText

@@ -22,16 +22,19 @@ pub record Moment : Type 0 where
   pub seconds : ℤ
   pub nanosecond : ℕ
 
--- a date and a time of that day
-pub record DateAndTime : Type 0 where
+-- a date and a time of that day, and what is known of their offset from UTC
+pub record DateTimeWith (Z : Type 0) : Type 0 where
   pub date : OrdinalDate
   pub time : TimeOfDay
+  pub offset : Z
+
+-- a date and a time of that day
+abbrev pub DateAndTime : Type 0
+DateAndTime = DateTimeWith (Unit {0})
 
 -- a local date and time, and the offset of the place from UTC
-pub record OffsetDateAndTime : Type 0 where
-  pub date : OrdinalDate
-  pub time : TimeOfDay
-  pub offset : Offset
+abbrev pub OffsetDateAndTime : Type 0
+OffsetDateAndTime = DateTimeWith Offset
 
 -- a second from -999999-01-01T00:00:00 to 999999-12-31T23:59:59
 abbrev pub IsTimestampSecond : ℤ → Type 0
@@ -57,7 +60,7 @@ unix_seconds t =
 -- the Unix seconds of a local date and time: a place with a positive offset is ahead of UTC
 abbrev pub local_unix_seconds : OffsetDateAndTime → ℤ
 local_unix_seconds t =
-    unix_seconds (record { date = t.date; time = t.time }) -ℤ offset_seconds t.offset
+    unix_seconds (record { date = t.date; time = t.time; offset = tt }) -ℤ offset_seconds t.offset
 
 -- the moment of a date and time in UTC
 abbrev pub moment_of : DateAndTime → Moment
@@ -93,7 +96,7 @@ utc_time m = time_at (second_of_day m.seconds) m.nanosecond
 
 -- the UTC date and time of a moment
 abbrev pub utc_date_and_time : Moment → DateAndTime
-utc_date_and_time m = record { date = utc_date m.seconds; time = utc_time m }
+utc_date_and_time m = record { date = utc_date m.seconds; time = utc_time m; offset = tt }
 
 -- the moment whose date and time in UTC are those that clocks at this offset show
 abbrev pub moved : Moment → Offset → Moment

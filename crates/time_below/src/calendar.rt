@@ -7,8 +7,10 @@ ghost use Rattle.time_below.specs.Calendar.{days_of_months, last_begun};
 // The days before each month of a common year.
 const CUMULATIVE_DAYS: [u16; 12] = [0, 31, 59, 90, 120, 151, 181, 212, 243, 273, 304, 334];
 
-/// Whether 4 divides the year, and 100 does not or 400 does. Three years of four are told by the
-/// first test. Where 4 divides the year, 100 does if 25 does, and 400 does if 25 and 16 do.
+/// Returns whether a year is a leap year: 4 divides it, and 100 does not or 400 does.
+///
+/// Three years of four are told by the first test. Where 4 divides the year, 100 does if 25 does,
+/// and 400 does if 25 and 16 do.
 pub fn is_leap_year(year: i32) -> bool
     ensures { result ≡ is_leap_year year }
 {

@@ -15,7 +15,8 @@ impl ComponentRange {
     ghost use Rattle.time_below.specs.ComponentRange.{range_refusal, conditional_range};
     ghost use Rattle.time_below.specs.ComponentRange.{unconditional_range};
 
-    /// A component that is outside the range that the other components leave it.
+    /// Returns the error of a component that is outside the range that the other components leave
+    /// it.
     pub fn conditional(name: &'static str) -> ComponentRange
         ensures { range_refusal result ≡ conditional_range name.now }
     {
@@ -25,7 +26,7 @@ impl ComponentRange {
         }
     }
 
-    /// A component that is outside its range for any values of the others.
+    /// Returns the error of a component that is outside its range for any values of the others.
     pub fn unconditional(name: &'static str) -> ComponentRange
         ensures { range_refusal result ≡ unconditional_range name.now }
     {
@@ -35,14 +36,14 @@ impl ComponentRange {
         }
     }
 
-    /// The name of the component.
+    /// Returns the name of the component, such as `day`.
     pub fn name(&self) -> &'static str
         ensures { result.now ≡ (range_refusal self.now).name }
     {
         self.name
     }
 
-    /// Whether the other components set the range.
+    /// Returns whether the other components set the range, as the month sets that of the day.
     pub fn is_conditional(&self) -> bool
         ensures { result ≡ (range_refusal self.now).is_conditional }
     {

@@ -1,7 +1,4 @@
 //! The dates of the calendar.
-//!
-//! With `inline(always)` a loop over the items of a text computes the month and the day without a
-//! call.
 ghost use Rattle.std.specs.Prelude.{◌≡◌, ◌↔◌, ◌+◌, ◌<◌, ◌≤◌, ◌%◌, nat_le, IsTrue, IsOk, IfOk};
 ghost use Rattle.std.specs.Prelude.{IfErr, codes, if◌then◌else◌, pos, ◌+ℤ◌, ◌-ℤ◌, ◌*ℤ◌};
 ghost use Rattle.std.specs.Prelude.{unsigned_abs};
@@ -80,8 +77,18 @@ impl Date {
         ordinal: 365,
     };
 
-    /// The date of a year -999,999 to 999,999, a month and a day 1 to the length of that month.
-    /// Refuses the year, then the day, whose range the year and the month set.
+    /// Returns the date of a year, -999,999 to 999,999, a month, and a day of that month.
+    ///
+    /// # Errors
+    ///
+    /// A year out of range is refused as `year`. A day that the month does not have in that year is
+    /// refused as `day`.
+    ///
+    /// # Examples
+    ///
+    /// ```text
+    /// let Ok(date) = Date::from_calendar_date(2026, Month::November, 22) else { .. };
+    /// ```
     pub fn from_calendar_date(year: i32, month: Month, day: u8) -> Result<Date, ComponentRange>
         ensures accepted { IsOk result
             ↔ (IsYear year × IsDayOfMonth year (month_number month) day) }
@@ -99,8 +106,9 @@ impl Date {
         Ok(Date::from_valid_calendar_date(year, month, day))
     }
 
-    /// The date of a year, a month and a day that `from_calendar_date` takes, as the caller knows.
-    /// Nothing is tested.
+    /// Returns the date of a year, a month and a day that the calendar has, as the caller knows.
+    ///
+    /// [`from_calendar_date`](Date::from_calendar_date) tests them.
     #[tactic(auto, using(crate::proofs::MonthLemmas::month_within))]
     pub fn from_valid_calendar_date(year: i32, month: Month, day: u8) -> Date
         requires year { IsYear year }
@@ -114,8 +122,13 @@ impl Date {
         }
     }
 
-    /// The date of a year -999,999 to 999,999 and a day of the year, 1 to 365, or 366 in a leap
-    /// year. Refuses the year, then the ordinal, whose range the year sets.
+    /// Returns the date of a year, -999,999 to 999,999, and a day of the year, 1 to 365, or 366 in
+    /// a leap year.
+    ///
+    /// # Errors
+    ///
+    /// A year out of range is refused as `year`, and a day that the year does not have as
+    /// `ordinal`.
     pub fn from_ordinal_date(year: i32, ordinal: u16) -> Result<Date, ComponentRange>
         ensures accepted { IsOk result ↔ IsDate (record { year = year; ordinal = ordinal }) }
         ensures value { IfOk result (λ d. d ≡ record { year = year; ordinal = ordinal }) }
@@ -177,7 +190,7 @@ impl Date {
         (self.days_from_start() as i64 - DAYS_TO_1970) * DAY_SECONDS as i64
     }
 
-    /// The year, -999,999 to 999,999. The year 0 is the one before the year 1.
+    /// Returns the year, -999,999 to 999,999. The year 0 is the one before the year 1.
     pub fn year(self) -> i32
         ensures value { result ≡ self.year }
         ensures range { IsYear result }
@@ -186,14 +199,14 @@ impl Date {
         self.year
     }
 
-    /// The month.
+    /// Returns the month.
     pub fn month(self) -> Month
         ensures { month_number result ≡ month_of self }
     {
         self.to_calendar_date().1
     }
 
-    /// The day of the year, 1 to 366.
+    /// Returns the day of the year, 1 to 366.
     pub fn ordinal(self) -> u16
         ensures value { result ≡ self.ordinal }
         ensures range { IsInRange 1 366 result }
@@ -202,7 +215,7 @@ impl Date {
         self.ordinal
     }
 
-    /// The day of the month, 1 to 31.
+    /// Returns the day of the month, 1 to 31.
     pub fn day(self) -> u8
         ensures value { result ≡ day_of self }
         ensures range { IsInRange 1 31 result }
@@ -210,7 +223,7 @@ impl Date {
         self.to_calendar_date().2
     }
 
-    /// The year and the day of the year, 1 to 366.
+    /// Returns the year and the day of the year, 1 to 366.
     pub fn to_ordinal_date(self) -> (i32, u16)
         ensures year { result.0 ≡ self.year }
         ensures ordinal { result.1 ≡ self.ordinal }
@@ -220,8 +233,7 @@ impl Date {
         (self.year, self.ordinal)
     }
 
-    /// The year, the month and the day of the month, which is 1 to 31.
-    #[inline(always)]
+    /// Returns the year, the month and the day of the month, which is 1 to 31.
     pub fn to_calendar_date(self) -> (i32, Month, u8)
         ensures year { result.0 ≡ self.year }
         ensures month { month_number result.1 ≡ month_of self }
@@ -246,7 +258,7 @@ impl Date {
         years * 5 / 4 - years / 100 * 3 / 4 + self.ordinal as u32
     }
 
-    /// The weekday.
+    /// Returns the weekday.
     pub fn weekday(self) -> Weekday
         ensures { days_from_monday result ≡ weekday_of self }
     {
@@ -261,8 +273,10 @@ impl Date {
         Date::from_days(days - days % 7 + 3)
     }
 
-    /// The year of the week calendar, -999,999 to 999,999, and the week of that year, 1 to 53
-    /// (ISO 8601-1:2019, week calendar). Week 1 is the one with the year's first Thursday.
+    /// Returns the year of the week calendar, -999,999 to 999,999, and the week of that year, 1 to
+    /// 53 (ISO 8601-1:2019, week calendar).
+    ///
+    /// Week 1 is the one with the year's first Thursday.
     pub fn iso_year_week(self) -> (i32, u8)
         ensures year { result.0 ≡ iso_year_of self }
         ensures week { result.1 ≡ iso_week_of self }
@@ -273,7 +287,7 @@ impl Date {
         (thursday.year(), ((thursday.ordinal() - 1) / 7 + 1) as u8)
     }
 
-    /// The week of the year, 0 to 53, where week 1 begins on the first Monday.
+    /// Returns the week of the year, 0 to 53, where week 1 begins on the first Monday.
     pub fn monday_based_week(self) -> u8
         ensures value { result ≡ monday_based_week_of self }
         ensures range { result ≤ 53 }
@@ -282,7 +296,7 @@ impl Date {
         calendar::weeks_in(self.ordinal as u32 + 6 - from_monday as u32)
     }
 
-    /// The week of the year, 0 to 53, where week 1 begins on the first Sunday.
+    /// Returns the week of the year, 0 to 53, where week 1 begins on the first Sunday.
     pub fn sunday_based_week(self) -> u8
         ensures value { result ≡ sunday_based_week_of self }
         ensures range { result ≤ 53 }

@@ -1,4 +1,4 @@
-//! Laws of equality, of clones and conversions, of the calendar and of offsets: what their
+//! Laws of equality and conversions, of the calendar and of offsets: what their
 //! definitions come to. Each body is empty.
 ghost use Rattle.std.specs.Prelude.{◌≡◌, ◌↔◌, ◌+◌, ◌%◌, ◌<◌, ℕ, ℤ, pos, ◌+ℤ◌, unsigned_abs, IsTrue};
 ghost use Rattle.std.specs.Prelude.{fold};
@@ -21,8 +21,6 @@ ghost use Rattle.time_below.specs.Moment.{IsTimestampSecond, IsNearTimestampSeco
 ghost use Rattle.time_below.specs.Moment.{utc_time, utc_date_and_time, unix_seconds, moved};
 ghost use Rattle.time_below.specs.Moment.{local_at, local_unix_seconds, nanoseconds};
 
-pub mod choices;
-pub mod clones;
 pub mod dates;
 pub mod order;
 pub mod times;

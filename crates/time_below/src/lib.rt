@@ -5,6 +5,7 @@ mod calendar;
 mod component_range;
 mod conversions;
 mod date;
+mod date_time;
 mod different_variant;
 pub mod format_description;
 mod invalid_variant;
@@ -27,7 +28,12 @@ mod weekday;
 pub use calendar::is_leap_year;
 pub use component_range::ComponentRange;
 pub use date::Date;
+pub use date_time::{DateTime, NoOffset, Utc};
 pub use different_variant::DifferentVariant;
+pub use format_description::{
+    BorrowedFormatItem, Component, FormatDescriptionV3, FormatDescriptionV3Inner, OwnedFormatItem,
+    component_width, modifier,
+};
 pub use invalid_variant::InvalidVariant;
 pub use month::Month;
 pub use offset_date_time::OffsetDateTime;

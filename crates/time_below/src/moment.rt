@@ -13,7 +13,7 @@ use crate::utc_offset::UtcOffset;
 // The nanoseconds of a second.
 const SECOND: i128 = 1_000_000_000;
 
-/// The milliseconds since 1970-01-01T00:00:00 UTC, rounded toward zero, at most 17 digits.
+/// Returns the milliseconds since 1970-01-01T00:00:00 UTC, rounded toward zero, at most 17 digits.
 ///
 /// The moment is given by its whole seconds rounded down, less than 26 hours outside the range of
 /// `Timestamp`, and the nanosecond 0 to 999,999,999 counted forward from there.
@@ -30,8 +30,8 @@ pub fn milliseconds(seconds: i64, nanosecond: u32) -> i64
     }
 }
 
-/// The nanoseconds since 1970-01-01T00:00:00 UTC, at most 23 digits, of a moment given as for
-/// [`milliseconds`].
+/// Returns the nanoseconds since 1970-01-01T00:00:00 UTC, at most 23 digits, of a moment given as
+/// for [`milliseconds`].
 pub fn nanoseconds(seconds: i64, nanosecond: u32) -> i128
     requires { IsNearMoment (record { seconds = seconds; nanosecond = nanosecond }) }
     ensures value { result

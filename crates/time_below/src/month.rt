@@ -40,7 +40,7 @@ pub enum Month {
 }
 
 impl Month {
-    /// The month of a number from 1 to 12, as the caller knows. Nothing is tested.
+    /// Returns the month of a number, 1 to 12, as the caller knows.
     pub fn from_number(number: u8) -> Month
         requires { IsInRange 1 12 number }
         ensures { month_number result ≡ number }
@@ -62,7 +62,7 @@ impl Month {
         }
     }
 
-    /// The number of days of the month in this year, 28 to 31.
+    /// Returns the number of days of the month in this year, 28 to 31.
     pub fn length(self, year: i32) -> u8
         ensures value { result ≡ days_in_month (is_leap_year year) (month_number self) }
         ensures range { IsInRange 28 31 result }
@@ -70,28 +70,28 @@ impl Month {
         calendar::days_in_month(calendar::is_leap_year(year), u8::from(self))
     }
 
-    /// The month before, which is December before January.
+    /// Returns the month before, which is December before January.
     pub fn previous(self) -> Month
         ensures { month_number self ≡ month_number result % 12 + 1 }
     {
         self.nth_prev(1)
     }
 
-    /// The month after, which is January after December.
+    /// Returns the month after, which is January after December.
     pub fn next(self) -> Month
         ensures { month_number result ≡ month_number self % 12 + 1 }
     {
         self.nth_next(1)
     }
 
-    /// The month this many months after, where January follows December.
+    /// Returns the month this many months after, where January follows December.
     pub fn nth_next(self, n: u8) -> Month
         ensures { month_number result ≡ (month_number self - 1 + n) % 12 + 1 }
     {
         Month::from_number((self as u8 + n % 12) % 12 + 1)
     }
 
-    /// The month this many months before, where December precedes January.
+    /// Returns the month this many months before, where December precedes January.
     pub fn nth_prev(self, n: u8) -> Month
         ensures { month_number self ≡ (month_number result - 1 + n) % 12 + 1 }
     {

@@ -8,7 +8,8 @@ ghost use Rattle.time_below.specs.Weekday.{days_from_monday};
 use crate::month::Month;
 use crate::weekday::Weekday;
 
-/// The English name of a month with spaces behind it, in nine bytes, and the length of the name.
+/// Returns the English name of a month with spaces behind it, in nine bytes, and the length of the
+/// name.
 pub fn padded_month_name(month: Month) -> (&'static str, usize)
     ensures name { take result.1 result.0.now ≡ month_name (month_number month) }
     ensures short { take 3 result.0.now ≡ take 3 (month_name (month_number month)) }
@@ -32,7 +33,8 @@ pub fn padded_month_name(month: Month) -> (&'static str, usize)
     }
 }
 
-/// The English name of a weekday with spaces behind it, in nine bytes, and the length of the name.
+/// Returns the English name of a weekday with spaces behind it, in nine bytes, and the length of
+/// the name.
 pub fn padded_weekday_name(weekday: Weekday) -> (&'static str, usize)
     ensures name { take result.1 result.0.now ≡ weekday_name (days_from_monday weekday) }
     ensures short { take 3 result.0.now ≡ take 3 (weekday_name (days_from_monday weekday)) }

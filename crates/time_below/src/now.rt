@@ -31,9 +31,12 @@ impl TryFrom<SystemTime> for Timestamp {
 }
 
 impl Timestamp {
-    /// The moment that the clock shows, which is from 1970 on. Returns the error of a clock that
-    /// cannot be read, as one that is set before 1970, and `InvalidData` for one past the year
-    /// 999,999.
+    /// Returns the moment that the clock shows, which is from 1970 on.
+    ///
+    /// # Errors
+    ///
+    /// Returns the error of a clock that cannot be read, as one that is set before 1970, and
+    /// `InvalidData` for one past the year 999,999.
     pub fn now(clock: &impl Clock) -> io::Result<Timestamp>
         ensures since_1970 { IfOk result (λ m. pos 0 ≤ℤ m.seconds) }
         ensures range { IfOk result (λ m. IsMoment m) }
@@ -49,7 +52,7 @@ impl Timestamp {
 }
 
 impl UtcDateTime {
-    /// The date and time in UTC of [`Timestamp::now`].
+    /// Returns the date and time in UTC of [`Timestamp::now`].
     pub fn now(clock: &impl Clock) -> io::Result<UtcDateTime>
         ensures { IfOk result (λ t. pos 0 ≤ℤ unix_seconds t) }
     {
@@ -58,7 +61,7 @@ impl UtcDateTime {
 }
 
 impl OffsetDateTime {
-    /// The date and time of [`Timestamp::now`], in UTC.
+    /// Returns the date and time of [`Timestamp::now`], in UTC.
     pub fn now_utc(clock: &impl Clock) -> io::Result<OffsetDateTime>
         ensures since_1970 { IfOk result (λ t. pos 0 ≤ℤ local_unix_seconds t) }
         ensures offset { IfOk result (λ t. t.offset ≡ utc) }

@@ -4,84 +4,62 @@ ghost use Rattle.time_below.specs.Moment.{in_utc, local_unix_seconds, IsNearTime
 
 mod moment;
 mod order;
-mod parts;
-mod replace;
 mod text;
-mod truncate;
 
 use crate::date::Date;
+use crate::date_time::DateTime;
+use crate::plain_date_time::PlainDateTime;
 use crate::time::Time;
 use crate::utc_date_time::UtcDateTime;
 use crate::utc_offset::UtcOffset;
-use std::marker::Model;
 
 /// A local date and time of day, and the offset of the place from UTC.
-#[derive(Clone, Copy)]
-pub struct OffsetDateTime {
-    date: Date,
-    time: Time,
-    offset: UtcOffset,
-}
-
-impl Model for OffsetDateTime {
-    ghost use Rattle.time_below.specs.Moment.{OffsetDateAndTime};
-
-    ghost Value = { OffsetDateAndTime };
-
-    ghost view = { λ t. record { date = t.date; time = t.time; offset = t.offset } };
-
-    ghost inverse = { λ t. record { date = t.date; time = t.time; offset = t.offset } };
-}
+pub type OffsetDateTime = DateTime<UtcOffset>;
 
 impl OffsetDateTime {
     /// 1970-01-01 0:00:00 in UTC.
-    pub const UNIX_EPOCH: OffsetDateTime = OffsetDateTime {
+    pub const UNIX_EPOCH: OffsetDateTime = DateTime {
         date: Date::UNIX_EPOCH,
         time: Time::MIDNIGHT,
         offset: UtcOffset::UTC,
     };
 
-    /// The local date, the local time and the offset as given.
+    /// Returns the date and time of day of a place, with the offset of its clocks from UTC.
     pub fn new_in_offset(date: Date, time: Time, offset: UtcOffset) -> OffsetDateTime
         ensures { result ≡ record { date = date; time = time; offset = offset } }
     {
-        OffsetDateTime { date, time, offset }
+        DateTime { date, time, offset }
     }
 
-    /// The date and the time in UTC.
+    /// Returns the date and time of day in UTC.
     pub fn new_utc(date: Date, time: Time) -> OffsetDateTime
-        ensures { result ≡ in_utc (record { date = date; time = time }) }
+        ensures { result ≡ in_utc (record { date = date; time = time; offset = tt }) }
     {
-        OffsetDateTime {
+        DateTime {
             date,
             time,
             offset: UtcOffset::UTC,
         }
     }
 
-    /// The local date.
-    pub fn date(self) -> Date
-        ensures { result ≡ self.date }
+    /// Returns another date and time of day at this offset.
+    pub fn replace_date_time(self, shown: PlainDateTime) -> OffsetDateTime
+        ensures { result ≡ record { date = shown.date; time = shown.time; offset = self.offset } }
     {
-        self.date
+        OffsetDateTime::new_in_offset(shown.date(), shown.time(), self.offset)
     }
 
-    /// The local time of day.
-    pub fn time(self) -> Time
-        ensures { result ≡ self.time }
+    /// Returns this date and time of day at another offset, which is another moment.
+    ///
+    /// [`to_offset`](OffsetDateTime::to_offset) keeps the moment.
+    pub fn replace_offset(self, offset: UtcOffset) -> OffsetDateTime
+        ensures { result ≡ record self { offset = offset } }
     {
-        self.time
+        DateTime { offset, ..self }
     }
 
-    /// The offset from UTC.
-    pub fn offset(self) -> UtcOffset
-        ensures { result ≡ self.offset }
-    {
-        self.offset
-    }
-
-    /// The whole seconds since 1970-01-01T00:00:00 UTC, rounded down, less than 26 hours outside
-    /// the range of `Timestamp`.
+    /// Returns the whole seconds since 1970-01-01T00:00:00 UTC, rounded down, less than 26 hours
+    /// outside the range of `Timestamp`.
     pub fn unix_timestamp(self) -> i64
         ensures value { result ≡ local_unix_seconds self }
         ensures range { IsNearTimestampSecond result }

@@ -2,85 +2,61 @@
 ghost use Rattle.std.specs.Prelude.{◌≡◌};
 ghost use Rattle.time_below.specs.Moment.{in_utc};
 
-mod parts;
-mod replace;
 mod text;
-mod truncate;
 
 use crate::date::Date;
+use crate::date_time::{DateTime, NoOffset};
 use crate::offset_date_time::OffsetDateTime;
 use crate::time::Time;
 use crate::utc_date_time::UtcDateTime;
 use crate::utc_offset::UtcOffset;
-use std::marker::Model;
 
 /// A date and a time of day, of no place in particular.
-#[derive(Clone, Copy, PartialEq, Eq, PartialOrd, Ord, Hash)]
-pub struct PlainDateTime {
-    date: Date,
-    time: Time,
-}
-
-impl Model for PlainDateTime {
-    ghost use Rattle.time_below.specs.Moment.{DateAndTime};
-
-    ghost Value = { DateAndTime };
-
-    ghost view = { λ t. record { date = t.date; time = t.time } };
-
-    ghost inverse = { λ t. record { date = t.date; time = t.time } };
-}
+pub type PlainDateTime = DateTime<NoOffset>;
 
 impl PlainDateTime {
     /// -999999-01-01 0:00:00.
-    pub const MIN: PlainDateTime = PlainDateTime {
+    pub const MIN: PlainDateTime = DateTime {
         date: Date::MIN,
         time: Time::MIDNIGHT,
+        offset: NoOffset,
     };
 
     /// 999999-12-31 23:59:59.999999999.
-    pub const MAX: PlainDateTime = PlainDateTime {
+    pub const MAX: PlainDateTime = DateTime {
         date: Date::MAX,
         time: Time::MAX,
+        offset: NoOffset,
     };
 
-    /// The date and the time as given.
+    /// Returns the value of a date and a time of day.
     pub fn new(date: Date, time: Time) -> PlainDateTime
-        ensures { result ≡ record { date = date; time = time } }
+        ensures { result ≡ record { date = date; time = time; offset = tt } }
     {
-        PlainDateTime { date, time }
+        DateTime {
+            date,
+            time,
+            offset: NoOffset,
+        }
     }
 
-    /// The date.
-    pub fn date(self) -> Date
-        ensures { result ≡ self.date }
-    {
-        self.date
-    }
-
-    /// The time of day.
-    pub fn time(self) -> Time
-        ensures { result ≡ self.time }
-    {
-        self.time
-    }
-    /// The same date and time at this offset.
+    /// Returns this date and time of day at an offset.
     pub fn assume_offset(self, offset: UtcOffset) -> OffsetDateTime
         ensures { result ≡ record { date = self.date; time = self.time; offset = offset } }
     {
         OffsetDateTime::new_in_offset(self.date, self.time, offset)
     }
 
-    /// The same date and time at the offset of UTC.
+    /// Returns this date and time of day at the offset of UTC.
     pub fn assume_utc(self) -> OffsetDateTime
         ensures { result ≡ in_utc self }
     {
         OffsetDateTime::new_utc(self.date, self.time)
     }
 
-    /// The same date and time in UTC.
+    /// Returns this date and time of day as one in UTC.
     pub fn as_utc(self) -> UtcDateTime
-        ensures { result ≡ record { date = self.date; time = self.time } }
+        ensures { result ≡ record { date = self.date; time = self.time; offset = tt } }
     {
         UtcDateTime::new(self.date, self.time)
     }

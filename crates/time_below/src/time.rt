@@ -60,8 +60,17 @@ impl Time {
         nanosecond: 999_999_999,
     };
 
-    /// The time of an hour 0 to 23, a minute 0 to 59 and a second 0 to 59, with nanosecond 0.
-    /// Refuses the first part that is outside its range, in this order.
+    /// Returns the time of an hour, 0 to 23, a minute and a second, 0 to 59, with nanosecond 0.
+    ///
+    /// # Errors
+    ///
+    /// The first part out of its range is refused by its name, in this order.
+    ///
+    /// # Examples
+    ///
+    /// ```text
+    /// let Ok(time) = Time::from_hms(9, 55, 6) else { .. };
+    /// ```
     pub fn from_hms(hour: u8, minute: u8, second: u8) -> Result<Time, ComponentRange>
         ensures accepted { IsOk result ↔ IsTimeOfDay (time_of hour minute second 0) }
         ensures value { IfOk result (λ t. t ≡ time_of hour minute second 0) }
@@ -71,8 +80,12 @@ impl Time {
         Time::from_hms_nano(hour, minute, second, 0)
     }
 
-    /// The time of an hour 0 to 23, a minute 0 to 59, a second 0 to 59 and a millisecond 0 to 999.
-    /// Refuses the first part that is outside its range, in this order.
+    /// Returns the time of an hour, 0 to 23, a minute and a second, 0 to 59, and a millisecond, 0
+    /// to 999.
+    ///
+    /// # Errors
+    ///
+    /// The first part out of its range is refused by its name, in this order.
     pub fn from_hms_milli(
         hour: u8,
         minute: u8,
@@ -92,8 +105,12 @@ impl Time {
         }
     }
 
-    /// The time of an hour 0 to 23, a minute 0 to 59, a second 0 to 59 and a microsecond 0 to
-    /// 999,999. Refuses the first part that is outside its range, in this order.
+    /// Returns the time of an hour, 0 to 23, a minute and a second, 0 to 59, and a microsecond, 0
+    /// to 999,999.
+    ///
+    /// # Errors
+    ///
+    /// The first part out of its range is refused by its name, in this order.
     pub fn from_hms_micro(
         hour: u8,
         minute: u8,
@@ -112,8 +129,12 @@ impl Time {
         }
     }
 
-    /// The time of an hour 0 to 23, a minute 0 to 59, a second 0 to 59 and a nanosecond 0 to
-    /// 999,999,999. Refuses the first part that is outside its range, in this order.
+    /// Returns the time of an hour, 0 to 23, a minute and a second, 0 to 59, and a nanosecond, 0 to
+    /// 999,999,999.
+    ///
+    /// # Errors
+    ///
+    /// The first part out of its range is refused by its name, in this order.
     pub fn from_hms_nano(
         hour: u8,
         minute: u8,
@@ -141,8 +162,9 @@ impl Time {
         Ok(Time::from_valid_hms_nano(hour, minute, second, nanosecond))
     }
 
-    /// The time of parts that are in the ranges of `from_hms_nano`, as the caller knows. Nothing is
-    /// tested.
+    /// Returns the time of parts that are in their ranges, as the caller knows.
+    ///
+    /// [`from_hms_nano`](Time::from_hms_nano) tests them.
     pub fn from_valid_hms_nano(hour: u8, minute: u8, second: u8, nanosecond: u32) -> Time
         requires { IsTimeOfDay (time_of hour minute second nanosecond) }
         ensures { result ≡ time_of hour minute second nanosecond }
@@ -155,7 +177,7 @@ impl Time {
         }
     }
 
-    /// The hour, 0 to 23.
+    /// Returns the hour, 0 to 23.
     pub fn hour(self) -> u8
         ensures value { result ≡ self.hour }
         ensures range { result < 24 }
@@ -163,7 +185,7 @@ impl Time {
         self.hour
     }
 
-    /// The minute, 0 to 59.
+    /// Returns the minute, 0 to 59.
     pub fn minute(self) -> u8
         ensures value { result ≡ self.minute }
         ensures range { result < 60 }
@@ -171,7 +193,7 @@ impl Time {
         self.minute
     }
 
-    /// The second, 0 to 59.
+    /// Returns the second, 0 to 59.
     pub fn second(self) -> u8
         ensures value { result ≡ self.second }
         ensures range { result < 60 }
@@ -179,7 +201,7 @@ impl Time {
         self.second
     }
 
-    /// The whole milliseconds of the second, 0 to 999.
+    /// Returns the whole milliseconds of the second, 0 to 999.
     pub fn millisecond(self) -> u16
         ensures value { result ≡ self.nanosecond / 1_000_000 }
         ensures range { result < 1_000 }
@@ -187,7 +209,7 @@ impl Time {
         (self.nanosecond / 1_000_000) as u16
     }
 
-    /// The whole microseconds of the second, 0 to 999,999.
+    /// Returns the whole microseconds of the second, 0 to 999,999.
     pub fn microsecond(self) -> u32
         ensures value { result ≡ self.nanosecond / 1_000 }
         ensures range { result < 1_000_000 }
@@ -195,7 +217,7 @@ impl Time {
         self.nanosecond / 1_000
     }
 
-    /// The nanosecond, 0 to 999,999,999.
+    /// Returns the nanosecond, 0 to 999,999,999.
     pub fn nanosecond(self) -> u32
         ensures value { result ≡ self.nanosecond }
         ensures range { result < 1_000_000_000 }
@@ -203,7 +225,7 @@ impl Time {
         self.nanosecond
     }
 
-    /// The hour, the minute and the second.
+    /// Returns the hour, the minute and the second.
     pub fn as_hms(self) -> (u8, u8, u8)
         ensures hour { result.0 ≡ self.hour }
         ensures minute { result.1 ≡ self.minute }
@@ -213,7 +235,7 @@ impl Time {
         (self.hour, self.minute, self.second)
     }
 
-    /// The hour, the minute, the second and the whole milliseconds of the second.
+    /// Returns the hour, the minute, the second and the whole milliseconds of the second.
     pub fn as_hms_milli(self) -> (u8, u8, u8, u16)
         ensures hour { result.0 ≡ self.hour }
         ensures minute { result.1 ≡ self.minute }
@@ -224,7 +246,7 @@ impl Time {
         (self.hour, self.minute, self.second, self.millisecond())
     }
 
-    /// The hour, the minute, the second and the whole microseconds of the second.
+    /// Returns the hour, the minute, the second and the whole microseconds of the second.
     pub fn as_hms_micro(self) -> (u8, u8, u8, u32)
         ensures hour { result.0 ≡ self.hour }
         ensures minute { result.1 ≡ self.minute }
@@ -235,7 +257,7 @@ impl Time {
         (self.hour, self.minute, self.second, self.microsecond())
     }
 
-    /// The hour, the minute, the second and the nanosecond.
+    /// Returns the hour, the minute, the second and the nanosecond.
     pub fn as_hms_nano(self) -> (u8, u8, u8, u32)
         ensures hour { result.0 ≡ self.hour }
         ensures minute { result.1 ≡ self.minute }

@@ -68,8 +68,19 @@ impl Timestamp {
         nanosecond: 0,
     };
 
-    /// The moment of seconds -31,619,087,596,800 to 31,494,784,780,799 and a nanosecond 0 to
-    /// 999,999,999. Refuses the first part that is outside its range, in this order.
+    /// Returns the moment of a second since 1970-01-01T00:00:00 UTC, -31,619,087,596,800 to
+    /// 31,494,784,780,799, and a nanosecond, 0 to 999,999,999, counted forward from there.
+    ///
+    /// # Errors
+    ///
+    /// The first part out of its range is refused as `seconds` or `nanosecond`, in this order.
+    ///
+    /// # Examples
+    ///
+    /// ```text
+    /// // 2026-11-22T15:55:06.12Z
+    /// let Ok(moment) = Timestamp::new(1_795_362_906, 120_000_000) else { .. };
+    /// ```
     pub fn new(seconds: i64, nanosecond: u32) -> Result<Timestamp, ComponentRange>
         ensures accepted { IsOk result
             ↔ IsMoment (record { seconds = seconds; nanosecond = nanosecond }) }
@@ -103,9 +114,12 @@ impl Timestamp {
         }
     }
 
-    /// The moment of nanoseconds -31,619,087,596,800,000,000,000 to
-    /// 31,494,784,780,799,999,999,999 since 1970-01-01T00:00:00 UTC. Refuses any other number as
-    /// `nanoseconds`.
+    /// Returns the moment of nanoseconds since 1970-01-01T00:00:00 UTC,
+    /// -31,619,087,596,800,000,000,000 to 31,494,784,780,799,999,999,999.
+    ///
+    /// # Errors
+    ///
+    /// Any other number is refused as `nanoseconds`.
     pub fn from_nanoseconds(nanoseconds: i128) -> Result<Timestamp, ComponentRange>
         ensures accepted { IsOk result ↔ IsTimestampNanosecond nanoseconds }
         ensures value { IfOk result (λ t. nanoseconds_of t ≡ nanoseconds) }
@@ -130,7 +144,7 @@ impl Timestamp {
         (self.seconds + SECONDS_BEFORE) as u64
     }
 
-    /// The date in UTC.
+    /// Returns the date in UTC.
     #[tactic(auto, using(crate::proofs::CalendarLemmas::utc_date_from_start))]
     pub fn date(self) -> Date
         ensures { result ≡ utc_date self.seconds }
@@ -138,7 +152,7 @@ impl Timestamp {
         Date::from_days((self.seconds_from_start() / DAY_SECONDS as u64) as u32)
     }
 
-    /// The time of day in UTC.
+    /// Returns the time of day in UTC.
     #[tactic(auto, using(crate::proofs::CalendarLemmas::second_from_start))]
     pub fn time(self) -> Time
         ensures { result ≡ utc_time self }
@@ -149,8 +163,10 @@ impl Timestamp {
         )
     }
 
-    /// The date and time of the moment by clocks at this offset, and the offset, whose year there
-    /// is in range, as the caller knows.
+    /// Returns the date and time of the moment by clocks at this offset, with the offset.
+    ///
+    /// The caller knows that their year is in range:
+    /// [`checked_to_offset`](Timestamp::checked_to_offset) tests it.
     pub fn to_offset(self, offset: UtcOffset) -> OffsetDateTime
         requires { IsTimestampSecond (self.seconds +ℤ offset_seconds offset) }
         ensures value { result ≡ local_at self offset }
@@ -162,7 +178,7 @@ impl Timestamp {
         }
     }
 
-    /// The date and time of the moment by clocks at this offset, and the offset. Returns `None`
+    /// Returns the date and time of the moment by clocks at this offset, with the offset, or `None`
     /// where their year is outside -999,999 to 999,999.
     pub fn checked_to_offset(self, offset: UtcOffset) -> Option<OffsetDateTime>
         ensures accepted { IsSome result
@@ -173,7 +189,7 @@ impl Timestamp {
         moment::checked_at_offset(self.seconds, self.nanosecond, offset)
     }
 
-    /// The whole seconds since 1970-01-01T00:00:00 UTC, rounded down.
+    /// Returns the whole seconds since 1970-01-01T00:00:00 UTC, rounded down.
     pub fn as_seconds(self) -> i64
         ensures value { result ≡ self.seconds }
         ensures range { IsMoment self }
@@ -181,7 +197,8 @@ impl Timestamp {
         self.seconds
     }
 
-    /// The milliseconds since 1970-01-01T00:00:00 UTC, rounded toward zero, at most 17 digits.
+    /// Returns the milliseconds since 1970-01-01T00:00:00 UTC, rounded toward zero, at most 17
+    /// digits.
     pub fn as_milliseconds(self) -> i64
         ensures value { result ≡ milliseconds self }
         ensures range { unsigned_abs result < 100_000_000_000_000_000 }
@@ -189,7 +206,7 @@ impl Timestamp {
         moment::milliseconds(self.seconds, self.nanosecond)
     }
 
-    /// The nanoseconds since 1970-01-01T00:00:00 UTC, at most 23 digits.
+    /// Returns the nanoseconds since 1970-01-01T00:00:00 UTC, at most 23 digits.
     pub fn as_nanoseconds(self) -> i128
         ensures value { result ≡ nanoseconds_of self }
         ensures range { unsigned_abs result < 10 ^ 23 }
@@ -197,8 +214,8 @@ impl Timestamp {
         moment::nanoseconds(self.seconds, self.nanosecond)
     }
 
-    /// The whole seconds since 1970-01-01T00:00:00 UTC, rounded down, and the nanosecond 0 to
-    /// 999,999,999 counted forward from there.
+    /// Returns the whole seconds since 1970-01-01T00:00:00 UTC, rounded down, and the nanosecond 0
+    /// to 999,999,999 counted forward from there.
     pub fn as_parts(self) -> (i64, u32)
         ensures seconds { result.0 ≡ self.seconds }
         ensures nanosecond { result.1 ≡ self.nanosecond }

@@ -7,86 +7,63 @@ ghost use Rattle.time_below.specs.Moment.{local_at, local_moment, moment_of, nan
 ghost use Rattle.time_below.specs.Moment.{unix_seconds, utc_date_and_time};
 ghost use Rattle.time_below.specs.Offset.{offset_seconds};
 
-mod parts;
-mod replace;
 mod text;
-mod truncate;
 
 use crate::component_range::ComponentRange;
 use crate::date::Date;
+use crate::date_time::{DateTime, Utc};
 use crate::moment;
 use crate::offset_date_time::OffsetDateTime;
 use crate::plain_date_time::PlainDateTime;
 use crate::time::Time;
 use crate::timestamp::Timestamp;
 use crate::utc_offset::UtcOffset;
-use std::marker::Model;
 
 /// A date and a time of day in UTC.
-#[derive(Clone, Copy, PartialEq, Eq, PartialOrd, Ord, Hash)]
-pub struct UtcDateTime {
-    date: Date,
-    time: Time,
-}
-
-impl Model for UtcDateTime {
-    ghost use Rattle.time_below.specs.Moment.{DateAndTime};
-
-    ghost Value = { DateAndTime };
-
-    ghost view = { λ t. record { date = t.date; time = t.time } };
-
-    ghost inverse = { λ t. record { date = t.date; time = t.time } };
-}
+pub type UtcDateTime = DateTime<Utc>;
 
 impl UtcDateTime {
     /// -999999-01-01 0:00:00.
-    pub const MIN: UtcDateTime = UtcDateTime {
+    pub const MIN: UtcDateTime = DateTime {
         date: Date::MIN,
         time: Time::MIDNIGHT,
+        offset: Utc,
     };
 
     /// 999999-12-31 23:59:59.999999999.
-    pub const MAX: UtcDateTime = UtcDateTime {
+    pub const MAX: UtcDateTime = DateTime {
         date: Date::MAX,
         time: Time::MAX,
+        offset: Utc,
     };
 
     /// 1970-01-01 0:00:00.
-    pub const UNIX_EPOCH: UtcDateTime = UtcDateTime {
+    pub const UNIX_EPOCH: UtcDateTime = DateTime {
         date: Date::UNIX_EPOCH,
         time: Time::MIDNIGHT,
+        offset: Utc,
     };
 
-    /// The date and the time as given.
+    /// Returns the value of a date and a time of day in UTC.
     pub fn new(date: Date, time: Time) -> UtcDateTime
-        ensures { result ≡ record { date = date; time = time } }
+        ensures { result ≡ record { date = date; time = time; offset = tt } }
     {
-        UtcDateTime { date, time }
+        DateTime {
+            date,
+            time,
+            offset: Utc,
+        }
     }
 
-    /// The date in UTC.
-    pub fn date(self) -> Date
-        ensures { result ≡ self.date }
-    {
-        self.date
-    }
-
-    /// The time of day in UTC.
-    pub fn time(self) -> Time
-        ensures { result ≡ self.time }
-    {
-        self.time
-    }
-
-    /// The whole seconds since 1970-01-01T00:00:00 UTC, rounded down, in the range of `Timestamp`.
+    /// Returns the whole seconds since 1970-01-01T00:00:00 UTC, rounded down, in the range of
+    /// `Timestamp`.
     pub fn unix_timestamp(self) -> i64
         ensures value { result ≡ unix_seconds self }
         ensures range { IsTimestampSecond result }
     {
         self.date.unix_midnight() + self.time.seconds_from_midnight() as i64
     }
-    /// The nanoseconds since 1970-01-01T00:00:00 UTC, at most 23 digits.
+    /// Returns the nanoseconds since 1970-01-01T00:00:00 UTC, at most 23 digits.
     pub fn unix_timestamp_nanos(self) -> i128
         ensures value { result ≡ nanoseconds (moment_of self) }
         ensures range { unsigned_abs result < 10 ^ 23 }
@@ -94,8 +71,11 @@ impl UtcDateTime {
         moment::nanoseconds(self.unix_timestamp(), self.time.nanosecond())
     }
 
-    /// The date and time in UTC at which this second since 1970-01-01T00:00:00 UTC begins. Refuses
-    /// a second outside the range of `Timestamp` as `timestamp`.
+    /// Returns the date and time in UTC at which a second since 1970-01-01T00:00:00 UTC begins.
+    ///
+    /// # Errors
+    ///
+    /// A second outside the range of `Timestamp` is refused as `timestamp`.
     pub fn from_unix_timestamp(timestamp: i64) -> Result<UtcDateTime, ComponentRange>
         ensures accepted { IsOk result ↔ IsTimestampSecond timestamp }
         ensures value { IfOk result (λ t. t ≡ utc_date_and_time (at_second timestamp)) }
@@ -108,8 +88,11 @@ impl UtcDateTime {
         }
     }
 
-    /// The date and time in UTC of this many nanoseconds since 1970-01-01T00:00:00 UTC. Refuses a
-    /// number outside the range of `Timestamp` as `timestamp`.
+    /// Returns the date and time in UTC of this many nanoseconds since 1970-01-01T00:00:00 UTC.
+    ///
+    /// # Errors
+    ///
+    /// A number outside the range of `Timestamp` is refused as `timestamp`.
     pub fn from_unix_timestamp_nanos(timestamp: i128) -> Result<UtcDateTime, ComponentRange>
         ensures accepted { IsOk result ↔ IsTimestampNanosecond timestamp }
         ensures value { IfOk result (λ t. nanoseconds (moment_of t) ≡ timestamp) }
@@ -122,21 +105,24 @@ impl UtcDateTime {
         }
     }
 
-    /// The date and time in UTC that these are.
+    /// Returns this date and time of day as one in UTC.
     pub fn from_primitive(shown: PlainDateTime) -> UtcDateTime
-        ensures { result ≡ record { date = shown.date; time = shown.time } }
+        ensures { result ≡ record { date = shown.date; time = shown.time; offset = tt } }
     {
         UtcDateTime::new(shown.date(), shown.time())
     }
 
-    /// The date and the time, of no place in particular.
+    /// Returns the date and the time of day without UTC.
     pub fn as_primitive(self) -> PlainDateTime
-        ensures { result ≡ record { date = self.date; time = self.time } }
+        ensures { result ≡ record { date = self.date; time = self.time; offset = tt } }
     {
         PlainDateTime::new(self.date, self.time)
     }
 
-    /// The same moment by clocks at this offset, whose year there is in range, as the caller knows.
+    /// Returns the same moment by clocks at this offset.
+    ///
+    /// The caller knows that their year is in range:
+    /// [`checked_to_offset`](UtcDateTime::checked_to_offset) tests it.
     pub fn to_offset(self, offset: UtcOffset) -> OffsetDateTime
         requires { IsTimestampSecond (unix_seconds self +ℤ offset_seconds offset) }
         ensures value { result ≡ local_at (moment_of self) offset }
@@ -148,7 +134,7 @@ impl UtcDateTime {
         }
     }
 
-    /// The same moment by clocks at this offset. Returns `None` where their year is outside
+    /// Returns the same moment by clocks at this offset, or `None` where their year is outside
     /// -999,999 to 999,999.
     pub fn checked_to_offset(self, offset: UtcOffset) -> Option<OffsetDateTime>
         ensures accepted { IsSome result

@@ -79,9 +79,14 @@ impl UtcOffset {
         seconds: 0,
     };
 
-    /// The offset of hours -25 to 25, minutes -59 to 59 and seconds -59 to 59. Refuses the first
-    /// part that is outside its range, in this order. If signs differ, the later parts take the
-    /// sign of the first part that is not zero.
+    /// Returns the offset of hours, -25 to 25, and minutes and seconds, -59 to 59.
+    ///
+    /// If signs differ, the later parts take the sign of the first part that is not zero.
+    ///
+    /// # Errors
+    ///
+    /// The first part out of its range is refused as `hours`, `minutes` or `seconds`, in this
+    /// order.
     pub fn from_hms(hours: i8, minutes: i8, seconds: i8) -> Result<UtcOffset, ComponentRange>
         ensures accepted { IsOk result ↔ AreOffsetParts hours minutes seconds }
         ensures value { IfOk result (λ o. o ≡ settled hours minutes seconds) }
@@ -103,8 +108,10 @@ impl UtcOffset {
         Ok(UtcOffset::from_ranged_hms(hours, minutes, seconds))
     }
 
-    /// The offset of parts that are in the ranges of `from_hms`, as the caller knows. Nothing is
-    /// tested. If signs differ, the later parts take the sign of the first part that is not zero.
+    /// Returns the offset of parts that are in the ranges of [`from_hms`](UtcOffset::from_hms), as
+    /// the caller knows.
+    ///
+    /// If signs differ, the later parts take the sign of the first part that is not zero.
     pub fn from_ranged_hms(hours: i8, minutes: i8, seconds: i8) -> UtcOffset
         requires { AreOffsetParts hours minutes seconds }
         ensures { result ≡ settled hours minutes seconds }
@@ -117,8 +124,8 @@ impl UtcOffset {
         }
     }
 
-    /// The offset of parts that are in the ranges of `from_hms` and have one sign at most, as the
-    /// caller knows. Nothing is tested.
+    /// Returns the offset of parts that are in the ranges of [`from_hms`](UtcOffset::from_hms) and
+    /// have one sign at most, as the caller knows.
     pub fn from_valid_hms(hours: i8, minutes: i8, seconds: i8) -> UtcOffset
         requires { IsOffset (record { hours = hours; minutes = minutes; seconds = seconds }) }
         ensures { result ≡ record { hours = hours; minutes = minutes; seconds = seconds } }
@@ -130,8 +137,11 @@ impl UtcOffset {
         }
     }
 
-    /// The offset of -93,599 to 93,599 seconds, which is 25:59:59 either way. Refuses any other
-    /// number as `seconds`.
+    /// Returns the offset of -93,599 to 93,599 seconds, which is 25:59:59 either way.
+    ///
+    /// # Errors
+    ///
+    /// Any other number is refused as `seconds`.
     pub fn from_whole_seconds(seconds: i32) -> Result<UtcOffset, ComponentRange>
         ensures accepted { IsOk result ↔ unsigned_abs seconds < 93_600 }
         ensures value { IfOk result (λ o. o ≡ offset_of_seconds seconds) }
@@ -151,7 +161,7 @@ impl UtcOffset {
         })
     }
 
-    /// The hours -25 to 25, the minutes -59 to 59 and the seconds -59 to 59.
+    /// Returns the hours -25 to 25, the minutes -59 to 59 and the seconds -59 to 59.
     pub fn as_hms(self) -> (i8, i8, i8)
         ensures hours { result.0 ≡ self.hours }
         ensures minutes { result.1 ≡ self.minutes }
@@ -162,7 +172,7 @@ impl UtcOffset {
         (self.hours, self.minutes, self.seconds)
     }
 
-    /// The hours, -25 to 25: the whole offset in hours, rounded toward zero.
+    /// Returns the whole offset in hours, rounded toward zero, -25 to 25.
     pub fn whole_hours(self) -> i8
         ensures value { result ≡ self.hours }
         ensures range { unsigned_abs result ≤ 25 }
@@ -170,7 +180,7 @@ impl UtcOffset {
         self.hours
     }
 
-    /// The whole offset in minutes, rounded toward zero, -1,559 to 1,559.
+    /// Returns the whole offset in minutes, rounded toward zero, -1,559 to 1,559.
     pub fn whole_minutes(self) -> i16
         ensures value { result ≡ offset_minutes self }
         ensures range { unsigned_abs result < 1_560 }
@@ -178,7 +188,7 @@ impl UtcOffset {
         sixtieths(self.hours as i32, self.minutes) as i16
     }
 
-    /// The minutes past the hour, -59 to 59.
+    /// Returns the minutes past the hour, -59 to 59.
     pub fn minutes_past_hour(self) -> i8
         ensures value { result ≡ self.minutes }
         ensures range { unsigned_abs result ≤ 59 }
@@ -186,7 +196,7 @@ impl UtcOffset {
         self.minutes
     }
 
-    /// The seconds past the minute, -59 to 59.
+    /// Returns the seconds past the minute, -59 to 59.
     pub fn seconds_past_minute(self) -> i8
         ensures value { result ≡ self.seconds }
         ensures range { unsigned_abs result ≤ 59 }
@@ -194,15 +204,15 @@ impl UtcOffset {
         self.seconds
     }
 
-    /// Whether every part is zero.
+    /// Returns whether the offset is zero.
     pub fn is_utc(self) -> bool
         ensures { result ≡ is_utc self }
     {
-        // No test is a branch, so that the compiler computes the answer only where it is used.
+        // Without branches.
         (self.hours == 0) & (self.minutes == 0) & (self.seconds == 0)
     }
 
-    /// Whether some part is above zero.
+    /// Returns whether clocks at the offset are ahead of UTC.
     pub fn is_positive(self) -> bool
         ensures { result ≡ is_positive self }
     {
@@ -210,7 +220,7 @@ impl UtcOffset {
         (self.hours > 0) | (self.minutes > 0) | (self.seconds > 0)
     }
 
-    /// Whether some part is below zero.
+    /// Returns whether clocks at the offset are behind UTC.
     pub fn is_negative(self) -> bool
         ensures { result ≡ is_negative self }
     {
@@ -218,7 +228,7 @@ impl UtcOffset {
         (self.hours < 0) | (self.minutes < 0) | (self.seconds < 0)
     }
 
-    /// The whole offset in seconds, -93,599 to 93,599.
+    /// Returns the whole offset in seconds, -93,599 to 93,599.
     pub fn whole_seconds(self) -> i32
         ensures value { result ≡ offset_seconds self }
         ensures range { unsigned_abs result < 93_600 }

@@ -8,7 +8,7 @@ ghost use Rattle.time_below.specs.WeekDate.{weeks_in_year};
 pub use crate::calendar::{days_in_year, is_leap_year};
 use crate::month::Month;
 
-/// The number of days of the month in this year, 28 to 31.
+/// Returns the number of days of the month in this year, 28 to 31.
 pub fn days_in_month(month: Month, year: i32) -> u8
     ensures value { result ≡ days_in_month (is_leap_year year) (month_number month) }
     ensures range { IsInRange 28 31 result }
@@ -23,7 +23,7 @@ fn years_past(year: i32) -> u32
     (year.rem_euclid(400) as u32 + 399) % 400
 }
 
-/// The number of weeks of a year of the week calendar, 52 or 53 (ISO 8601-1:2019, 5.2.4).
+/// Returns the number of weeks of a year of the week calendar, 52 or 53 (ISO 8601-1:2019, 5.2.4).
 #[tactic(auto, using(crate::proofs::WeekDateLemmas::weeks_of_years))]
 pub fn weeks_in_year(year: i32) -> u8
     ensures value { result ≡ weeks_in_year year }

@@ -42,7 +42,7 @@ impl Weekday {
         }
     }
 
-    /// The days since Monday, 0 for Monday to 6 for Sunday.
+    /// Returns the days since Monday, 0 for Monday to 6 for Sunday.
     pub fn number_days_from_monday(self) -> u8
         ensures value { result ≡ days_from_monday self }
         ensures range { result < 7 }
@@ -50,7 +50,7 @@ impl Weekday {
         self as u8
     }
 
-    /// The days since Sunday, 0 for Sunday to 6 for Saturday.
+    /// Returns the days since Sunday, 0 for Sunday to 6 for Saturday.
     pub fn number_days_from_sunday(self) -> u8
         ensures value { result ≡ days_from_sunday self }
         ensures range { result < 7 }
@@ -61,7 +61,7 @@ impl Weekday {
         }
     }
 
-    /// The position in the week, 1 for Monday to 7 for Sunday.
+    /// Returns the position in the week, 1 for Monday to 7 for Sunday.
     pub fn number_from_monday(self) -> u8
         ensures value { result ≡ days_from_monday self + 1 }
         ensures range { IsInRange 1 7 result }
@@ -69,7 +69,7 @@ impl Weekday {
         self as u8 + 1
     }
 
-    /// The position in a week that begins on Sunday, 1 for Sunday to 7 for Saturday.
+    /// Returns the position in a week that begins on Sunday, 1 for Sunday to 7 for Saturday.
     pub fn number_from_sunday(self) -> u8
         ensures value { result ≡ days_from_sunday self + 1 }
         ensures range { IsInRange 1 7 result }
@@ -77,28 +77,28 @@ impl Weekday {
         self.number_days_from_sunday() + 1
     }
 
-    /// The weekday before, which is Sunday before Monday.
+    /// Returns the weekday before, which is Sunday before Monday.
     pub fn previous(self) -> Weekday
         ensures { days_from_monday self ≡ (days_from_monday result + 1) % 7 }
     {
         self.nth_prev(1)
     }
 
-    /// The weekday after, which is Monday after Sunday.
+    /// Returns the weekday after, which is Monday after Sunday.
     pub fn next(self) -> Weekday
         ensures { days_from_monday result ≡ (days_from_monday self + 1) % 7 }
     {
         self.nth_next(1)
     }
 
-    /// The weekday this many days after.
+    /// Returns the weekday this many days after.
     pub fn nth_next(self, n: u8) -> Weekday
         ensures { days_from_monday result ≡ (days_from_monday self + n) % 7 }
     {
         Weekday::from_monday((self as u8 + n % 7) % 7)
     }
 
-    /// The weekday this many days before.
+    /// Returns the weekday this many days before.
     pub fn nth_prev(self, n: u8) -> Weekday
         ensures { days_from_monday self ≡ (days_from_monday result + n) % 7 }
     {

@@ -5,17 +5,14 @@ use Rattle.std.proofs.lemmas.List.{reverse-append, length-map, length-reverse}
 use Rattle.time_below.specs.Tree.{Tree}
 use Rattle.std.proofs.Common.{Bor}
 use Rattle.time_describe.specs.declared.fault.Fault.{Fault}
-use Rattle.time_describe.specs.declared.fault.Failure.{Failure}
 use Rattle.time_describe.specs.declared.brackets.reason.BracketReason.{BracketReason}
-use Rattle.time_describe.specs.declared.fault.Failure.TheVariants as failure
 use Rattle.time_describe.specs.declared.brackets.reason.BracketReason.TheVariants.{MissingItems}
 use Rattle.time_describe.specs.declared.brackets.frame.Frame as code
-use Rattle.time_describe.specs.declared.items.Nest.{Nest}
-use Rattle.time_describe.specs.declared.items.Nest.TheVariants as nests
+use Rattle.time_describe.specs.declared.items.ListKind.{ListKind}
+use Rattle.time_describe.specs.declared.items.ListKind.TheVariants as kinds
 use Rattle.time_describe.specs.Items.{is_nil}
 use Rattle.time_describe.specs.Pieces.{is_nested}
 use Rattle.time_describe.specs.Reading.{Frame, fails, nested}
-use Rattle.time_describe.specs.Description.{Fails}
 use Rattle.time_describe.specs.Outcome.{AreKept, AreOpen, GoesOn, IsEnd, kept, lacks_list}
 use Rattle.time_describe.proofs.EndLemmas.{end_cut, end_more}
 
@@ -60,37 +57,32 @@ and_false false = refl
 
 -- ---- brackets with lists
 
-pub nested_there : (nest : Nest) (lists : List Tree) (left : ℕ) → lacks_list nest (is_nil lists) ≡ false → (t : Tree) × (nested nest lists left ≡ Ok t)
-nested_there nests.First lists left some = (_, refl)
-nested_there nests.Optional [] left some = absurd cc
-nested_there nests.Optional (t ∷ ts) left some = (t, refl)
+pub nested_there : (kind : ListKind) (lists : List Tree) (left : ℕ) → lacks_list kind (is_nil lists) ≡ false → (t : Tree) × (nested kind lists left ≡ Ok t)
+nested_there kinds.First lists left some = (_, refl)
+nested_there kinds.Optional [] left some = absurd cc
+nested_there kinds.Optional (t ∷ ts) left some = (t, refl)
 
-pub nested_lacks : (nest : Nest) (lists : List Tree) (left : ℕ) → lacks_list nest (is_nil lists) ≡ true → nested nest lists left ≡ fails MissingItems left
-nested_lacks nests.First lists left none = absurd cc
-nested_lacks nests.Optional [] left none = refl
-nested_lacks nests.Optional (t ∷ ts) left none = absurd cc
+pub nested_lacks : (kind : ListKind) (lists : List Tree) (left : ℕ) → lacks_list kind (is_nil lists) ≡ true → nested kind lists left ≡ fails MissingItems left
+nested_lacks kinds.First lists left none = absurd cc
+nested_lacks kinds.Optional [] left none = refl
+nested_lacks kinds.Optional (t ∷ ts) left none = absurd cc
 
 -- ---- what calls return
 
-pub fails_along : {A B : Type 0} (can_refuse : Bool) (e : Failure BracketReason) (x : Result A (Fault BracketReason)) (y : Result B (Fault BracketReason)) → ((f : Fault BracketReason) → x ≡ Err f → y ≡ Err f)
-    → Fails can_refuse e x → Fails can_refuse e y
-fails_along can_refuse failure.OutOfMemory x y along h = h
-fails_along can_refuse (failure.Invalid f) x y along h = along f h
-
-pub goes_along : (can_refuse : Bool) (Holds : List Frame → List Tree → Type 0) (r : Result (Bor (List ℕ)) (Failure BracketReason)) (x y : Result (List Tree) (Fault BracketReason)) → y ≡ x
-    → GoesOn can_refuse Holds r x → GoesOn can_refuse Holds r y
-goes_along can_refuse Holds r x y e h = subst (λ (v : Result (List Tree) (Fault BracketReason)). GoesOn can_refuse Holds r v) (sym e) h
+pub goes_along : (Holds : List Frame → List Tree → Type 0) (r : Result (Bor (List ℕ)) (Fault BracketReason)) (x y : Result (List Tree) (Fault BracketReason)) → y ≡ x
+    → GoesOn Holds r x → GoesOn Holds r y
+goes_along Holds r x y e h = subst (λ (v : Result (List Tree) (Fault BracketReason)). GoesOn Holds r v) (sym e) h
 
 -- the lists stay open
-pub goes_open : (can_refuse : Bool) (Holds : List Frame → List Tree → Type 0) (frames : List code.Frame) (fs : List Frame) (r : Result (Bor (List ℕ)) (Failure BracketReason))
-    (x : Result (List Tree) (Fault BracketReason)) → AreKept frames fs → GoesOn can_refuse (λ gs items. (gs ≡ fs) × Holds gs items) r x
-    → GoesOn can_refuse (AreOpen Holds frames) r x
-goes_open can_refuse Holds frames fs (Ok rest) x are h =
+pub goes_open : (Holds : List Frame → List Tree → Type 0) (frames : List code.Frame) (fs : List Frame) (r : Result (Bor (List ℕ)) (Fault BracketReason))
+    (x : Result (List Tree) (Fault BracketReason)) → AreKept frames fs → GoesOn (λ gs items. (gs ≡ fs) × Holds gs items) r x
+    → GoesOn (AreOpen Holds frames) r x
+goes_open Holds frames fs (Ok rest) x are h =
     (h.0, h.1, (subst (λ (gs : List Frame). AreKept frames gs) (sym h.2.0) are, h.2.1), h.3)
-goes_open can_refuse Holds frames fs (Err e) x are h = h
+goes_open Holds frames fs (Err e) x are h = h
 
 -- what is behind the rest of a text is at the end of the whole
-pub ends_behind : (s : List ℕ) (b : ℕ) (bs : List ℕ) (r : Result (Bor (List ℕ)) (Failure BracketReason)) → s ≡ b ∷ bs → IfOk r (λ x. IsEnd bs x.now)
+pub ends_behind : (s : List ℕ) (b : ℕ) (bs : List ℕ) (r : Result (Bor (List ℕ)) (Fault BracketReason)) → s ≡ b ∷ bs → IfOk r (λ x. IsEnd bs x.now)
     → IfOk r (λ x. IsEnd s x.now)
 ends_behind s b bs (Ok x) is h = end_more s bs x.now (end_cut s b bs is) h
 ends_behind s b bs (Err e) is h = tt

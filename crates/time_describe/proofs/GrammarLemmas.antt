@@ -9,13 +9,13 @@ use Rattle.time_below.specs.declared.format_description.component.Component.{Com
 use Rattle.time_below.specs.Tree.{Tree, trees, of_component, all_of}
 use Rattle.time_describe.specs.declared.brackets.reason.BracketReason.{BracketReason}
 use Rattle.time_describe.specs.declared.fault.Fault.{Fault}
-use Rattle.time_describe.specs.declared.items.Nest.{Nest}
+use Rattle.time_describe.specs.declared.items.ListKind.{ListKind}
 use Rattle.time_describe.specs.Literal.{literal_of}
 use Rattle.time_describe.specs.Marks.{past}
 use Rattle.time_describe.specs.Pieces.{ends_literal, is_nested}
 use Rattle.std.proofs.lemmas.Bool.{lt-ltb}
 use Rattle.time_describe.specs.Grammar.{Word, Inside, Parts, done, plain, escaped, in_brackets, with_lists, Lists, no_list, list, words, spelling, lists_spelling, AreWhite, IsWord, IsChoice, IsChosen, IsInside, IsApart, is_deep, Means, ListsMean}
-use Rattle.time_describe.specs.Reading.{Frame, between, keyword, nested, is_special, is_escapable, ends_word, at_fault, with_word, nest_of, with_literal, outside, brackets, read, of_name, within_limit, IsWithinLimit, described}
+use Rattle.time_describe.specs.Reading.{Frame, between, keyword, nested, is_special, is_escapable, ends_word, at_fault, with_word, list_kind_of, with_literal, outside, brackets, read, of_name, within_limit, IsWithinLimit, described}
 use Rattle.time_describe.proofs.ReadLemmas.{white_byte, closes, word_byte, ended_word, plain_byte, ended_keyword, list_opened, lists_closed}
 
 -- what whitespace is not
@@ -70,7 +70,7 @@ words_end (w ∷ ws) s h e = some_gap w.gap (w.bytes ++ words ws s) h.0.0 h.0.1
 
 -- a whole word
 word_ended : (fs : List Frame) (bytes : List ℕ) (o : ℕ) (c : Option Component) (items : List Tree) (s : List ℕ) (made : Component)
-    → IsWord bytes → nest_of c bytes ≡ None → with_word c bytes ≡ Ok made → Ends s
+    → IsWord bytes → list_kind_of c bytes ≡ None → with_word c bytes ≡ Ok made → Ends s
     → read fs (brackets o c []) items [] (bytes ++ s) ≡ read fs (brackets o (Some made) []) items [] s
 word_ended fs [] o c items s made h none w e = absurd (h.0 refl)
 word_ended fs (x ∷ xs) o c items s made h none w e =
@@ -100,13 +100,13 @@ inside_read fs i o made items s h =
 
 -- ---- between lists
 
-gap_between : (gap : List ℕ) (fs : List Frame) (n : Nest) (o : ℕ) (lists items : List Tree) (s : List ℕ) → AreWhite gap
+gap_between : (gap : List ℕ) (fs : List Frame) (n : ListKind) (o : ℕ) (lists items : List Tree) (s : List ℕ) → AreWhite gap
     → read fs (between n o lists) items [] (gap ++ s) ≡ read fs (between n o lists) items [] s
 unfolding read
 gap_between [] fs n o lists items s h = refl
 gap_between (b ∷ gap) fs n o lists items s h = rw h.0 (gap_between gap fs n o lists items s h.1)
 
-keyword_ended : (bytes : List ℕ) (fs : List Frame) (o : ℕ) (items : List Tree) (s : List ℕ) (n : Nest)
+keyword_ended : (bytes : List ℕ) (fs : List Frame) (o : ℕ) (items : List Tree) (s : List ℕ) (n : ListKind)
     → IsWord bytes → keyword bytes ≡ Some n → Ends s
     → read fs (brackets o None []) items [] (bytes ++ s) ≡ read fs (between n o []) items [] s
 keyword_ended [] fs o items s n h is e = absurd (h.0 refl)
@@ -116,7 +116,7 @@ keyword_ended (x ∷ xs) fs o items s n h is e =
     ∙ ended_keyword fs (eqb e.first 93) e.first o None x xs items e.rest n refl e.usual e.ends is
     ∙ ap (read fs (between n o []) items []) (sym e.is)
 
-lists_end : (ls : Lists) (s : List ℕ) (depth : ℕ) (n : Nest) (before all : List Tree) → IsApart ls → ListsMean depth n before ls all → Ends s → Ends (lists_spelling ls s)
+lists_end : (ls : Lists) (s : List ℕ) (depth : ℕ) (n : ListKind) (before all : List Tree) → IsApart ls → ListsMean depth n before ls all → Ends s → Ends (lists_spelling ls s)
 lists_end no_list s depth n before all apart h e = e
 lists_end (list gap ps ls) s depth n before all apart h e = some_gap gap (91 ∷ spelling ps (93 ∷ lists_spelling ls s)) apart h.0
 
@@ -134,7 +134,7 @@ opened_read [] items literal s = refl
 opened_read (_ ∷ fs) items literal s = refl
 
 closed_read : (f : Frame) (fs : List Frame) (items : List Tree) (literal s : List ℕ)
-    → read (f ∷ fs) outside items literal (93 ∷ s) ≡ read fs (between f.nest f.opened (f.lists ++ all_of (trees (with_literal items literal)) ∷ [])) f.items [] s
+    → read (f ∷ fs) outside items literal (93 ∷ s) ≡ read fs (between f.kind f.opened (f.lists ++ all_of (trees (with_literal items literal)) ∷ [])) f.items [] s
 unfolding read
 closed_read f fs items literal s = refl
 
@@ -146,7 +146,7 @@ is_deep_nested : (fs : List Frame) → is_deep (length fs) ≡ is_nested fs
 is_deep_nested [] = refl
 is_deep_nested (_ ∷ fs) = refl
 
-lists_closed_any : (fs : List Frame) (n : Nest) (o : ℕ) (ts items : List Tree) (s : List ℕ) (t : Tree) → ((left : ℕ) → nested n ts left ≡ Ok t)
+lists_closed_any : (fs : List Frame) (n : ListKind) (o : ℕ) (ts items : List Tree) (s : List ℕ) (t : Tree) → ((left : ℕ) → nested n ts left ≡ Ok t)
     → read fs (between n o ts) items [] (93 ∷ s) ≡ read fs outside (items ++ t ∷ []) [] s
 lists_closed_any fs n o ts items s t h = lists_closed fs n o ts items 93 s t refl refl (h (length s + 1))
 
@@ -178,7 +178,7 @@ mutual
       ∙ lists_closed_any fs n o h.5 items-now (spelling ps after) h.7 h.8
       ∙ parts_read ps fs after X ends (items-now ++ h.7 ∷ []) [] all h.9
 
-  pub lists_read : (ls : Lists) (fs : List Frame) (n : Nest) (o : ℕ) (before items all : List Tree) (s : List ℕ)
+  pub lists_read : (ls : Lists) (fs : List Frame) (n : ListKind) (o : ℕ) (before items all : List Tree) (s : List ℕ)
       → ListsMean (length fs) n before ls all
       → read fs (between n o before) items [] (lists_spelling ls s) ≡ read fs (between n o all) items [] s
   lists_read no_list fs n o before items all s h = ap (λ (ts : List Tree). read fs (between n o ts) items [] s) h
@@ -186,9 +186,9 @@ mutual
       let inner = spelling ps (93 ∷ lists_spelling ls s) in
       gap_between gap fs n o before items (91 ∷ inner) h.0
       ∙ list_opened fs n o before items 91 inner refl refl h.1 (lt-ltb (length fs) 32 h.2)
-      ∙ parts_read ps (record { nest = n; opened = o; opened_list = length inner + 1; items = items; lists = before } ∷ fs) (93 ∷ lists_spelling ls s)
+      ∙ parts_read ps (record { kind = n; opened = o; opened_list = length inner + 1; items = items; lists = before } ∷ fs) (93 ∷ lists_spelling ls s)
       (λ ts. read fs (between n o (before ++ all_of (trees ts) ∷ [])) items [] (lists_spelling ls s))
-      (λ is l. closed_read (record { nest = n; opened = o; opened_list = length inner + 1; items = items; lists = before }) fs is l (lists_spelling ls s))
+      (λ is l. closed_read (record { kind = n; opened = o; opened_list = length inner + 1; items = items; lists = before }) fs is l (lists_spelling ls s))
       [] [] h.3 h.4
       ∙ lists_read ls fs n o (before ++ all_of (trees h.3) ∷ []) items all s h.5
 

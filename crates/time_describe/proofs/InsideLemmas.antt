@@ -1,17 +1,17 @@
 -- The place of a fault lies within the text.
 use Rattle.std.proofs.lemmas.List.{length-append}
-use Rattle.std.proofs.Common.{◌≡◌, subst, ℕ, zero, suc, ◌+◌, ◌-◌, ◌<◌, ◌≤◌, Bool, true, false, eqb, ltb, ◌&&◌, List, [], ◌∷◌, ◌++◌, length, Option, Some, None, Result, Ok, Err, refl, sym, ap, ◌∙◌, arith}
+use Rattle.std.proofs.Common.{◌≡◌, subst, ℕ, zero, suc, ◌+◌, ◌<◌, ◌≤◌, Bool, true, false, eqb, ltb, ◌&&◌, List, [], ◌∷◌, ◌++◌, length, Option, Some, None, Result, Ok, Err, refl, sym, ap, ◌∙◌, arith}
 use Rattle.std.specs.Char.{is_ascii_whitespace}
 use Rattle.time_below.specs.Tree.{Tree, of_component}
 use Rattle.time_below.specs.declared.format_description.component.Component.{Component}
 use Rattle.time_describe.specs.Description.{LiesWithin}
 use Rattle.time_describe.specs.declared.fault.Fault.{Fault}
 use Rattle.time_describe.specs.declared.brackets.reason.BracketReason.{BracketReason}
-use Rattle.time_describe.specs.declared.items.Nest.{Nest}
-use Rattle.time_describe.specs.declared.items.Nest.TheVariants as nests
+use Rattle.time_describe.specs.declared.items.ListKind.{ListKind}
+use Rattle.time_describe.specs.declared.items.ListKind.TheVariants as kinds
 use Rattle.time_describe.specs.Literal.{literal_of}
 use Rattle.time_describe.specs.Marks.{past}
-use Rattle.time_describe.specs.Reading.{◌>>=◌, Frame, BytePlace, outside, escape, brackets, between, read, fails, at_fault, with_word, nest_of, word_place, after_word, ended, finished, nested, takes_list, after_list, with_literal, is_special, is_escapable, within_limit, described}
+use Rattle.time_describe.specs.Reading.{◌>>=◌, Frame, BytePlace, outside, escape, brackets, between, read, fails, at_fault, with_word, list_kind_of, word_place, after_word, ended, finished, nested, takes_list, after_list, with_literal, is_special, is_escapable, within_limit, described}
 use Rattle.time_describe.proofs.CaseLemmas.{by_test, by_result}
 
 -- a fault, if there is one, is within so many bytes
@@ -45,10 +45,10 @@ PlaceIn n (between k o lists) left = (0 < o) × (o ≤ n) × (left ≤ n)
 
 -- ---- what fails, fails where it says
 
-nested_at : (k : Nest) (lists : List Tree) (left : ℕ) (f : Fault BracketReason) → nested k lists left ≡ Err f → left ≡ f.left
-nested_at nests.Optional [] left f e = ap (λ (y : Fault BracketReason). y.left) (same_fault (fails _ left) (record { reason = _; left = left }) f refl e)
-nested_at nests.Optional (t ∷ ts) left f e = absurd cc
-nested_at nests.First lists left f e = absurd cc
+nested_at : (k : ListKind) (lists : List Tree) (left : ℕ) (f : Fault BracketReason) → nested k lists left ≡ Err f → left ≡ f.left
+nested_at kinds.Optional [] left f e = ap (λ (y : Fault BracketReason). y.left) (same_fault (fails _ left) (record { reason = _; left = left }) f refl e)
+nested_at kinds.Optional (t ∷ ts) left f e = absurd cc
+nested_at kinds.First lists left f e = absurd cc
 
 reason_at : {A : Type 0} (r : Result A BracketReason) (left : ℕ) (f : Fault BracketReason) → at_fault r left ≡ Err f → left ≡ f.left
 reason_at (Ok x) left f e = absurd cc
@@ -68,25 +68,25 @@ worded_at : (o : ℕ) (r : Result Component (Fault BracketReason)) (f : Fault Br
 worded_at o (Ok x) f e = absurd cc
 worded_at o (Err x) f e = let g : x ≡ f = same_fault (Err x) x f refl e in ap (λ (y : Fault BracketReason). Err y) g
 
-place_at : (o : ℕ) (c : Option Component) (word : List ℕ) (k : Option Nest) (left : ℕ) (f : Fault BracketReason) → word_place o c word k left ≡ Err f → left ≡ f.left
+place_at : (o : ℕ) (c : Option Component) (word : List ℕ) (k : Option ListKind) (left : ℕ) (f : Fault BracketReason) → word_place o c word k left ≡ Err f → left ≡ f.left
 place_at o c word (Some k) left f e = absurd cc
 place_at o c word None left f e = reason_at (with_word c word) left f (worded_at o (at_fault (with_word c word) left) f e)
 
 word_at : (o : ℕ) (c : Option Component) (word : List ℕ) (left : ℕ) (f : Fault BracketReason) → after_word o c word left ≡ Err f → left ≡ f.left
 word_at o c [] left f e = absurd cc
-word_at o c (b ∷ bs) left f e = place_at o c (b ∷ bs) (nest_of c (b ∷ bs)) left f e
+word_at o c (b ∷ bs) left f e = place_at o c (b ∷ bs) (list_kind_of c (b ∷ bs)) left f e
 
 worded_in : (n m o : ℕ) (r : Result Component (Fault BracketReason)) (place : BytePlace) → 0 < o → o ≤ n → m ≤ n → (r >>= λ c. Ok (brackets o (Some c) [])) ≡ Ok place → PlaceIn n place m
 worded_in n m o (Ok x) place some fits left e = let g : brackets o (Some x) [] ≡ place = cc in subst (λ (p : BytePlace). PlaceIn n p m) g (some, fits, omega arith)
 worded_in n m o (Err x) place some fits left e = absurd cc
 
-place_in : (n m o : ℕ) (c : Option Component) (word : List ℕ) (k : Option Nest) (left : ℕ) (place : BytePlace) → 0 < o → o ≤ n → m ≤ n → word_place o c word k left ≡ Ok place → PlaceIn n place m
+place_in : (n m o : ℕ) (c : Option Component) (word : List ℕ) (k : Option ListKind) (left : ℕ) (place : BytePlace) → 0 < o → o ≤ n → m ≤ n → word_place o c word k left ≡ Ok place → PlaceIn n place m
 place_in n m o c word (Some k) left place some fits after e = let g : between k o [] ≡ place = cc in subst (λ (p : BytePlace). PlaceIn n p m) g (some, fits, after)
 place_in n m o c word None left place some fits after e = worded_in n m o (at_fault (with_word c word) left) place some fits after e
 
 word_in : (n m o : ℕ) (c : Option Component) (word : List ℕ) (left : ℕ) (place : BytePlace) → 0 < o → o ≤ n → m ≤ n → after_word o c word left ≡ Ok place → PlaceIn n place m
 word_in n m o c [] left place some fits after e = let g : brackets o c [] ≡ place = cc in subst (λ (p : BytePlace). PlaceIn n p m) g (some, fits, omega arith)
-word_in n m o c (b ∷ bs) left place some fits after e = place_in n m o c (b ∷ bs) (nest_of c (b ∷ bs)) left place some fits after e
+word_in n m o c (b ∷ bs) left place some fits after e = place_in n m o c (b ∷ bs) (list_kind_of c (b ∷ bs)) left place some fits after e
 
 -- ---- so each fault lies within the text
 
@@ -138,7 +138,7 @@ read_in (b ∷ bs) n fs (between k o lists) items literal hf hp =
     (λ x is. let at : length bs + 1 ≡ x.left = nested_at k lists (length bs + 1) x is in fault_in x n (omega arith) (omega arith)))
     (λ e. by_test (In n) (eqb b 91 && takes_list k lists) _ _
     (λ e. by_test (In n) (ltb (length fs) 32) _ _
-    (λ e. read_in bs n (record { nest = k; opened = o; opened_list = length bs + 1; items = items; lists = lists } ∷ fs) outside [] [] (hp.0, hp.1, omega arith, omega arith, hf) (omega arith))
+    (λ e. read_in bs n (record { kind = k; opened = o; opened_list = length bs + 1; items = items; lists = lists } ∷ fs) outside [] [] (hp.0, hp.1, omega arith, omega arith, hf) (omega arith))
     (λ e. fault_in _ n (omega arith) (omega arith)))
     (λ e. fault_in _ n (omega arith) (omega arith))))
 

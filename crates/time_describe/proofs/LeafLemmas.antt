@@ -7,9 +7,6 @@ use Rattle.time_below.specs.declared.format_description.component.Component.{Com
 use Rattle.time_describe.specs.Conversions.{component_of, composed, listed, offset, offset_minute}
 use Rattle.time_describe.specs.Items.{are_leaves, is_leaf}
 use Rattle.time_describe.specs.Literal.{literal_of}
-use Rattle.time_describe.specs.StrftimeOutcome.{items_of_part}
-use Rattle.time_describe.specs.declared.strftime.part.StrftimePart.{StrftimePart}
-use Rattle.time_describe.specs.declared.strftime.part.StrftimePart.TheVariants as part
 
 leaf_by : (b : Bool) (bytes : List ℕ) → is_utf8 bytes ≡ b → is_leaf (literal_of bytes) ≡ true
 unfolding literal_of
@@ -48,10 +45,3 @@ composed_leaves (b ∷ c ∷ bs) = composed_step (b == 37) b c bs refl (composed
 pub offset_leaves : (with_colon : Bool) → IsTrue (are_leaves (offset with_colon))
 offset_leaves false = refl
 offset_leaves true = literal_before (codes ":") (offset_minute ∷ []) refl
-
-pub part_leaves : (own : List ℕ) (p : StrftimePart) → IsTrue (are_leaves (items_of_part own p))
-part_leaves own part.Literal = literal_before own [] refl
-part_leaves own (part.Byte b) = literal_before (b ∷ []) [] refl
-part_leaves own (part.Component c) = refl
-part_leaves own (part.Offset with_colon) = offset_leaves with_colon
-part_leaves own (part.Composition text) = composed_leaves text.now

@@ -6,7 +6,6 @@ pub mod InsideLemmas
 pub mod ValueLemmas
 pub mod PlaceLemmas
 pub mod ReadLemmas
-pub mod FailureLemmas
 pub mod FrameLemmas
 pub mod EndLemmas
 pub mod LeafLemmas
@@ -15,6 +14,5 @@ pub mod GrammarLemmas
 pub mod StrftimeLemmas
 pub mod StrftimeConversions
 pub mod StrftimeParts
-pub mod StrftimeLaws
-pub mod CountedLemmas
 pub mod PartedLemmas
+pub mod StrftimeLaws

@@ -8,11 +8,11 @@ use Rattle.time_below.specs.declared.format_description.component.Component.{Com
 use Rattle.time_below.specs.Tree.{Tree, trees, of_component, all_of}
 use Rattle.time_describe.specs.declared.brackets.reason.BracketReason.{BracketReason}
 use Rattle.time_describe.specs.declared.fault.Fault.{Fault}
-use Rattle.time_describe.specs.declared.items.Nest.{Nest}
+use Rattle.time_describe.specs.declared.items.ListKind.{ListKind}
 use Rattle.time_describe.specs.Literal.{literal_of}
 use Rattle.time_describe.specs.Pieces.{ends_literal, is_nested}
 use Rattle.time_describe.specs.declared.brackets.reason.BracketReason.TheVariants.{UnclosedBracket, InvalidEscape, UnexpectedByte, TooDeep}
-use Rattle.time_describe.specs.Reading.{takes_list, nested, Frame, between, nest_of, escape, is_special, is_escapable, ends_word, fails, at_fault, with_word, finished, outside, brackets, read}
+use Rattle.time_describe.specs.Reading.{takes_list, nested, Frame, between, list_kind_of, escape, is_special, is_escapable, ends_word, fails, at_fault, with_word, finished, outside, brackets, read}
 
 pub or_false : (p q : Bool) → (p || q) ≡ false → (p ≡ false) × (q ≡ false)
 or_false true q e = absurd cc
@@ -106,7 +106,7 @@ closes_wrongly fs b o c fault items bs e f is = rw (e, f, is) refl
 -- ---- where a word ends
 
 pub ended_word : (fs : List Frame) (is_closing : Bool) (d o : ℕ) (c : Option Component) (x : ℕ) (xs : List ℕ) (items : List Tree) (ds : List ℕ) (made : Component)
-    → eqb d 93 ≡ is_closing → is_special d ≡ false → ends_word d ≡ true → nest_of c (x ∷ xs) ≡ None → at_fault (with_word c (x ∷ xs)) (length (x ∷ xs) + (length ds + 1)) ≡ Ok made
+    → eqb d 93 ≡ is_closing → is_special d ≡ false → ends_word d ≡ true → list_kind_of c (x ∷ xs) ≡ None → at_fault (with_word c (x ∷ xs)) (length (x ∷ xs) + (length ds + 1)) ≡ Ok made
     → read fs (brackets o c (x ∷ xs)) items [] (d ∷ ds) ≡ read fs (brackets o (Some made) []) items [] (d ∷ ds)
 unfolding read
 ended_word fs true d o c x xs items ds made f e h none w = rw (e, f, none, w) refl
@@ -114,8 +114,8 @@ ended_word fs false d o c x xs items ds made f e h none w =
     let white : is_ascii_whitespace d ≡ true = rw (e, f) at h in
     rw (e, f, white, none, w) refl
 
-pub ended_keyword : (fs : List Frame) (is_closing : Bool) (d o : ℕ) (c : Option Component) (x : ℕ) (xs : List ℕ) (items : List Tree) (ds : List ℕ) (n : Nest)
-    → eqb d 93 ≡ is_closing → is_special d ≡ false → ends_word d ≡ true → nest_of c (x ∷ xs) ≡ Some n
+pub ended_keyword : (fs : List Frame) (is_closing : Bool) (d o : ℕ) (c : Option Component) (x : ℕ) (xs : List ℕ) (items : List Tree) (ds : List ℕ) (n : ListKind)
+    → eqb d 93 ≡ is_closing → is_special d ≡ false → ends_word d ≡ true → list_kind_of c (x ∷ xs) ≡ Some n
     → read fs (brackets o c (x ∷ xs)) items [] (d ∷ ds) ≡ read fs (between n o []) items [] (d ∷ ds)
 unfolding read
 ended_keyword fs true d o c x xs items ds n f e h is =
@@ -126,7 +126,7 @@ ended_keyword fs false d o c x xs items ds n f e h is =
     rw (e, f, white, is) refl
 
 refused_word : (fs : List Frame) (is_closing : Bool) (d o : ℕ) (c : Option Component) (x : ℕ) (xs : List ℕ) (items : List Tree) (ds : List ℕ) (fault : Fault BracketReason)
-    → eqb d 93 ≡ is_closing → is_special d ≡ false → ends_word d ≡ true → nest_of c (x ∷ xs) ≡ None → at_fault (with_word c (x ∷ xs)) (length (x ∷ xs) + (length ds + 1)) ≡ Err fault
+    → eqb d 93 ≡ is_closing → is_special d ≡ false → ends_word d ≡ true → list_kind_of c (x ∷ xs) ≡ None → at_fault (with_word c (x ∷ xs)) (length (x ∷ xs) + (length ds + 1)) ≡ Err fault
     → read fs (brackets o c (x ∷ xs)) items [] (d ∷ ds) ≡ Err fault
 unfolding read
 refused_word fs true d o c x xs items ds fault f e h none w = rw (e, f, none, w) refl
@@ -177,7 +177,7 @@ next_ends : (s word next : List ℕ) (n d : ℕ) (ds : List ℕ) → Word s word
 next_ends s word next n d ds w e = stops ends_word s d ds (ap (λ (m : ℕ). drop m s) (sym w.len) ∙ sym w.back ∙ e)
 
 pub word_made : (fs : List Frame) (s word next : List ℕ) (n o : ℕ) (c : Option Component) (items : List Tree) (b : ℕ) (bs : List ℕ) (d : ℕ) (ds : List ℕ) (made : Component)
-    → Word s word next n → s ≡ b ∷ bs → ends_word b ≡ false → next ≡ d ∷ ds → is_special d ≡ false → nest_of c word ≡ None → at_fault (with_word c word) (length s) ≡ Ok made
+    → Word s word next n → s ≡ b ∷ bs → ends_word b ≡ false → next ≡ d ∷ ds → is_special d ≡ false → list_kind_of c word ≡ None → at_fault (with_word c word) (length s) ≡ Ok made
     → length s ≡ length word + length next
     → read fs (brackets o c []) items [] s ≡ read fs (brackets o (Some made) []) items [] next
 word_made fs s word next n o c items b bs d ds made w s-is plain next-is usual none is_made len =
@@ -186,11 +186,11 @@ word_made fs s word next n o c items b bs d ds made w s-is plain next-is usual n
     word_read fs s word next n o c items w
     ∙ ap (λ (v : List ℕ). read fs (brackets o c v) items [] next) x.1
     ∙ ap (λ (v : List ℕ). read fs (brackets o c (b ∷ x.0)) items [] v) next-is
-    ∙ ended_word fs (eqb d 93) d o c b x.0 items ds made refl usual (next_ends s word next n d ds w next-is) (ap (nest_of c) (sym x.1) ∙ none) (ap (at_fault (with_word c (b ∷ x.0))) sum ∙ ap (λ (v : List ℕ). at_fault (with_word c v) (length s)) (sym x.1) ∙ is_made)
+    ∙ ended_word fs (eqb d 93) d o c b x.0 items ds made refl usual (next_ends s word next n d ds w next-is) (ap (list_kind_of c) (sym x.1) ∙ none) (ap (at_fault (with_word c (b ∷ x.0))) sum ∙ ap (λ (v : List ℕ). at_fault (with_word c v) (length s)) (sym x.1) ∙ is_made)
     ∙ ap (λ (v : List ℕ). read fs (brackets o (Some made) []) items [] v) (sym next-is)
 
 pub word_refused : (fs : List Frame) (s word next : List ℕ) (n o : ℕ) (c : Option Component) (items : List Tree) (b : ℕ) (bs : List ℕ) (d : ℕ) (ds : List ℕ) (fault : Fault BracketReason)
-    → Word s word next n → s ≡ b ∷ bs → ends_word b ≡ false → next ≡ d ∷ ds → is_special d ≡ false → nest_of c word ≡ None → at_fault (with_word c word) (length s) ≡ Err fault
+    → Word s word next n → s ≡ b ∷ bs → ends_word b ≡ false → next ≡ d ∷ ds → is_special d ≡ false → list_kind_of c word ≡ None → at_fault (with_word c word) (length s) ≡ Err fault
     → length s ≡ length word + length next
     → read fs (brackets o c []) items [] s ≡ Err fault
 word_refused fs s word next n o c items b bs d ds fault w s-is plain next-is usual none refused len =
@@ -199,17 +199,17 @@ word_refused fs s word next n o c items b bs d ds fault w s-is plain next-is usu
     word_read fs s word next n o c items w
     ∙ ap (λ (v : List ℕ). read fs (brackets o c v) items [] next) x.1
     ∙ ap (λ (v : List ℕ). read fs (brackets o c (b ∷ x.0)) items [] v) next-is
-    ∙ refused_word fs (eqb d 93) d o c b x.0 items ds fault refl usual (next_ends s word next n d ds w next-is) (ap (nest_of c) (sym x.1) ∙ none) (ap (at_fault (with_word c (b ∷ x.0))) sum ∙ ap (λ (v : List ℕ). at_fault (with_word c v) (length s)) (sym x.1) ∙ refused)
+    ∙ refused_word fs (eqb d 93) d o c b x.0 items ds fault refl usual (next_ends s word next n d ds w next-is) (ap (list_kind_of c) (sym x.1) ∙ none) (ap (at_fault (with_word c (b ∷ x.0))) sum ∙ ap (λ (v : List ℕ). at_fault (with_word c v) (length s)) (sym x.1) ∙ refused)
 
-pub keyword_read : (fs : List Frame) (s word next : List ℕ) (n o : ℕ) (c : Option Component) (items : List Tree) (b : ℕ) (bs : List ℕ) (d : ℕ) (ds : List ℕ) (kind : Nest)
-    → Word s word next n → s ≡ b ∷ bs → ends_word b ≡ false → next ≡ d ∷ ds → is_special d ≡ false → nest_of c word ≡ Some kind
+pub keyword_read : (fs : List Frame) (s word next : List ℕ) (n o : ℕ) (c : Option Component) (items : List Tree) (b : ℕ) (bs : List ℕ) (d : ℕ) (ds : List ℕ) (kind : ListKind)
+    → Word s word next n → s ≡ b ∷ bs → ends_word b ≡ false → next ≡ d ∷ ds → is_special d ≡ false → list_kind_of c word ≡ Some kind
     → read fs (brackets o c []) items [] s ≡ read fs (between kind o []) items [] next
 keyword_read fs s word next n o c items b bs d ds kind w s-is plain next-is usual is =
     let x = begins ends_word s word n b bs s-is plain w.len w.front in
     word_read fs s word next n o c items w
     ∙ ap (λ (v : List ℕ). read fs (brackets o c v) items [] next) x.1
     ∙ ap (λ (v : List ℕ). read fs (brackets o c (b ∷ x.0)) items [] v) next-is
-    ∙ ended_keyword fs (eqb d 93) d o c b x.0 items ds kind refl usual (next_ends s word next n d ds w next-is) (ap (nest_of c) (sym x.1) ∙ is)
+    ∙ ended_keyword fs (eqb d 93) d o c b x.0 items ds kind refl usual (next_ends s word next n d ds w next-is) (ap (list_kind_of c) (sym x.1) ∙ is)
     ∙ ap (λ (v : List ℕ). read fs (between kind o []) items [] v) (sym next-is)
 
 -- ---- outside of brackets
@@ -241,7 +241,7 @@ unfolding read
 escapes_at_end fs items = refl
 
 pub closes_list : (f : Frame) (fs : List Frame) (b : ℕ) (items : List Tree) (bs : List ℕ) → b ≡ 93
-    → read (f ∷ fs) outside items [] (b ∷ bs) ≡ read fs (between f.nest f.opened (f.lists ++ all_of (trees items) ∷ [])) f.items [] bs
+    → read (f ∷ fs) outside items [] (b ∷ bs) ≡ read fs (between f.kind f.opened (f.lists ++ all_of (trees items) ∷ [])) f.items [] bs
 unfolding read
 closes_list f fs b items bs e = rw e refl
 
@@ -285,7 +285,7 @@ at_end_of_list f fs items = refl
 
 -- ---- between lists
 
-gap_step : (dark : Bool) (n : ℕ) (fs : List Frame) (k : Nest) (o : ℕ) (lists items : List Tree) (b : ℕ) (bs : List ℕ)
+gap_step : (dark : Bool) (n : ℕ) (fs : List Frame) (k : ListKind) (o : ℕ) (lists items : List Tree) (b : ℕ) (bs : List ℕ)
     → read fs (between k o lists) items [] bs ≡ read fs (between k o lists) items [] (drop n bs)
     → is_ascii_whitespace b ≡ dark
     → read fs (between k o lists) items [] (b ∷ bs) ≡ read fs (between k o lists) items [] (drop (cond dark (1 + n) 0) (b ∷ bs))
@@ -295,7 +295,7 @@ gap_step true n fs k o lists items b bs later is =
     rw (is, one) later
 gap_step false n fs k o lists items b bs later is = refl
 
-pub gap_read : (s : List ℕ) (fs : List Frame) (k : Nest) (o : ℕ) (lists items : List Tree)
+pub gap_read : (s : List ℕ) (fs : List Frame) (k : ListKind) (o : ℕ) (lists items : List Tree)
     → read fs (between k o lists) items [] s ≡ read fs (between k o lists) items [] (drop (prefix_len is_ascii_whitespace s) s)
 gap_read [] fs k o lists items = refl
 gap_read (b ∷ bs) fs k o lists items = gap_step (is_ascii_whitespace b) (prefix_len is_ascii_whitespace bs) fs k o lists items b bs (gap_read bs fs k o lists items) refl
@@ -314,36 +314,36 @@ gap_ended (b ∷ bs) d ds e = gap_end_step (is_ascii_whitespace b) (prefix_len i
 
 -- ---- at a bracket between lists
 
-pub nothing_between : (fs : List Frame) (k : Nest) (o : ℕ) (lists items : List Tree) → read fs (between k o lists) items [] [] ≡ fails UnclosedBracket o
+pub nothing_between : (fs : List Frame) (k : ListKind) (o : ℕ) (lists items : List Tree) → read fs (between k o lists) items [] [] ≡ fails UnclosedBracket o
 unfolding read
 nothing_between fs k o lists items = refl
 
-pub lists_closed : (fs : List Frame) (k : Nest) (o : ℕ) (lists items : List Tree) (b : ℕ) (bs : List ℕ) (item : Tree)
+pub lists_closed : (fs : List Frame) (k : ListKind) (o : ℕ) (lists items : List Tree) (b : ℕ) (bs : List ℕ) (item : Tree)
     → is_ascii_whitespace b ≡ false → eqb b 93 ≡ true → nested k lists (length bs + 1) ≡ Ok item
     → read fs (between k o lists) items [] (b ∷ bs) ≡ read fs outside (items ++ item ∷ []) [] bs
 unfolding read
 lists_closed fs k o lists items b bs item e f g = rw (e, f, g) refl
 
-pub lists_refused : (fs : List Frame) (k : Nest) (o : ℕ) (lists items : List Tree) (b : ℕ) (bs : List ℕ) (f : Fault BracketReason)
+pub lists_refused : (fs : List Frame) (k : ListKind) (o : ℕ) (lists items : List Tree) (b : ℕ) (bs : List ℕ) (f : Fault BracketReason)
     → is_ascii_whitespace b ≡ false → eqb b 93 ≡ true → nested k lists (length bs + 1) ≡ Err f
     → read fs (between k o lists) items [] (b ∷ bs) ≡ Err f
 unfolding read
 lists_refused fs k o lists items b bs fault e f g = rw (e, f, g) refl
 
-pub list_unexpected : (fs : List Frame) (k : Nest) (o : ℕ) (lists items : List Tree) (b : ℕ) (bs : List ℕ)
+pub list_unexpected : (fs : List Frame) (k : ListKind) (o : ℕ) (lists items : List Tree) (b : ℕ) (bs : List ℕ)
     → is_ascii_whitespace b ≡ false → eqb b 93 ≡ false → (eqb b 91 && takes_list k lists) ≡ false
     → read fs (between k o lists) items [] (b ∷ bs) ≡ fails UnexpectedByte (length bs + 1)
 unfolding read
 list_unexpected fs k o lists items b bs e f g = rw (e, f, g) refl
 
-pub list_too_deep : (fs : List Frame) (k : Nest) (o : ℕ) (lists items : List Tree) (b : ℕ) (bs : List ℕ)
+pub list_too_deep : (fs : List Frame) (k : ListKind) (o : ℕ) (lists items : List Tree) (b : ℕ) (bs : List ℕ)
     → is_ascii_whitespace b ≡ false → eqb b 93 ≡ false → (eqb b 91 && takes_list k lists) ≡ true → ltb (length fs) 32 ≡ false
     → read fs (between k o lists) items [] (b ∷ bs) ≡ fails TooDeep (length bs + 1)
 unfolding read
 list_too_deep fs k o lists items b bs e f g h = rw (e, f, g, h) refl
 
-pub list_opened : (fs : List Frame) (k : Nest) (o : ℕ) (lists items : List Tree) (b : ℕ) (bs : List ℕ)
+pub list_opened : (fs : List Frame) (k : ListKind) (o : ℕ) (lists items : List Tree) (b : ℕ) (bs : List ℕ)
     → is_ascii_whitespace b ≡ false → eqb b 93 ≡ false → (eqb b 91 && takes_list k lists) ≡ true → ltb (length fs) 32 ≡ true
-    → read fs (between k o lists) items [] (b ∷ bs) ≡ read (record { nest = k; opened = o; opened_list = length bs + 1; items = items; lists = lists } ∷ fs) outside [] [] bs
+    → read fs (between k o lists) items [] (b ∷ bs) ≡ read (record { kind = k; opened = o; opened_list = length bs + 1; items = items; lists = lists } ∷ fs) outside [] [] bs
 unfolding read
 list_opened fs k o lists items b bs e f g h = rw (e, f, g, h) refl

@@ -9,8 +9,8 @@ use Rattle.time_below.specs.declared.format_description.component.Component.{Com
 use Rattle.time_below.specs.Tree.{Tree, trees, of_component, all_of}
 use Rattle.time_describe.specs.declared.fault.Fault.{Fault}
 use Rattle.time_describe.specs.declared.brackets.reason.BracketReason.{BracketReason}
-use Rattle.time_describe.specs.declared.items.Nest.{Nest}
-use Rattle.time_describe.specs.declared.items.Nest.TheVariants as nests
+use Rattle.time_describe.specs.declared.items.ListKind.{ListKind}
+use Rattle.time_describe.specs.declared.items.ListKind.TheVariants as kinds
 use Rattle.time_describe.specs.Grammar.{Word, Parts, done, plain, escaped, in_brackets, with_lists, Lists, no_list, list, words, spelling, lists_spelling, AreWhite, IsWord, IsChoice, IsChosen, IsApart, is_deep, Means, ListsMean}
 use Rattle.time_describe.specs.Literal.{literal_of}
 use Rattle.time_describe.specs.Marks.{past}
@@ -46,7 +46,7 @@ record Behind (depth : ℕ) (E : List Tree → List ℕ → Type 0) (items : Lis
   is : is_escapable byte ≡ true
   out : Out depth E (items ++ literal_of (byte ∷ []) ∷ []) [] after
 
-record Between (depth : ℕ) (E : List Tree → List ℕ → Type 0) (n : Nest) (before items : List Tree) (bs : List ℕ) : Type 0 where
+record Between (depth : ℕ) (E : List Tree → List ℕ → Type 0) (n : ListKind) (before items : List Tree) (bs : List ℕ) : Type 0 where
   lists : Lists
   ts : List Tree
   gap : List ℕ
@@ -58,7 +58,7 @@ record Between (depth : ℕ) (E : List Tree → List ℕ → Type 0) (n : Nest) 
   made : (left : ℕ) → nested n ts left ≡ Ok tree
   out : Out depth E (items ++ tree ∷ []) [] after
 
-record Apart (depth : ℕ) (E : List Tree → List ℕ → Type 0) (n : Nest) (items : List Tree) (bs : List ℕ) : Type 0 where
+record Apart (depth : ℕ) (E : List Tree → List ℕ → Type 0) (n : ListKind) (items : List Tree) (bs : List ℕ) : Type 0 where
   between : Between depth E n [] items bs
   apart : IsApart between.lists
 
@@ -98,7 +98,7 @@ record InWord (depth : ℕ) (E : List Tree → List ℕ → Type 0) (c : Compone
 abbrev IsOf : ℕ → (List Tree → List ℕ → Type 0) → List ℕ → List Tree → List ℕ → Type 0
 IsOf depth E name items after =
     ((keyword name ≡ None) × (first : Component) × (named name ≡ Some first) × Strict depth E first items after)
-    ⊎ ((n : Nest) × (keyword name ≡ Some n) × Apart depth E n items after)
+    ⊎ ((n : ListKind) × (keyword name ≡ Some n) × Apart depth E n items after)
 
 record InName (depth : ℕ) (E : List Tree → List ℕ → Type 0) (word : List ℕ) (items : List Tree) (bs : List ℕ) : Type 0 where
   tail : List ℕ
@@ -120,7 +120,7 @@ record AtName (depth : ℕ) (E : List Tree → List ℕ → Type 0) (items : Lis
 abbrev Ends : List Tree → List Frame → List Tree → List ℕ → Type 0
 Ends all [] = λ inner after. (after ≡ []) × (inner ≡ all)
 Ends all (f ∷ fs) = λ inner after.
-    (rest : List ℕ) × (after ≡ 93 ∷ rest) × Between (length fs) (Ends all fs) f.nest (f.lists ++ all_of (trees inner) ∷ []) f.items rest
+    (rest : List ℕ) × (after ≡ 93 ∷ rest) × Between (length fs) (Ends all fs) f.kind (f.lists ++ all_of (trees inner) ∷ []) f.items rest
 
 abbrev InBrackets : ℕ → (List Tree → List ℕ → Type 0) → Option Component → List ℕ → List Tree → List ℕ → Type 0
 InBrackets depth E None [] items bs = AtName depth E items bs
@@ -172,7 +172,7 @@ component_first b bs e h none first is c = record {
 }
 
 lists_first : {depth : ℕ} {E : List Tree → List ℕ → Type 0} {items : List Tree} {literal : List ℕ} (b : ℕ) (bs : List ℕ) → eqb b 91 ≡ true
-    → (h : AtName depth E (with_literal items literal) bs) → (n : Nest) → keyword (h.first ∷ h.name.tail) ≡ Some n
+    → (h : AtName depth E (with_literal items literal) bs) → (n : ListKind) → keyword (h.first ∷ h.name.tail) ≡ Some n
     → Apart depth E n (with_literal items literal) h.name.after → Out depth E items literal (b ∷ bs)
 lists_first b bs e h n is a =
     let w = a.between in
@@ -240,7 +240,7 @@ loose (w ∷ ws) h = (h.0.1, h.0.2, h.1)
 loosened : {depth : ℕ} {E : List Tree → List ℕ → Type 0} {c : Component} {items : List Tree} {bs : List ℕ} → Strict depth E c items bs → Loose depth E c items bs
 loosened h = record { choices = h.choices; gap = h.gap; made = h.made; after = h.after; spelled = h.spelled; allowed = loose h.choices h.allowed; white = h.white; chosen = h.chosen; whole = h.whole; out = h.out }
 
-wide_lists : {depth : ℕ} {E : List Tree → List ℕ → Type 0} {items : List Tree} (b : ℕ) (bs : List ℕ) (n : Nest) (before ts : List Tree) (t : Tree) (lists : Lists) (gap after : List ℕ) → is_ascii_whitespace b ≡ true
+wide_lists : {depth : ℕ} {E : List Tree → List ℕ → Type 0} {items : List Tree} (b : ℕ) (bs : List ℕ) (n : ListKind) (before ts : List Tree) (t : Tree) (lists : Lists) (gap after : List ℕ) → is_ascii_whitespace b ≡ true
     → lists_spelling lists (gap ++ 93 ∷ after) ≡ bs → ListsMean depth n before lists ts → AreWhite gap → ((left : ℕ) → nested n ts left ≡ Ok t) → Out depth E (items ++ t ∷ []) [] after
     → (h : Between depth E n before items (b ∷ bs)) × IsApart h.lists
 wide_lists b bs n before ts t no_list gap after white is mean h made out = (
@@ -263,7 +263,7 @@ wide_lists b bs n before ts t (list g ps ls) gap after white is mean h made out 
   some_byte b g,
 )
 
-apart : {depth : ℕ} {E : List Tree → List ℕ → Type 0} {n : Nest} {before items : List Tree} (b : ℕ) (bs : List ℕ) → is_ascii_whitespace b ≡ true → Between depth E n before items bs
+apart : {depth : ℕ} {E : List Tree → List ℕ → Type 0} {n : ListKind} {before items : List Tree} (b : ℕ) (bs : List ℕ) → is_ascii_whitespace b ≡ true → Between depth E n before items bs
     → (h : Between depth E n before items (b ∷ bs)) × IsApart h.lists
 apart {n = n} {before = before} b bs white h = wide_lists b bs n before h.ts h.tree h.lists h.gap h.after white h.spelled h.mean h.white h.made h.out
 
@@ -333,19 +333,19 @@ closed : {depth : ℕ} {E : List Tree → List ℕ → Type 0} {all : List Tree}
     → Gives all (Strict depth E c items (b ∷ bs)) (ended (brackets 0 (Some c) []) left >>= go)
 closed b bs c items left go e later = whole_step (is_whole c) b bs c items left go refl e later
 
-nested_any : (n : Nest) (ts : List Tree) (left other : ℕ) (t : Tree) → nested n ts left ≡ Ok t → nested n ts other ≡ Ok t
-nested_any nests.Optional [] left other t e = absurd cc
-nested_any nests.Optional (x ∷ ts) left other t e = e
-nested_any nests.First ts left other t e = e
+nested_any : (n : ListKind) (ts : List Tree) (left other : ℕ) (t : Tree) → nested n ts left ≡ Ok t → nested n ts other ≡ Ok t
+nested_any kinds.Optional [] left other t e = absurd cc
+nested_any kinds.Optional (x ∷ ts) left other t e = e
+nested_any kinds.First ts left other t e = e
 
-lists_step : {depth : ℕ} {E : List Tree → List ℕ → Type 0} {all : List Tree} (r : Result Tree (Fault BracketReason)) (b : ℕ) (bs : List ℕ) (n : Nest) (ts items : List Tree) (left : ℕ) (go : Tree → Result (List Tree) (Fault BracketReason)) → nested n ts left ≡ r → eqb b 93 ≡ true
+lists_step : {depth : ℕ} {E : List Tree → List ℕ → Type 0} {all : List Tree} (r : Result Tree (Fault BracketReason)) (b : ℕ) (bs : List ℕ) (n : ListKind) (ts items : List Tree) (left : ℕ) (go : Tree → Result (List Tree) (Fault BracketReason)) → nested n ts left ≡ r → eqb b 93 ≡ true
     → ((t : Tree) → Gives all (Out depth E (items ++ t ∷ []) [] bs) (go t))
     → Gives all ((h : Between depth E n ts items (b ∷ bs)) × IsApart h.lists) (r >>= go)
 lists_step (Ok t) b bs n ts items left go is e later =
     along (λ out. (record { lists = no_list; ts = ts; gap = []; tree = t; after = bs; spelled = front b 93 bs e; mean = refl; white = tt; made = λ other. nested_any n ts left other t is; out = out }, tt)) (later t)
 lists_step {all = all} (Err f) b bs n ts items left go is e later = never all f
 
-lists_closed : {depth : ℕ} {E : List Tree → List ℕ → Type 0} {all : List Tree} (b : ℕ) (bs : List ℕ) (n : Nest) (ts items : List Tree) (left : ℕ) (go : Tree → Result (List Tree) (Fault BracketReason)) → eqb b 93 ≡ true
+lists_closed : {depth : ℕ} {E : List Tree → List ℕ → Type 0} {all : List Tree} (b : ℕ) (bs : List ℕ) (n : ListKind) (ts items : List Tree) (left : ℕ) (go : Tree → Result (List Tree) (Fault BracketReason)) → eqb b 93 ≡ true
     → ((t : Tree) → Gives all (Out depth E (items ++ t ∷ []) [] bs) (go t))
     → Gives all ((h : Between depth E n ts items (b ∷ bs)) × IsApart h.lists) (nested n ts left >>= go)
 lists_closed b bs n ts items left go e later = lists_step (nested n ts left) b bs n ts items left go refl e later
@@ -360,10 +360,10 @@ component_step : {depth : ℕ} {E : List Tree → List ℕ → Type 0} {all : Li
 component_step {all = all} None word o left items bs go is none later = never all _
 component_step (Some c) word o left items bs go is none later = along (λ h. name_ended word (inl (none, c, is, h))) (later c)
 
-name_step : {depth : ℕ} {E : List Tree → List ℕ → Type 0} {all : List Tree} (k : Option Nest) (word : List ℕ) (o left : ℕ) (items : List Tree) (bs : List ℕ) (go : BytePlace → Result (List Tree) (Fault BracketReason))
+name_step : {depth : ℕ} {E : List Tree → List ℕ → Type 0} {all : List Tree} (k : Option ListKind) (word : List ℕ) (o left : ℕ) (items : List Tree) (bs : List ℕ) (go : BytePlace → Result (List Tree) (Fault BracketReason))
     → keyword word ≡ k
     → ((c : Component) → Gives all (Strict depth E c items bs) (go (brackets o (Some c) [])))
-    → ((n : Nest) → Gives all ((h : Between depth E n [] items bs) × IsApart h.lists) (go (between n o [])))
+    → ((n : ListKind) → Gives all ((h : Between depth E n [] items bs) × IsApart h.lists) (go (between n o [])))
     → Gives all (InName depth E word items bs) (word_place o None word k left >>= go)
 name_step (Some n) word o left items bs go is later lists = along (λ h. name_ended word (inr (n, is, record { between = h.0; apart = h.1 }))) (lists n)
 name_step None word o left items bs go is later lists = component_step (named word) word o left items bs go refl is later
@@ -386,12 +386,12 @@ plain_byte true b e f g = rw (e, f, g) refl
 plain_byte false b e f g = rw (e, f) refl
 
 list_closed : (all : List Tree) (f : Frame) (fs : List Frame) (items : List Tree) (literal : List ℕ) (b : ℕ) (bs : List ℕ) → eqb b 93 ≡ true
-    → Between (length fs) (Ends all fs) f.nest (f.lists ++ all_of (trees (with_literal items literal)) ∷ []) f.items bs
+    → Between (length fs) (Ends all fs) f.kind (f.lists ++ all_of (trees (with_literal items literal)) ∷ []) f.items bs
     → Out (length (f ∷ fs)) (Ends all (f ∷ fs)) items literal (b ∷ bs)
 list_closed all f fs items literal b bs e h = record { parts = done; inner = with_literal items literal; after = b ∷ bs; spelled = refl; means = refl; ends = (bs, sym (front b 93 bs e), h) }
 
-list_opened : (all : List Tree) (f : Frame) (fs : List Frame) (b : ℕ) (bs : List ℕ) → eqb b 91 ≡ true → takes_list f.nest f.lists ≡ true → length fs < 32
-    → Out (length (f ∷ fs)) (Ends all (f ∷ fs)) [] [] bs → Between (length fs) (Ends all fs) f.nest f.lists f.items (b ∷ bs)
+list_opened : (all : List Tree) (f : Frame) (fs : List Frame) (b : ℕ) (bs : List ℕ) → eqb b 91 ≡ true → takes_list f.kind f.lists ≡ true → length fs < 32
+    → Out (length (f ∷ fs)) (Ends all (f ∷ fs)) [] [] bs → Between (length fs) (Ends all fs) f.kind f.lists f.items (b ∷ bs)
 list_opened all f fs b bs e takes deep h =
     let w = h.ends.2 in
     record {
@@ -481,7 +481,7 @@ spelled (b ∷ bs) all fs (between n o lists) items literal =
     (λ g. by_test (Gives all (Between (length fs) (Ends all fs) n lists items (b ∷ bs))) (ltb (length fs) 32) _ _
     (λ h.
     let w = both (eqb b 91) (takes_list n lists) g in
-    let frame : Frame = record { nest = n; opened = o; opened_list = length bs + 1; items = items; lists = lists } in
+    let frame : Frame = record { kind = n; opened = o; opened_list = length bs + 1; items = items; lists = lists } in
     along (list_opened all frame fs b bs w.0 w.1 (ltb-true _ _ h)) (spelled bs all (frame ∷ fs) outside [] []))
     (λ h. never all _))
     (λ g. never all _)))

@@ -1,18 +1,18 @@
 -- Reading the syntax of strftime, a part at a time.
-use Rattle.std.proofs.Common.{◌≡◌, ℕ, zero, suc, ◌+◌, ◌≤◌, ◌<◌, Bool, true, false, List, [], ◌∷◌, ◌++◌, length, drop, drop-cons, get_or, IsTrue, Some, None, Ok, Err, refl, sym, ap, ◌∙◌, append_assoc, arith}
+use Rattle.std.proofs.Common.{◌≡◌, ℕ, zero, suc, ◌+◌, ◌≤◌, ◌<◌, Bool, true, false, List, [], ◌∷◌, ◌++◌, length, drop, Option, Some, None, subst, Ok, Err, refl, sym, ap, ◌∙◌, append_assoc, arith}
 use Rattle.std.specs.Prelude.{◌-◌, nat_le, slice_range, take, ◌==◌}
 use Rattle.std.proofs.lemmas.Bool.{le-leb, leb-true}
-use Rattle.std.specs.List.{before_first}
-use Rattle.std.proofs.lemmas.List.{append-nil, at_drop_all, length-drop, take_all}
+use Rattle.std.proofs.lemmas.List.{append-nil, length-append, length-drop, take_all}
 use Rattle.time_below.specs.declared.format_description.component.Component.{Component}
 use Rattle.time_below.specs.Tree.{Tree, of_component}
-use Rattle.time_describe.specs.Conversions.{component_of, composed}
+use Rattle.time_describe.specs.Conversions.{component_of, composed, listed}
+use Rattle.time_describe.specs.Items.{Adds}
 use Rattle.time_describe.specs.Limit.{most_items}
 use Rattle.time_describe.specs.Literal.{literal_of}
 use Rattle.time_describe.specs.declared.strftime.reason.StrftimeReason.{StrftimeReason}
 use Rattle.time_describe.specs.declared.fault.Fault.{Fault}
 use Rattle.time_describe.specs.declared.strftime.reason.StrftimeReason.TheVariants.{TooManyItems}
-use Rattle.time_describe.specs.Strftime.{Front, read, bounded, first_part, fails, is_percent}
+use Rattle.time_describe.specs.Strftime.{Front, read, bounded, first_part, fails}
 
 pub read_end : (before : List Tree) (n : ℕ) → read before n [] ≡ Ok before
 unfolding read
@@ -70,36 +70,6 @@ pub part_refused : (before : List Tree) (text : List ℕ) (fault : Fault Strftim
 part_refused before [] fault some is = absurd (omega arith)
 part_refused before (b ∷ bs) fault some is = refuse before b bs fault is
 
--- ---- a literal of one byte
-
-pub literal_alone : (b : ℕ) (bs : List ℕ) → (b == 37) ≡ false → before_first is_percent bs ≡ []
-    → first_part (b ∷ bs) ≡ Ok (record { items = literal_of (b ∷ []) ∷ []; behind = 0 })
-unfolding first_part
-literal_alone b bs other alone = rw (other, alone) refl
-
-pub byte_first : (text : List ℕ) (at : ℕ) → at < length text → (get_or text at 0 == 37) ≡ false
-    → before_first is_percent (drop (at + 1) text) ≡ []
-    → first_part (drop at text) ≡ Ok (record { items = literal_of (get_or text at 0 ∷ []) ∷ []; behind = 0 })
-byte_first text at within other alone =
-    let one : suc at ≡ at + 1 = omega arith in
-    ap first_part (drop-cons text at 0 within)
-    ∙ literal_alone (get_or text at 0) (drop (suc at) text) other
-    (ap (λ (k : ℕ). before_first is_percent (drop k text)) one ∙ alone)
-
-pub one_byte : (text : List ℕ) (at : ℕ) → at < length text → slice_range text at (at + 1) ≡ get_or text at 0 ∷ []
-one_byte text at within =
-    let count : at + 1 - at ≡ 1 = omega arith in
-    ap (λ (k : ℕ). take k (drop at text)) count ∙ ap (take 1) (drop-cons text at 0 within)
-
-pub literal_ended : (text : List ℕ) (at : ℕ) → length text ≤ at → before_first is_percent (drop at text) ≡ []
-literal_ended text at past = at_drop_all (before_first is_percent) text at past
-
-pub percent_there : (text : List ℕ) (at : ℕ) → at < length text → IsTrue (get_or text at 0 == 37)
-    → before_first is_percent (drop at text) ≡ []
-percent_there text at within there =
-    let is : is_percent (get_or text at 0) ≡ true = there in
-    ap (before_first is_percent) (drop-cons text at 0 within) ∙ rw is refl
-
 -- ---- a text from a place on
 
 pub from_place : (text : List ℕ) (at : ℕ) → take (length text - at) (drop at text) ≡ drop at text
@@ -135,3 +105,26 @@ pub last_composed : (items now : List Tree) (b : ℕ) → now ≡ items ++ liter
     → now ++ composed [] ≡ items ++ composed (b ∷ [])
 unfolding composed
 last_composed items now b g = append-nil now ∙ g
+
+listed_short : (o : Option Component) → length (listed o) ≤ 1
+listed_short None = omega arith
+listed_short (Some c) = omega arith
+
+short_step : (is : Bool) (b c : ℕ) (bs : List ℕ) → (b == 37) ≡ is → length (composed bs) ≤ length bs → length (composed (c ∷ bs)) ≤ length (c ∷ bs)
+    → length (composed (b ∷ c ∷ bs)) ≤ length (b ∷ c ∷ bs)
+unfolding composed
+short_step true b c bs is few more = rw is (omega (arith, few, listed_short (component_of c), length-append (listed (component_of c)) (composed bs)))
+short_step false b c bs is few more = rw is (omega (arith, more))
+
+-- no byte stands for two items
+pub composed_short : (bs : List ℕ) → length (composed bs) ≤ length bs
+unfolding composed
+composed_short [] = omega arith
+composed_short (b ∷ []) = omega arith
+composed_short (b ∷ c ∷ bs) = short_step (b == 37) b c bs refl (composed_short bs) (composed_short (c ∷ bs))
+
+-- items that are added in two steps
+pub adds_more : {S : Type 0} (Holds : S → List Tree → Type 0) (old mid new : S) (a b : List Tree) → Adds Holds old mid a → Adds Holds mid new b
+    → Adds Holds old new (a ++ b)
+adds_more Holds old mid new a b first second = λ before held.
+    subst (λ (all : List Tree). Holds new all) (append_assoc before a b) (second (before ++ a) (first before held))

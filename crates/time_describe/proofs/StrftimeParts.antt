@@ -34,6 +34,11 @@ letter_first c bs x is =
     let w = conversion_read (letter c) (of_component x ∷ []) bs means in
     first_conversion 37 (c ∷ bs) refl ∙ w.1 ∙ ap (front (of_component x ∷ [])) w.2
 
+-- a literal of one byte
+pub literal_alone : (b : ℕ) (bs : List ℕ) → is_percent b ≡ false → first_part (b ∷ 37 ∷ bs) ≡ front (literal_of (b ∷ []) ∷ []) 0
+unfolding first_part
+literal_alone b bs is = rw is refl
+
 -- ---- what is read is spelled
 
 -- a part and what follows it: behind a literal a percent sign or nothing

@@ -1,8 +1,6 @@
 -- What a text is as a whole, and what is said of it, in any syntax.
-use Rattle.std.specs.Prelude.{◌≡◌, ℕ, ◌-◌, ◌<◌, ◌≤◌, Bool, IsTrue, IsOk, List, Result, Ok, Err}
+use Rattle.std.specs.Prelude.{◌≡◌, ℕ, ◌-◌, ◌<◌, ◌≤◌, IsOk, List, Result, Ok, Err}
 use Rattle.time_below.specs.Tree.{Tree, trees, all_of}
-use Rattle.time_describe.specs.declared.fault.Failure.{Failure}
-use Rattle.time_describe.specs.declared.fault.Failure.TheVariants as failure
 use Rattle.time_describe.specs.declared.fault.Fault.{Fault}
 use Rattle.time_describe.specs.declared.fault.InvalidDescription.{InvalidDescription}
 use Rattle.time_describe.specs.declared.fault.InvalidDescription.TheVariants as error
@@ -15,16 +13,6 @@ tree_of (Err fault) = Err fault
 -- the place of a fault, which is counted from the text's end, lies within so many bytes
 abbrev pub LiesWithin : {R : Type 0} → ℕ → Fault R → Type 0
 LiesWithin len fault = (0 < fault.left) × (fault.left ≤ len)
-
--- a failure is of memory, where a list may refuse an item, or it is the fault
-abbrev pub Fails : {R A : Type 0} → Bool → Failure R → Result A (Fault R) → Type 0
-Fails can_refuse failure.OutOfMemory read = IsTrue can_refuse
-Fails can_refuse (failure.Invalid fault) read = read ≡ Err fault
-
--- the fault of a failure lies within so many bytes
-abbrev pub FailsWithin : {R : Type 0} → ℕ → Failure R → Type 0
-FailsWithin len failure.OutOfMemory = Unit {0}
-FailsWithin len (failure.Invalid fault) = LiesWithin len fault
 
 -- a list holds the items that were read
 abbrev pub IsFound : {R : Type 0} → Result (List Tree) (Fault R) → (List Tree → Type 0) → Type 0
@@ -39,11 +27,6 @@ Says len read (error.Invalid reason index) = (left : ℕ) × (read ≡ Err (reco
 abbrev pub IsWithin : {R : Type 0} → ℕ → InvalidDescription R → Type 0
 IsWithin len error.OutOfMemory = Unit {0}
 IsWithin len (error.Invalid reason index) = index < len
-
--- memory runs out only where a list may refuse an item
-abbrev pub MayRefuse : {R : Type 0} → Bool → InvalidDescription R → Type 0
-MayRefuse can_refuse error.OutOfMemory = IsTrue can_refuse
-MayRefuse can_refuse (error.Invalid reason index) = Unit {0}
 
 -- an error of memory is said only where the text is a description, so what is wrong with another one is always said
 abbrev pub SaysFault : {R A : Type 0} → Result A (Fault R) → InvalidDescription R → Type 0

@@ -5,7 +5,7 @@ use Rattle.std.specs.List.{AllByRecursion}
 use Rattle.time_below.specs.Conversion.{current_component}
 use Rattle.time_below.specs.Tree.{Tree, trees, of_component, all_of}
 use Rattle.time_below.specs.declared.format_description.component.Component.{Component}
-use Rattle.time_describe.specs.declared.items.Nest.{Nest}
+use Rattle.time_describe.specs.declared.items.ListKind.{ListKind}
 use Rattle.time_describe.specs.Literal.{literal_of}
 use Rattle.time_describe.specs.Pieces.{ends_literal}
 use Rattle.time_describe.specs.Reading.{opening, closing, backslash, is_escapable, ends_word, keyword, with_word, is_whole, with_literal, nested, takes_list, depth_limit}
@@ -30,7 +30,7 @@ mutual
     plain : ℕ → Parts → Parts
     escaped : ℕ → Parts → Parts
     in_brackets : Inside → Parts → Parts
-    with_lists : Word → Nest → Lists → List ℕ → Parts → Parts
+    with_lists : Word → ListKind → Lists → List ℕ → Parts → Parts
 
   pub data Lists : Type 0 where
     no_list : Lists
@@ -108,7 +108,7 @@ abbrev mutual
       × Means depth (with_literal items literal ++ t ∷ []) [] ps all
 
   -- these lists, after others
-  pub ListsMean : ℕ → Nest → List Tree → Lists → List Tree → Type 0
+  pub ListsMean : ℕ → ListKind → List Tree → Lists → List Tree → Type 0
   ListsMean depth n before no_list all = before ≡ all
   ListsMean depth n before (list gap ps ls) all =
       AreWhite gap × (takes_list n before ≡ true) × (depth < depth_limit)

@@ -1,11 +1,8 @@
 -- Items that are added to a list.
-use Rattle.std.specs.Prelude.{ℕ, Bool, true, false, ◌&&◌, List, [], ◌∷◌, ◌++◌}
-use Rattle.time_below.specs.declared.format_description.component.Component.{Component}
+use Rattle.std.specs.Prelude.{Bool, true, false, ◌&&◌, List, [], ◌∷◌, ◌++◌}
 use Rattle.time_below.specs.Tree.{Tree, all_of, first_of, nothing, of_component}
-use Rattle.time_below.specs.UsualParts.{year_part, month_part, day_part, hour_part, minute_part, second_part}
 use Rattle.time_describe.specs.Literal.{literal_of}
 use Rattle.time_describe.specs.declared.items.Parted.{Parted}
-use Rattle.time_describe.specs.declared.items.Parted.TheVariants as whole
 
 -- whatever the list held, it holds these behind it
 abbrev pub Adds : {S : Type 0} → (S → List Tree → Type 0) → S → S → List Tree → Type 0
@@ -27,11 +24,7 @@ abbrev pub are_leaves : List Tree → Bool
 are_leaves [] = true
 are_leaves (t ∷ ts) = is_leaf t && are_leaves ts
 
--- three components, with a byte between each two
-abbrev pub three : Component → ℕ → Component → ℕ → Component → List Tree
-three p a q b r = of_component p ∷ literal_of (a ∷ []) ∷ of_component q ∷ literal_of (b ∷ []) ∷ of_component r ∷ []
-
--- a date or a time of day, with these bytes between its parts
-abbrev pub parted : Parted → ℕ → ℕ → List Tree
-parted whole.Date a b = three year_part a month_part b day_part
-parted whole.Time a b = three hour_part a minute_part b second_part
+-- three components, and the literals between them
+abbrev pub items_of_parted : Parted → List Tree
+items_of_parted p =
+    of_component p.first ∷ literal_of (p.before_second ∷ []) ∷ of_component p.second ∷ literal_of (p.before_third ∷ []) ∷ of_component p.third ∷ []

@@ -14,4 +14,3 @@ pub mod Conversions
 pub mod Strftime
 pub mod StrftimeOutcome
 pub mod StrftimeGrammar
-pub mod Counted

@@ -20,6 +20,6 @@ is_nested (f ∷ fs) = true
 abbrev pub InBrackets : ℕ → List ℕ → Result (Bracketed × Bor (List ℕ)) (Fault BracketReason) → Type 0
 InBrackets opened bytes (Ok (bracketed.Component c, rest)) = (fs : List Frame) (items : List Tree)
     → read fs (brackets opened None []) items [] bytes ≡ read fs outside (items ++ of_component c ∷ []) [] rest.now
-InBrackets opened bytes (Ok (bracketed.Nest n, rest)) = (fs : List Frame) (items : List Tree)
+InBrackets opened bytes (Ok (bracketed.Lists n, rest)) = (fs : List Frame) (items : List Tree)
     → read fs (brackets opened None []) items [] bytes ≡ read fs (between n opened []) items [] rest.now
 InBrackets opened bytes (Err f) = (fs : List Frame) (items : List Tree) → read fs (brackets opened None []) items [] bytes ≡ Err f

@@ -10,8 +10,8 @@ use Rattle.time_below.specs.Tree.{Tree, trees, of_component, all_of, first_of}
 use Rattle.time_describe.specs.declared.fault.Fault.{Fault}
 use Rattle.time_describe.specs.declared.brackets.reason.BracketReason.{BracketReason}
 use Rattle.time_describe.specs.declared.brackets.reason.BracketReason.TheVariants.{UnclosedBracket, InvalidEscape, MissingName, UnknownName, MissingModifier, MissingItems, UnexpectedByte, TooDeep, TooManyItems}
-use Rattle.time_describe.specs.declared.items.Nest.{Nest}
-use Rattle.time_describe.specs.declared.items.Nest.TheVariants as nests
+use Rattle.time_describe.specs.declared.items.ListKind.{ListKind}
+use Rattle.time_describe.specs.declared.items.ListKind.TheVariants as kinds
 use Rattle.time_describe.specs.Limit.{most_items}
 use Rattle.time_describe.specs.Literal.{literal_of}
 use Rattle.time_describe.specs.Marks.{past}
@@ -66,15 +66,15 @@ with_word None word = of_name (named word)
 with_word (Some c) word = modified c (before_first (λ b. b == colon) word) (after_first (λ b. b == colon) word)
 
 -- A first word that opens lists of items, each in brackets of its own.
-abbrev pub keyword : List ℕ → Option Nest
+abbrev pub keyword : List ℕ → Option ListKind
 keyword word =
-    if bytes_eq word (codes "optional") then Some nests.Optional
-    else (if bytes_eq word (codes "first") then Some nests.First
+    if bytes_eq word (codes "optional") then Some kinds.Optional
+    else (if bytes_eq word (codes "first") then Some kinds.First
     else None)
 
-abbrev pub nest_of : Option Component → List ℕ → Option Nest
-nest_of None word = keyword word
-nest_of (Some c) word = None
+abbrev pub list_kind_of : Option Component → List ℕ → Option ListKind
+list_kind_of None word = keyword word
+list_kind_of (Some c) word = None
 
 -- lists that are not closed yet may be so many, one in the other
 abbrev pub depth_limit : ℕ
@@ -83,7 +83,7 @@ depth_limit = 32
 -- A list of items that is not closed yet: what it is for, how many bytes are left from the brackets around it and from
 -- its own opening one on, the items before those brackets, and the lists before it.
 pub record Frame : Type 0 where
-  pub nest : Nest
+  pub kind : ListKind
   pub opened : ℕ
   pub opened_list : ℕ
   pub items : List Tree
@@ -95,27 +95,27 @@ pub data BytePlace : Type 0 where
   outside : BytePlace
   escape : BytePlace
   brackets : ℕ → Option Component → List ℕ → BytePlace
-  between : Nest → ℕ → List Tree → BytePlace
+  between : ListKind → ℕ → List Tree → BytePlace
 
 -- where a word ends, if it has bytes
-abbrev pub word_place : ℕ → Option Component → List ℕ → Option Nest → ℕ → Result BytePlace (Fault BracketReason)
+abbrev pub word_place : ℕ → Option Component → List ℕ → Option ListKind → ℕ → Result BytePlace (Fault BracketReason)
 word_place opened c word (Some n) left = Ok (between n opened [])
 word_place opened c word None left = at_fault (with_word c word) left >>= λ c. Ok (brackets opened (Some c) [])
 
 abbrev pub after_word : ℕ → Option Component → List ℕ → ℕ → Result BytePlace (Fault BracketReason)
 after_word opened c [] left = Ok (brackets opened c [])
-after_word opened c (b ∷ bs) left = word_place opened c (b ∷ bs) (nest_of c (b ∷ bs)) left
+after_word opened c (b ∷ bs) left = word_place opened c (b ∷ bs) (list_kind_of c (b ∷ bs)) left
 
 -- an optional item has one list, a first any number
-abbrev pub takes_list : Nest → List Tree → Bool
-takes_list nests.Optional [] = true
-takes_list nests.Optional (t ∷ ts) = false
-takes_list nests.First ts = true
+abbrev pub takes_list : ListKind → List Tree → Bool
+takes_list kinds.Optional [] = true
+takes_list kinds.Optional (t ∷ ts) = false
+takes_list kinds.First ts = true
 
-abbrev pub nested : Nest → List Tree → ℕ → Result Tree (Fault BracketReason)
-nested nests.Optional [] left = fails MissingItems left
-nested nests.Optional (t ∷ ts) left = Ok t
-nested nests.First ts left = Ok (first_of (trees ts))
+abbrev pub nested : ListKind → List Tree → ℕ → Result Tree (Fault BracketReason)
+nested kinds.Optional [] left = fails MissingItems left
+nested kinds.Optional (t ∷ ts) left = Ok t
+nested kinds.First ts left = Ok (first_of (trees ts))
 
 -- an `ignore` says how many bytes a parser passes over
 abbrev pub is_whole : Component → Bool
@@ -141,7 +141,7 @@ with_literal items (b ∷ bs) = items ++ literal_of (b ∷ bs) ∷ []
 
 -- the place behind a list that is closed
 abbrev pub after_list : Frame → List Tree → List ℕ → BytePlace
-after_list f items literal = between f.nest f.opened (f.lists ++ all_of (trees (with_literal items literal)) ∷ [])
+after_list f items literal = between f.kind f.opened (f.lists ++ all_of (trees (with_literal items literal)) ∷ [])
 
 -- the items of a text whose next byte stands there, in these lists, after these items and a literal so far
 unfoldable pub read : List Frame → BytePlace → List Tree → List ℕ → List ℕ → Result (List Tree) (Fault BracketReason)
@@ -173,7 +173,7 @@ read fs (between n opened lists) items literal (b ∷ bs) =
     if is_ascii_whitespace b then read fs (between n opened lists) items [] bs
     else (if b == closing then (nested n lists (length bs + 1) >>= λ item. read fs outside (items ++ item ∷ []) [] bs)
     else (if b == opening && takes_list n lists then (if nat_lt (length fs) depth_limit
-    then read (record { nest = n; opened = opened; opened_list = length bs + 1; items = items; lists = lists } ∷ fs) outside [] [] bs
+    then read (record { kind = n; opened = opened; opened_list = length bs + 1; items = items; lists = lists } ∷ fs) outside [] [] bs
     else fails TooDeep (length bs + 1))
     else fails UnexpectedByte (length bs + 1)))
 

@@ -1,7 +1,7 @@
 //! The syntax of `time`'s format descriptions, version 2, as `[year]-[month]-[day]`.
-ghost use Rattle.std.specs.Prelude.{◌≡◌, [], length, Ok, IfOk, IfErr, OnOk};
+ghost use Rattle.std.specs.Prelude.{◌≡◌, [], length, Err, Ok, IfOk, IfErr, OnOk};
 ghost use Rattle.time_below.specs.Tree.{owned_tree};
-ghost use Rattle.time_describe.specs.Description.{tree_of, Fails, IsFound, IsWithin, Says};
+ghost use Rattle.time_describe.specs.Description.{tree_of, IsFound, IsWithin, Says};
 ghost use Rattle.time_describe.specs.Description.{SaysFault};
 ghost use Rattle.time_describe.specs.Reading.{described, read, outside};
 
@@ -14,12 +14,12 @@ mod pieces;
 pub mod reason;
 mod values;
 
-use crate::fault::{Failure, Fault, InvalidDescription};
+use crate::fault::{Fault, InvalidDescription};
 use crate::items::Items;
 use crate::syntax::{Syntax, parse};
 use building::step;
 use frame::Frames;
-use marks::past;
+use marks::first_item_over_limit;
 use reason::BracketReason;
 use std::alloc::Global;
 use time_below::format_description::OwnedFormatItem;
@@ -28,11 +28,11 @@ use time_below::format_description::OwnedFormatItem;
 pub struct Brackets;
 
 /// Adds the items of a text that has no more of them than allowed.
-fn put_items<I: Items>(items: &mut I, text: &[u8]) -> Result<(), Failure<BracketReason>>
+fn put_items<I: Items>(items: &mut I, text: &[u8]) -> Result<(), Fault<BracketReason>>
     requires { I.Holds text.now [] items.old [] }
     ensures found { OnOk result
         (IsFound (read [] outside [] [] text.now) (I.Holds text.now [] items.new)) }
-    ensures fails { IfErr result (λ e. Fails I.can_refuse e (read [] outside [] [] text.now)) }
+    ensures fault { IfErr result (λ fault. read [] outside [] [] text.now ≡ Err fault) }
     ensures lender { I.lender items.new ≡ I.lender items.old }
 {
     let mut frames = Frames::new();
@@ -42,10 +42,10 @@ fn put_items<I: Items>(items: &mut I, text: &[u8]) -> Result<(), Failure<Bracket
     }
     match frames.pop() {
         None => Ok(()),
-        Some(frame) => Err(Failure::Invalid(Fault {
+        Some(frame) => Err(Fault {
             reason: BracketReason::UnclosedBracket,
             left: frame.opened_list,
-        })),
+        }),
     }
 }
 
@@ -54,22 +54,31 @@ impl Syntax for Brackets {
 
     ghost described = { described };
 
-    fn put_all<I: Items>(items: &mut I, text: &[u8]) -> Result<(), Failure<BracketReason>> {
-        match past(b'[', b'\\', text) {
+    fn put_all<I: Items>(items: &mut I, text: &[u8]) -> Result<(), Fault<BracketReason>> {
+        match first_item_over_limit(b'[', b'\\', text) {
             None => put_items(items, text),
-            Some(left) => Err(Failure::Invalid(Fault {
+            Some(left) => Err(Fault {
                 reason: BracketReason::TooManyItems,
                 left,
-            })),
+            }),
         }
     }
 }
 
-/// The description that a text in brackets is.
+/// Returns the description that a text in brackets is.
 ///
-/// An error says the first fault and the index of its byte. Only of a text without a fault it
-/// says that an allocation failed. Nothing is kept then. Lists may be 32 deep in one another, and
-/// 65,536 items may begin. Of a text in which more begin, that alone is said.
+/// # Errors
+///
+/// The error is the first fault, with the index of its byte. At most 32 lists may stand in one
+/// another, and 65,536 items may begin: of a text in which more begin, that alone is the fault. A
+/// failed allocation is the error only of a text without a fault. Nothing is kept then.
+///
+/// # Examples
+///
+/// ```text
+/// let description = parse_owned(alloc, b"[day padding:none] [month repr:long]")?;
+/// date.format_into(&mut line, &description)?; // 22 November
+/// ```
 pub fn parse_owned(alloc: Global, text: &[u8]) -> Result<OwnedFormatItem, InvalidDescription>
     ensures found { IfOk result (λ item. tree_of (described text.now) ≡ Ok (owned_tree item)) }
     ensures says { IfErr result (Says (length text.now) (described text.now)) }

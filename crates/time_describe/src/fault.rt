@@ -1,10 +1,9 @@
 //! Why a text is no description, in any syntax.
-ghost use Rattle.std.specs.Prelude.{◌≡◌};
-ghost use Rattle.time_describe.specs.declared.fault.Failure.TheVariants.{OutOfMemory, Invalid};
+ghost use Rattle.std.specs.Prelude.{◌≡◌, ◌-◌, ◌<◌, length};
+ghost use Rattle.time_describe.specs.Description.{LiesWithin};
 
 use crate::brackets::reason::BracketReason;
 use crate::strftime::reason::StrftimeReason;
-use std::alloc::AllocError;
 use std::fmt;
 use thiserror::Error;
 
@@ -17,28 +16,14 @@ pub struct Fault<R> {
     pub left: usize,
 }
 
-/// Why nothing was made of a text.
-#[derive(Clone, Copy)]
-pub enum Failure<R> {
-    /// An allocation failed.
-    OutOfMemory,
-    /// The text is no description.
-    Invalid(Fault<R>),
-}
-
-impl<R> From<AllocError> for Failure<R> {
-    ghost from_gives = { λ _ e. e ≡ OutOfMemory };
-
-    fn from(_error: AllocError) -> Failure<R> {
-        Failure::OutOfMemory
-    }
-}
-
-impl<R> From<Fault<R>> for Failure<R> {
-    ghost from_gives = { λ fault e. e ≡ Invalid fault };
-
-    fn from(fault: Fault<R>) -> Failure<R> {
-        Failure::Invalid(fault)
+impl<R> Fault<R> {
+    /// Returns the index of the fault's byte in the text.
+    pub fn index_in(&self, text: &[u8]) -> usize
+        requires { LiesWithin (length text.now) self.now }
+        ensures index { result ≡ length text.now - self.now.left }
+        ensures inside { result < length text.now }
+    {
+        text.len() - self.left
     }
 }
 

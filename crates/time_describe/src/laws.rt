@@ -1,6 +1,5 @@
 //! Laws of descriptions, for all texts.
 ghost use Rattle.std.specs.Prelude.{◌≡◌, ◌↔◌, ◌<◌, ◌≤◌, IsTrue, ℕ, List, [], length, Ok, Some};
-ghost use Rattle.time_below.specs.Clones.{AreSame};
 ghost use Rattle.time_below.specs.Tree.{Tree};
 ghost use Rattle.time_describe.specs.Conversions.{composition, composed};
 ghost use Rattle.time_describe.specs.Grammar.{Parts, spelling, Means};
@@ -15,7 +14,6 @@ ghost use Rattle.time_describe.specs.declared.strftime.reason.StrftimeReason.The
 use crate::brackets::in_text::InText;
 use crate::brackets::reason::BracketReason;
 use crate::fault::{InvalidDescription, InvalidStrftime};
-use crate::items::Nest;
 use crate::strftime::reason::StrftimeReason;
 
 /// Each text that the grammar spells is a description, of the items that the grammar says.
@@ -61,23 +59,6 @@ pub fn what_strftime_describes_has_no_list()
 pub fn what_a_composition_means()
     ensures { (letter : ℕ) (text : List ℕ) → composition letter ≡ Some text
         → strftime.described text ≡ Ok (composed text) }
-{}
-
-/// A clone of what is wrong, of an error or of what lists in brackets are is the same.
-pub fn clones_of_faults()
-    ensures reason { AreSame ⟦<BracketReason as Clone>⟧.is_clone }
-    ensures strftime_reason { AreSame ⟦<StrftimeReason as Clone>⟧.is_clone }
-    ensures description { AreSame ⟦<InvalidDescription as Clone>⟧.is_clone }
-    ensures strftime { AreSame ⟦<InvalidStrftime as Clone>⟧.is_clone }
-    ensures nest { AreSame ⟦<Nest as Clone>⟧.is_clone }
-{}
-
-/// A clone of an error beside its text has the same error and the same text.
-pub fn clones_of_errors_in_text(shown: InText<'_>, copy: InText<'_>)
-    ensures error { ⟦<InText<'static> as Clone>⟧.is_clone shown.entry copy.entry
-        → copy.entry.error ≡ shown.entry.error }
-    ensures text { ⟦<InText<'static> as Clone>⟧.is_clone shown.entry copy.entry
-        → copy.entry.text.now ≡ shown.entry.text.now }
 {}
 
 /// Two reasons of one syntax are equal exactly if they are the same.

@@ -2,7 +2,6 @@
 #![tactic(auto)]
 
 mod brackets;
-mod counted;
 mod fault;
 mod items;
 pub mod laws;
@@ -15,8 +14,8 @@ mod text;
 pub use brackets::in_text::InText;
 pub use brackets::reason::BracketReason;
 pub use brackets::{Brackets, parse_owned};
-pub use fault::{Failure, Fault, InvalidDescription, InvalidStrftime};
-pub use items::{Items, Nest, Parted};
+pub use fault::{Fault, InvalidDescription, InvalidStrftime};
+pub use items::{Items, ListKind, Parted};
 pub use strftime::reason::StrftimeReason;
 pub use strftime::{Strftime, parse_strftime_owned};
-pub use syntax::{Syntax, describe, parse};
+pub use syntax::{Syntax, parse};

@@ -10,7 +10,7 @@ use time_below::format_description::OwnedFormatItem;
 /// How many items a description from a text may have.
 pub const MOST_ITEMS: usize = 65_536;
 
-/// The literal of these bytes: a text where they are UTF-8.
+/// Returns the literal of these bytes: a text where they are UTF-8.
 pub fn literal(alloc: Global, bytes: &[u8]) -> Result<OwnedFormatItem, AllocError>
     ensures { IfOk result (λ item. owned_tree item ≡ literal_of bytes.now) }
 {

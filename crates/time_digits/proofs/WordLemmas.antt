@@ -1,6 +1,6 @@
 -- Words of eight digits, and the zeros that end them.
 use Rattle.std.proofs.Common.{◌≡◌, ℕ, zero, suc, ◌+◌, ◌-◌, ◌*◌, ◌/◌, ◌^◌, ◌<◌, ◌≤◌, ◌≢◌, ◌==◌, List, [], ◌∷◌, length}
-use Rattle.std.proofs.Common.{get_or, refl, sym, ap, ◌∙◌, arith, true, false, ⊎_elim, w64}
+use Rattle.std.proofs.Common.{drop, take, subst, get_or, refl, sym, ap, ◌∙◌, arith, true, false, ⊎_elim, w64}
 use Rattle.std.specs.Int.{to_le_bytes, from_le_bytes, leading_zeros, IsInRange}
 use Rattle.std.specs.Int.Bits.{bit_xor}
 use Rattle.std.specs.Str.Parse.{AllDigits}
@@ -9,9 +9,9 @@ use Rattle.std.proofs.lemmas.Bool.{cases_Bool, cases_lt, and_parts, eqb-true}
 use Rattle.std.proofs.lemmas.Nat.{pow-add, xor_block, leading_length, from_le_bytes-to_le_bytes_8, le_bytes_8}
 use Rattle.std.proofs.lemmas.Str.Parse.{digit_from_value}
 use Rattle.time_digits.specs.Digits.{fixed}
-use Rattle.time_digits.specs.Fraction.{are_zeros, without_last_zeros, last_zeros}
-use Rattle.time_digits.proofs.DigitLemmas.{IsAscii-fixed}
-use Rattle.time_digits.proofs.FractionLemmas.{zeros_none, not_zeros}
+use Rattle.time_digits.specs.Fraction.{are_zeros, without_last_zeros, last_zeros, trimmed_fraction}
+use Rattle.time_digits.proofs.DigitLemmas.{IsAscii-fixed, fixed_digits}
+use Rattle.time_digits.proofs.FractionLemmas.{zeros_none, not_zeros, last_of_nine, trimmed_fraction-take}
 use Rattle.time_digits.proofs.LengthLemmas.{length-fixed, length-without_last_zeros, last_zeros-le}
 use Rattle.std.proofs.lemmas.Grind.{common_steps}
 
@@ -150,3 +150,23 @@ pub digits_of_word : (bs : List ℕ) (n word : ℕ) → bs ≡ fixed 8 n → wor
 digits_of_word bs n word digits read =
     let below : (i : ℕ) → get_or bs i 0 < 256 = λ i. omega (arith, rw (sym digits) at (IsAscii-fixed 8 n i)) in
     le_bytes_8 bs word (ap length digits ∙ length-fixed 8 n) below read ∙ digits
+
+-- ---- the nine digits of a number of nanoseconds, of whose last eight a word was made
+
+-- the bytes of the word are the last eight digits
+pub last_eight : (n : ℕ) (digits eight : List ℕ) (word : ℕ) → digits ≡ fixed 9 n → eight ≡ drop (length digits - 8) digits
+    → word ≡ from_le_bytes w64 eight → to_le_bytes w64 word ≡ fixed 8 n
+last_eight n digits eight word nine last read = digits_of_word eight n word (last ∙ last_of_nine n digits nine) read
+
+-- so they are digits
+pub last_eight_digits : (n : ℕ) (digits eight : List ℕ) (word : ℕ) → digits ≡ fixed 9 n → eight ≡ drop (length digits - 8) digits
+    → word ≡ from_le_bytes w64 eight → AllDigits 10 (to_le_bytes w64 word)
+last_eight_digits n digits eight word nine last read =
+    subst (AllDigits 10) (sym (last_eight n digits eight word nine last read)) (fixed_digits 8 n)
+
+-- the digits without the zeros that the word tells are the trimmed fraction
+pub kept_digits : (n : ℕ) (digits eight : List ℕ) (word dropped : ℕ) → digits ≡ fixed 9 n → eight ≡ drop (length digits - 8) digits
+    → word ≡ from_le_bytes w64 eight → dropped ≡ last_zeros (to_le_bytes w64 word)
+    → take (9 - dropped) digits ≡ trimmed_fraction n
+kept_digits n digits eight word dropped nine last read zeros =
+    rw (nine, zeros, last_eight n digits eight word nine last read) (sym (trimmed_fraction-take n))

@@ -4,11 +4,9 @@ ghost use Rattle.std.specs.Prelude.{◌≡◌, ◌↔◌, ℕ, IsTrue, ◌+◌, 
 ghost use Rattle.std.specs.Prelude.{◌∷◌, ◌++◌, length, take, drop, decimal};
 ghost use Rattle.time_digits.specs.Digits.{zero_padded, space_padded};
 ghost use Rattle.time_digits.specs.Fraction.{IsOnlyTrimmedFraction};
-ghost use Rattle.time_digits.specs.Shown.{shown, shown_end};
 
 use crate::num_fmt::{DIV_100_FACTOR, DIV_100_SHIFT};
 use crate::ranged::{ri8, ri16, ri32, ru8, ru16, ru32};
-use crate::stack_str::{StackStr, StackTrailingStr};
 use crate::tables::{SINGLE_DIGITS, SPACE_PADDED_PAIRS, ZERO_PADDED_PAIRS};
 
 /// The decimal text of a number of at most 64 digits is one digit below 10, else the text of the
@@ -53,54 +51,35 @@ pub fn texts_of_tables()
     ensures spaces_len { length SPACE_PADDED_PAIRS.now ≡ 200 }
 {}
 
-/// Two numbers of the type are equal exactly if they are the same, and a clone is the same number.
+/// Two numbers of the type are equal exactly if they are the same.
 pub fn ru8_equality<const MIN: u8, const MAX: u8>(a: ru8<MIN, MAX>, b: ru8<MIN, MAX>)
     ensures equal { IsTrue (⟦<ru8<MIN, MAX> as PartialEq>⟧.eq a.entry b.entry)
         ↔ (a.entry ≡ b.entry) }
-    ensures clone { ⟦<ru8<MIN, MAX> as Clone>⟧.is_clone a.entry b.entry → b.entry ≡ a.entry }
 {}
 
-/// Two numbers of the type are equal exactly if they are the same, and a clone is the same number.
+/// Two numbers of the type are equal exactly if they are the same.
 pub fn ru16_equality<const MIN: u16, const MAX: u16>(a: ru16<MIN, MAX>, b: ru16<MIN, MAX>)
     ensures equal { IsTrue (⟦<ru16<MIN, MAX> as PartialEq>⟧.eq a.entry b.entry)
         ↔ (a.entry ≡ b.entry) }
-    ensures clone { ⟦<ru16<MIN, MAX> as Clone>⟧.is_clone a.entry b.entry → b.entry ≡ a.entry }
 {}
 
-/// Two numbers of the type are equal exactly if they are the same, and a clone is the same number.
+/// Two numbers of the type are equal exactly if they are the same.
 pub fn ru32_equality<const MIN: u32, const MAX: u32>(a: ru32<MIN, MAX>, b: ru32<MIN, MAX>)
     ensures equal { IsTrue (⟦<ru32<MIN, MAX> as PartialEq>⟧.eq a.entry b.entry)
         ↔ (a.entry ≡ b.entry) }
-    ensures clone { ⟦<ru32<MIN, MAX> as Clone>⟧.is_clone a.entry b.entry → b.entry ≡ a.entry }
 {}
 
-/// Two numbers of the type are equal exactly if they are the same, and a clone is the same number.
+/// Two numbers of the type are equal exactly if they are the same.
 pub fn ri8_equality<const MAX: u8>(a: ri8<MAX>, b: ri8<MAX>)
     ensures equal { IsTrue (⟦<ri8<MAX> as PartialEq>⟧.eq a.entry b.entry) ↔ (a.entry ≡ b.entry) }
-    ensures clone { ⟦<ri8<MAX> as Clone>⟧.is_clone a.entry b.entry → b.entry ≡ a.entry }
 {}
 
-/// Two numbers of the type are equal exactly if they are the same, and a clone is the same number.
+/// Two numbers of the type are equal exactly if they are the same.
 pub fn ri16_equality<const MAX: u16>(a: ri16<MAX>, b: ri16<MAX>)
     ensures equal { IsTrue (⟦<ri16<MAX> as PartialEq>⟧.eq a.entry b.entry) ↔ (a.entry ≡ b.entry) }
-    ensures clone { ⟦<ri16<MAX> as Clone>⟧.is_clone a.entry b.entry → b.entry ≡ a.entry }
 {}
 
-/// Two numbers of the type are equal exactly if they are the same, and a clone is the same number.
+/// Two numbers of the type are equal exactly if they are the same.
 pub fn ri32_equality<const MAX: u32>(a: ri32<MAX>, b: ri32<MAX>)
     ensures equal { IsTrue (⟦<ri32<MAX> as PartialEq>⟧.eq a.entry b.entry) ↔ (a.entry ≡ b.entry) }
-    ensures clone { ⟦<ri32<MAX> as Clone>⟧.is_clone a.entry b.entry → b.entry ≡ a.entry }
-{}
-
-/// A clone of a short text in an array is the same.
-pub fn clones_of_texts<const N: usize>(
-    text: StackStr<N>,
-    copy: StackStr<N>,
-    trailing: StackTrailingStr<N>,
-    trailing_copy: StackTrailingStr<N>,
-)
-    ensures text { ⟦<StackStr<N> as Clone>⟧.is_clone text.entry copy.entry
-        → shown copy.entry ≡ shown text.entry }
-    ensures trailing { ⟦<StackTrailingStr<N> as Clone>⟧.is_clone trailing.entry trailing_copy.entry
-        → shown_end trailing_copy.entry ≡ shown_end trailing.entry }
 {}

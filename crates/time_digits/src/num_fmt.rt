@@ -47,7 +47,8 @@ pub fn write_one_digit(buf: &mut [u8], offset: usize, value: ru8<0, 9>)
     buf[offset] = single_digit(value).as_bytes()[0];
 }
 
-/// The quotient and the remainder of `n` by 100, in this order, by one multiplication and a shift.
+/// Returns the quotient and the remainder of `n` by 100, in this order, by one multiplication and a
+/// shift.
 #[tactic(auto, using(crate::proofs::DivisionLemmas::quotient_by_5243))]
 pub fn div_100(n: ru16<0, 9_999>) -> [ru8<0, 99>; 2]
     ensures { result ≡ n / 100 ∷ n % 100 ∷ [] }
@@ -58,7 +59,7 @@ pub fn div_100(n: ru16<0, 9_999>) -> [ru8<0, 99>; 2]
     [ru8::within(high as u8), ru8::within(low as u8)]
 }
 
-/// The text of the digit `n`, one byte.
+/// Returns the text of the digit `n`, one byte.
 #[tactic(auto, using(crate::proofs::SingleDigitLemmas::digit_facts))]
 pub fn single_digit(n: ru8<0, 9>) -> &'static str
     ensures text { result.now ≡ decimal n }
@@ -67,7 +68,7 @@ pub fn single_digit(n: ru8<0, 9>) -> &'static str
     piece_of(SINGLE_DIGITS, n.get() as usize, 1)
 }
 
-/// The one or two digits of `n`, with no padding.
+/// Returns the one or two digits of `n`, with no padding.
 #[tactic(auto, using(crate::proofs::ZeroPaddedLemmas::number_facts))]
 pub fn one_to_two_digits_no_padding(n: ru8<0, 99>) -> &'static str
     ensures text { result.now ≡ decimal n }
@@ -91,8 +92,8 @@ pub fn two_digits_zero_padded(n: ru8<0, 99>) -> &'static str
     piece_of(ZERO_PADDED_PAIRS, 2 * n.get() as usize, 2)
 }
 
-/// The magnitude of `n` in two places, with a zero in front where it is below 10. It is read from a
-/// table by `n` itself, so that no sign is taken away first.
+/// Returns the magnitude of `n` in two places, with a zero in front where it is below 10. It is
+/// read from a table by `n` itself, so that no sign is taken away first.
 #[tactic(auto, using(crate::proofs::MagnitudeLemmas::magnitude_facts))]
 pub fn magnitude_zero_padded(n: ri8<59>) -> &'static str
     ensures text { result.now ≡ zero_padded 2 (unsigned_abs n) }
@@ -110,8 +111,8 @@ pub fn two_digits_space_padded(n: ru8<0, 99>) -> &'static str
     piece_of(SPACE_PADDED_PAIRS, 2 * n.get() as usize, 2)
 }
 
-/// The one to three digits of `n`, with no padding; the second piece holds the last two of them, or
-/// the only one.
+/// Returns the one to three digits of `n`, with no padding; the second piece holds the last two of
+/// them, or the only one.
 #[tactic(auto, using(crate::proofs::PieceLemmas::three_places))]
 pub fn one_to_three_digits_no_padding(n: ru16<0, 999>) -> [&'static str; 2]
     ensures text { joined result ≡ decimal n }
@@ -156,8 +157,8 @@ pub fn three_digits_space_padded(n: ru16<0, 999>) -> [&'static str; 2]
     }
 }
 
-/// The one to four digits of `n`, with no padding; the second piece holds the last two of them, or
-/// the only one.
+/// Returns the one to four digits of `n`, with no padding; the second piece holds the last two of
+/// them, or the only one.
 #[tactic(auto, using(crate::proofs::PieceLemmas::four_places))]
 pub fn one_to_four_digits_no_padding(n: ru16<0, 9_999>) -> [&'static str; 2]
     ensures text { joined result ≡ decimal n }
@@ -242,8 +243,8 @@ pub fn six_digits_zero_padded(n: ru32<0, 999_999>) -> [&'static str; 3]
     [two_digits_zero_padded(first), second, third]
 }
 
-/// The nine digits of `n` nanoseconds, as the decimals of a second; a piece of one byte and four of
-/// two.
+/// Returns the nine digits of `n` nanoseconds, as the decimals of a second; a piece of one byte and
+/// four of two.
 #[tactic(auto, using(crate::proofs::PieceLemmas::six_places))]
 pub fn subsecond_from_nanos(n: ru32<0, 999_999_999>) -> [&'static str; 5]
     ensures text { joined result ≡ fixed 9 n }
@@ -265,8 +266,8 @@ fn last_four_digits(number: u32) -> [&'static str; 2]
     four_digits_zero_padded(ru16::within((number % 10_000) as u16))
 }
 
-/// How many zeros end the eight digits that the bytes of `word` are in little-endian order, from 0
-/// to 8.
+/// Returns how many zeros end the eight digits that the bytes of `word` are in little-endian order,
+/// from 0 to 8.
 #[tactic(auto, using(crate::proofs::WordLemmas::word_facts))]
 pub fn zeros_to_drop(word: u64) -> u32
     requires digits { AllDigits 10 (to_le_bytes w64 word) }
@@ -276,8 +277,8 @@ pub fn zeros_to_drop(word: u64) -> u32
     (word ^ EIGHT_ZEROS).leading_zeros() / u8::BITS
 }
 
-/// The decimals of a second of `n` nanoseconds: its nine digits without the zeros at their end, at
-/// least one digit.
+/// Returns the decimals of a second of `n` nanoseconds: its nine digits without the zeros at their
+/// end, at least one digit.
 pub fn truncated_subsecond_from_nanos(n: ru32<0, 999_999_999>) -> StackStr<9>
     ensures text { shown result ≡ trimmed_fraction n }
     ensures some { 1 ≤ length (shown result) }
@@ -289,8 +290,8 @@ pub fn truncated_subsecond_from_nanos(n: ru32<0, 999_999_999>) -> StackStr<9>
     StackStr::new(bytes, bytes.len() - dropped as usize)
 }
 
-// The nine digits of a number of nanoseconds.
-fn nine_digits(n: ru32<0, 999_999_999>) -> [u8; 9]
+/// Returns the nine digits of `n` nanoseconds, as the decimals of a second.
+pub fn nine_digits(n: ru32<0, 999_999_999>) -> [u8; 9]
     ensures { result ≡ fixed 9 n }
 {
     let number = n.get();
@@ -302,7 +303,7 @@ fn nine_digits(n: ru32<0, 999_999_999>) -> [u8; 9]
     bytes
 }
 
-/// The one to twenty digits of `value`, with no padding.
+/// Returns the one to twenty digits of `value`, with no padding.
 pub fn u64_pad_none(value: u64) -> StackTrailingStr<20>
     ensures text { shown_end result ≡ decimal value }
     ensures some { 1 ≤ length (shown_end result) }

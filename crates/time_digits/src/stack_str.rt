@@ -13,7 +13,8 @@ pub struct StackStr<const N: usize> {
 impl<const N: usize> StackStr<N> {
     ghost use Rattle.time_digits.specs.Shown.{shown};
 
-    /// The text of the first `len` bytes, which are ASCII, as the caller knows. Nothing is tested.
+    /// Returns the text of the first `len` bytes, which are ASCII, as the caller knows. Nothing is
+    /// tested.
     pub fn new(bytes: [u8; N], len: usize) -> Self
         requires within { len ≤ N }
         requires ascii { IsAscii (take len bytes) }
@@ -22,7 +23,7 @@ impl<const N: usize> StackStr<N> {
         StackStr { bytes, len }
     }
 
-    /// The number of bytes of the text, at most `N`.
+    /// Returns the number of bytes of the text, at most `N`.
     pub fn len(&self) -> usize
         ensures value { result ≡ length (shown self.now) }
         ensures within { result ≤ N }
@@ -30,7 +31,7 @@ impl<const N: usize> StackStr<N> {
         self.len
     }
 
-    /// The text.
+    /// Returns the text.
     pub fn as_str(&self) -> &str
         ensures { result.now ≡ shown self.now }
     {
@@ -50,8 +51,8 @@ pub struct StackTrailingStr<const N: usize> {
 impl<const N: usize> StackTrailingStr<N> {
     ghost use Rattle.time_digits.specs.Shown.{shown_end};
 
-    /// The text of the bytes from `start` on, which are ASCII, as the caller knows. Nothing is
-    /// tested.
+    /// Returns the text of the bytes from `start` on, which are ASCII, as the caller knows. Nothing
+    /// is tested.
     pub fn new(bytes: [u8; N], start: usize) -> Self
         requires within { start ≤ N }
         requires ascii { IsAscii (drop start bytes) }
@@ -60,7 +61,7 @@ impl<const N: usize> StackTrailingStr<N> {
         StackTrailingStr { bytes, start }
     }
 
-    /// The number of bytes of the text, at most `N`.
+    /// Returns the number of bytes of the text, at most `N`.
     pub fn len(&self) -> usize
         ensures value { result ≡ length (shown_end self.now) }
         ensures within { result ≤ N }
@@ -68,7 +69,7 @@ impl<const N: usize> StackTrailingStr<N> {
         N - self.start
     }
 
-    /// The text.
+    /// Returns the text.
     pub fn as_str(&self) -> &str
         ensures { result.now ≡ shown_end self.now }
     {

@@ -33,7 +33,7 @@ pub const MAGNITUDE_PAIRS: &str = "\
 2122232425262728293031323334353637383940\
 41424344454647484950515253545556575859";
 
-/// The `len` bytes of an ASCII table from `start` on.
+/// Returns the `len` bytes of an ASCII table from `start` on.
 #[tactic(auto, using(crate::proofs::TableLemmas::ascii_boundary))]
 pub fn piece_of(table: &'static str, start: usize, len: usize) -> &'static str
     requires ascii { IsTrue (is_ascii table.now) }

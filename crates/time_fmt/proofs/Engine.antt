@@ -1,5 +1,5 @@
 -- Steps one after another: what those in front give, and what the next one gives, is what all up to there give.
-use Rattle.std.proofs.Common.{◌≡◌, ap, sym, ◌∙◌, arith, ℕ, ◌+◌, ◌<◌, ◌≤◌, ◌++◌, Bool, true, false, ◌&&◌, List, [], ◌∷◌, map, drop, length}
+use Rattle.std.proofs.Common.{◌≡◌, ap, sym, ◌∙◌, arith, ℕ, ◌+◌, ◌<◌, ◌≤◌, ◌++◌, Bool, true, ◌&&◌, List, [], ◌∷◌, map, drop, length}
 use Rattle.std.proofs.Common.{append_assoc, get_or, length-append, refl, subst, Some, None, Result, Ok, Err}
 use Rattle.std.specs.Prelude.{IsTrue, IsUtf8, slice_get}
 use Rattle.std.specs.List.{list_all}
@@ -17,7 +17,7 @@ use Rattle.time_fmt.specs.Ends.{Ends, refusal_of}
 use Rattle.time_fmt.specs.Guarantee.{IsTextIf, AppendsTree}
 use Rattle.time_fmt.specs.Outcome.{Outcome, join}
 use Rattle.time_fmt.specs.Sink.{Block, Buffer, Fits, Puts}
-use Rattle.time_fmt.specs.Steps.{FitsIf, IsWrittenUpTo}
+use Rattle.time_fmt.specs.Steps.{IsWrittenUpTo}
 use Rattle.time_fmt.proofs.EndLemmas.{whole_text}
 use Rattle.time_fmt.proofs.WriteLemmas.{join_assoc, join_done, join_nothing, join_refused}
 use Rattle.time_fmt.proofs.GuaranteeLemmas.{text_both, text_more, empty_utf8}
@@ -197,29 +197,23 @@ all_written {A = A} is_valid tree f all left old now none so_far =
 
 -- what is left fits, if all does
 pub room_for_rest : {A : Type 0} (has_room : Bool) (is_valid : A → Bool) (tree : A → Tree) (f : Facts) (all left : List A)
-    (old now : Buffer) → FitsIf has_room old (trees_width (trees (map tree all))) → IsWrittenUpTo is_valid tree f all left old now
-    → FitsIf has_room now (trees_width (trees (map tree left)))
-room_for_rest false is_valid tree f all left old now room so_far = tt
-room_for_rest {A = A} true is_valid tree f all left old now room so_far =
+    (old now : Buffer) → (IsTrue has_room → Fits old (trees_width (trees (map tree all)))) → IsWrittenUpTo is_valid tree f all left old now
+    → IsTrue has_room → Fits now (trees_width (trees (map tree left)))
+room_for_rest {A = A} has_room is_valid tree f all left old now room so_far has =
     let is : trees_width (trees (map tree all)) ≡ trees_width (trees (map tree so_far.front)) + trees_width (trees (map tree left)) =
     ap (λ (steps : List A). trees_width (trees (map tree steps))) so_far.whole
     ∙ ap (λ (ts : List Tree). trees_width (trees ts)) (map-append tree so_far.front left)
     ∙ width_joined (map tree so_far.front) (map tree left) in
-    let fits : Fits old (trees_width (trees (map tree all))) = room in
-    let rest : Fits now (trees_width (trees (map tree left))) =
-    omega (arith, fits, is, so_far.appends.ends.within, ap (λ (b : Block). b.capacity) so_far.appends.ends.block) in
-    rest
+    omega (arith, room has, is, so_far.appends.ends.within, ap (λ (b : Block). b.capacity) so_far.appends.ends.block)
 
 -- so the next step does
 pub room_for_first : {A : Type 0} (has_room : Bool) (tree : A → Tree) (left others : List A) (x : A) (now : Buffer)
-    → FitsIf has_room now (trees_width (trees (map tree left))) → left ≡ x ∷ others → FitsIf has_room now (tree_width (tree x))
-room_for_first false tree left others x now room next = tt
-room_for_first {A = A} true tree left others x now room next =
+    → (IsTrue has_room → Fits now (trees_width (trees (map tree left)))) → left ≡ x ∷ others
+    → IsTrue has_room → Fits now (tree_width (tree x))
+room_for_first {A = A} has_room tree left others x now room next has =
     let is : trees_width (trees (map tree left)) ≡ tree_width (tree x) + trees_width (trees (map tree others)) =
     ap (λ (steps : List A). trees_width (trees (map tree steps))) next in
-    let fits : Fits now (trees_width (trees (map tree left))) = room in
-    let first : Fits now (tree_width (tree x)) = omega (arith, fits, is) in
-    first
+    omega (arith, room has, is)
 
 -- its size is less than that of all
 pub first_smaller : {A : Type 0} (is_valid : A → Bool) (tree : A → Tree) (size : A → ℕ) (f : Facts) (all left others : List A)

@@ -23,7 +23,7 @@ use Rattle.time_digits.proofs.LengthLemmas.{IsAscii-padded, IsAscii-number}
 use Rattle.time_fmt.specs.DateText.{month_name, weekday_name, indexed}
 use Rattle.time_fmt.specs.Description.{current_outcome, component_outcome, tree_outcome, trees_outcome}
 use Rattle.time_fmt.specs.Ends.{Ends}
-use Rattle.time_fmt.specs.Guarantee.{IsTextIf, AppendsLeaf}
+use Rattle.time_fmt.specs.Guarantee.{IsTextIf, AppendsTree}
 use Rattle.time_fmt.specs.Kind as kind
 use Rattle.time_fmt.specs.Kind.{Kind, kind_text, kind_outcome}
 use Rattle.time_fmt.specs.Outcome.{Outcome, join}
@@ -104,11 +104,11 @@ pub text_of_component : (c : Component) (f : Facts) → IsUtf8 (component_outcom
 text_of_component c f = IsUtf8-from_ascii (component_outcome c f).bytes (ascii_current (current_component c) f)
 
 -- a component that was written or refused is that of its tree
-pub leaf_of_written : {N : Type 0} (written : Option (Result Unit Refused)) (c : Component) (f : Facts)
-    (old new : Buffer) → (N → new ≡ old)
-    → MatchOption written N (λ answer. Ends (component_width c) old new answer (component_outcome c f))
-    → AppendsLeaf (of_component c) f old new written
-leaf_of_written written c f old new h k = grind (arith, common_steps, text_of_component)
+pub leaf_of_written : (written : Option (Result Unit Refused)) (c : Component) (f : Facts) (old new : Buffer)
+    → MatchOption written (new ≡ old) (λ answer. Ends (component_width c) old new answer (component_outcome c f))
+    → MatchOption written (new ≡ old) (AppendsTree (of_component c) f old new)
+leaf_of_written None c f old new h = h
+leaf_of_written (Some answer) c f old new h = record { ends = h; text = λ _. text_of_component c f }
 
 -- a list has a text if its first tree has one, and so have the others
 pub text_more : (t : Tree) (ts : Trees) (f : Facts) → IsTextIf (is_guaranteed_text t) (tree_outcome t f)

@@ -1,7 +1,6 @@
 pub mod ConversionLemmas
 pub mod DecimalLemmas
 pub mod EndLemmas
-pub mod FirstLemmas
 pub mod Engine
 pub mod GuaranteeLemmas
 pub mod LawLemmas

@@ -61,7 +61,6 @@ three_are_text p q r first second f is_first is_second =
 
 -- a run is a text
 pub run_text : (r : Run) (f : Facts) → IsTextIf (is_guaranteed_text (run_tree r)) (tree_outcome (run_tree r) f)
-run_text run.Empty f = λ _. empty_utf8
 run_text (run.Date b) f =
     three_are_text year_part month_part day_part b.first b.second f b.first_is_text b.second_is_text
 run_text (run.Time b) f =

@@ -1,7 +1,7 @@
 -- How a text of the engine ends.
-use Rattle.std.specs.Prelude.{ℕ, ◌≡◌, ◌+◌, ◌≤◌, ◌++◌, length, List, Option, Some, None, Result, Ok, Err, codes}
+use Rattle.std.specs.Prelude.{ℕ, ◌≡◌, ◌+◌, ◌≤◌, ◌++◌, length, Option, Some, None, Result, Ok, Err, codes}
 use Rattle.time_below.specs.ComponentRange.{conditional_range}
-use Rattle.time_fmt.specs.Outcome.{Outcome, Refusal, done, insufficient, out_of_range}
+use Rattle.time_fmt.specs.Outcome.{Outcome, Refusal, insufficient, out_of_range}
 use Rattle.time_fmt.specs.Sink.{Buffer}
 use Rattle.time_fmt.specs.declared.refused.Refused.{Refused}
 use Rattle.time_fmt.specs.declared.refused.Refused.TheVariants as refused
@@ -24,7 +24,3 @@ pub record Ends (width : ℕ) (old new : Buffer) (answer : Result Unit Refused) 
   pub grown : new.len ≡ old.len + length o.bytes
   pub block : new.block ≡ old.block
   pub within : new.len ≤ old.len + width
-
--- a text ends complete, and has at most this many bytes
-abbrev pub EndsWhole : ℕ → Buffer → Buffer → List ℕ → Type 0
-EndsWhole width old new text = Ends width old new (Ok tt) (done text)

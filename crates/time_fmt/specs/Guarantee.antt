@@ -1,5 +1,5 @@
 -- The guarantee that the bytes of an outcome are UTF-8.
-use Rattle.std.specs.Prelude.{◌≡◌, Bool, IsTrue, IsUtf8, Option, Some, None, Result}
+use Rattle.std.specs.Prelude.{Bool, IsTrue, IsUtf8, Result}
 use Rattle.time_below.specs.Facts.{Facts}
 use Rattle.time_below.specs.Tree.{Tree}
 use Rattle.time_below.specs.Width.{tree_width, is_guaranteed_text}
@@ -18,8 +18,3 @@ pub record AppendsTree (t : Tree) (f : Facts) (old new : Buffer) (answer : Resul
     : Type 0 where
   pub ends : Ends (tree_width t) old new answer (tree_outcome t f)
   pub text : IsTextIf (is_guaranteed_text t) (tree_outcome t f)
-
--- what a tree gives, or nothing is written
-abbrev pub AppendsLeaf : Tree → Facts → Buffer → Buffer → Option (Result Unit Refused) → Type 0
-AppendsLeaf t f old new None = new ≡ old
-AppendsLeaf t f old new (Some answer) = AppendsTree t f old new answer

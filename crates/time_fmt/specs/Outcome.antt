@@ -1,5 +1,5 @@
 -- Outcomes: bytes, and perhaps a refusal after them.
-use Rattle.std.specs.Prelude.{ℕ, ◌≡◌, ◌+◌, ◌≤◌, Bool, true, false, List, [], ◌++◌, length, drop, Option, Some, None}
+use Rattle.std.specs.Prelude.{ℕ, ◌≡◌, ◌+◌, ◌≤◌, Bool, true, false, List, [], ◌++◌, length, Option, Some, None}
 use Rattle.std.specs.Prelude.{Result, Err, IfOk, IfErr, IsSomeAnd}
 use Rattle.std.specs.Prelude.{vec_len, vec_capacity, Vec}
 use Rattle.std.specs.Global.{Global}
@@ -62,9 +62,3 @@ pub record Adds (old new : Vec ℕ Global) (answer : Result ℕ Format) (o : Out
   pub counted : IfOk answer (λ n. (o.refusal ≡ None) × (n ≡ length o.bytes))
   pub named : IfErr answer (λ e. IsSomeAnd o.refusal (Names e))
   pub grown : vec_len new ≡ vec_len old + length o.bytes
-
--- the bytes of the outcome stand at the start of a buffer, which is as it was after them
-pub record IsAtTheStart (old new : List ℕ) (answer : Result ℕ Format) (o : Outcome) : Type 0 where
-  pub written : new ≡ o.bytes ++ drop (length o.bytes) old
-  pub counted : IfOk answer (λ n. (o.refusal ≡ None) × (n ≡ length o.bytes))
-  pub named : IfErr answer (λ e. IsSomeAnd o.refusal (Names e))

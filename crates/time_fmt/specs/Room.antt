@@ -1,10 +1,11 @@
 -- Spare capacity at the end of a vector of bytes, and what is written into it.
 use Rattle.std.specs.Prelude.{ℕ, ◌≡◌, ◌+◌, ◌*◌, ◌<◌, ◌≤◌, Bool, true, false, max, vec_len, vec_capacity, Vec}
 use Rattle.std.specs.Global.{Global}
+use Rattle.time_fmt.specs.Sink.{Fits, vec_buffer}
 
 -- the capacity leaves this many bytes after what is there
 abbrev pub HasRoom : Vec ℕ Global → ℕ → Type 0
-HasRoom output width = vec_len output + width ≤ vec_capacity output
+HasRoom output width = Fits (vec_buffer output) width
 
 -- the capacity that one reservation of this many bytes makes: twice what it was, or what is needed if that is more
 abbrev pub grown_capacity : Vec ℕ Global → ℕ → ℕ

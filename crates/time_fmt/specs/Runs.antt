@@ -4,7 +4,7 @@ use Rattle.time_below.specs.declared.format_description.component.Component.{Com
 use Rattle.time_below.specs.declared.format_description.modifier.Padding.TheVariants as padding
 use Rattle.time_below.specs.Facts.{DateFacts}
 use Rattle.time_below.specs.TimeOfDay.{TimeOfDay}
-use Rattle.time_below.specs.Tree.{Tree, text_literal, of_component, all_of, nothing, end, more}
+use Rattle.time_below.specs.Tree.{Tree, text_literal, of_component, all_of, end, more}
 use Rattle.time_below.specs.UsualParts.{year_part, month_part, day_part, hour_part, minute_part, second_part}
 use Rattle.time_fmt.specs.declared.runs.Run.{Run}
 use Rattle.time_fmt.specs.declared.runs.Run.TheVariants as run
@@ -36,6 +36,5 @@ three_parts p first q second r =
 
 -- what a run is short for
 abbrev pub run_tree : Run → Tree
-run_tree run.Empty = nothing
 run_tree (run.Date between) = three_parts year_part between.first month_part between.second day_part
 run_tree (run.Time between) = three_parts hour_part between.first minute_part between.second second_part

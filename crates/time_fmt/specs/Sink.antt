@@ -22,10 +22,6 @@ vec_buffer v = record { bytes = v.items; len = vec_len v; block = record { capac
 abbrev pub Fits : Buffer → ℕ → Type 0
 Fits buffer width = buffer.len + width ≤ buffer.block.capacity
 
--- this many more bytes fit, and the state agrees with the value
-abbrev pub Ready : Buffer → ℕ → Type 0 → Type 0
-Ready buffer width agrees = Fits buffer width × agrees
-
 -- The text was put after the bytes, and the count is its length. The block is unchanged, so that what fits
 -- afterwards is less by the length of the text.
 pub record Puts (old new : Buffer) (count : ℕ) (text : List ℕ) : Type 0 where

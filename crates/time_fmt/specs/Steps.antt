@@ -1,15 +1,10 @@
--- What the loop over steps writes, and where it stops.
-use Rattle.std.specs.Prelude.{ℕ, ◌≡◌, ◌++◌, Bool, true, false, IsTrue, List, [], ◌∷◌, map, Ok}
+-- What the loop over steps writes.
+use Rattle.std.specs.Prelude.{◌≡◌, ◌++◌, Bool, IsTrue, List, map, Ok}
 use Rattle.std.specs.List.{list_all}
 use Rattle.time_below.specs.Facts.{Facts}
 use Rattle.time_below.specs.Tree.{Tree, all_of, trees}
 use Rattle.time_fmt.specs.Guarantee.{AppendsTree}
-use Rattle.time_fmt.specs.Sink.{Buffer, Fits}
-
--- this many more bytes fit, if that is promised
-abbrev pub FitsIf : Bool → Buffer → ℕ → Type 0
-FitsIf true buffer width = Fits buffer width
-FitsIf false buffer width = Unit {0}
+use Rattle.time_fmt.specs.Sink.{Buffer}
 
 -- The steps in front of those that are left are valid, and what their trees give is appended.
 pub record IsWrittenUpTo {A : Type 0} (is_valid : A → Bool) (tree : A → Tree) (f : Facts) (all left : List A)
@@ -18,8 +13,3 @@ pub record IsWrittenUpTo {A : Type 0} (is_valid : A → Bool) (tree : A → Tree
   pub whole : all ≡ front ++ left
   pub valid : IsTrue (list_all is_valid front)
   pub appends : AppendsTree (all_of (trees (map tree front))) f old now (Ok tt)
-
--- nothing is left, or the loop may stop before the first
-abbrev pub StopsBefore : {A : Type 0} → (A → Bool) → List A → Type 0
-StopsBefore may_stop [] = Unit {0}
-StopsBefore may_stop (x ∷ xs) = IsTrue (may_stop x)

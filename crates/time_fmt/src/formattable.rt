@@ -1,6 +1,4 @@
 //! Descriptions of a text.
-//!
-//! `cold` keeps long or rare bodies out of their callers.
 ghost use Rattle.std.specs.Prelude.{◌≡◌, ◌≢◌, ℕ, List, ◌+◌, ◌<◌, ◌≤◌, None, IsOk, is_err, OnOk};
 ghost use Rattle.std.specs.Prelude.{IfOk, IfErr, IfSome, IsSome, IsSomeAnd, IsTrue, [], IsUtf8};
 ghost use Rattle.std.specs.Prelude.{string_bytes, vec_len, vec_capacity};
@@ -11,8 +9,6 @@ ghost use Rattle.time_fmt.specs.Lossy.{lossy_text, IsRefusedOrText};
 ghost use Rattle.time_fmt.specs.Room.{HasRoom, Reserves};
 
 mod engine;
-mod in_room;
-mod into_sink;
 mod lists;
 mod parts;
 mod trees;
@@ -20,8 +16,6 @@ mod trees;
 use crate::error::Format;
 use crate::metadata::ComputeMetadata;
 use bstr::ByteVec;
-pub use in_room::write_into_room;
-pub use into_sink::write_into_sink;
 pub use lists::{BorrowedItems, OwnedItems};
 pub use parts::Literal;
 use std::alloc::{AllocError, Global};
@@ -41,11 +35,15 @@ pub trait Formattable: ComputeMetadata {
     /// format with a grammar; of others nothing is said.
     ghost reads_as: { Self → Facts → List ℕ → Type 0 } = { λ _ _ _. Unit {0} };
 
-    /// Appends the text of the value. The output needs spare capacity for the maximum length, which
-    /// must be below the greatest `usize`. Allocates nothing.
+    /// Appends the text of the value, and allocates nothing.
     ///
-    /// Returns the number of bytes appended, or the refusal that ends the text. The bytes appended
-    /// before a refusal stay.
+    /// The output needs spare capacity for the maximum length, which must be below the greatest
+    /// `usize`. Returns the number of bytes appended.
+    ///
+    /// # Errors
+    ///
+    /// A component that the value does not supply, or that the description cannot represent, ends
+    /// the text. The bytes appended before it stay.
     fn write_into<V: ComponentProvider>(
         &self,
         output: &mut Vec<u8>,
@@ -64,20 +62,24 @@ pub trait Formattable: ComputeMetadata {
             (outcome_of self.now (V.facts value.now)) }
         ensures agrees { V.agrees state.new value.now };
 
-    /// Returns `true` only if this many bytes are enough for each text, where that is told faster
-    /// than the maximum length. `false` says nothing.
-    fn fits_plainly(&self, _room: usize) -> bool
-        ensures { IsTrue result → Self.width_of self.now ≤ _room }
-    {
-        false
-    }
-
-    /// Appends the text of the value. Reserves once if the spare capacity is below the maximum
-    /// length: the capacity becomes what is needed, or twice what it was if that is more.
+    /// Appends the text of the value, and returns the number of bytes appended.
     ///
-    /// Returns the number of bytes appended, or the refusal that ends the text. The bytes appended
-    /// before a refusal stay. If the reservation fails, or the maximum length has reached the
-    /// greatest `usize`, the result is `OutOfMemory`, and output and state are unchanged.
+    /// Reserves once if the spare capacity is below the maximum length: the capacity becomes what
+    /// is needed, or twice what it was if that is more.
+    ///
+    /// # Errors
+    ///
+    /// A component that the value does not supply, or that the description cannot represent, ends
+    /// the text. The bytes appended before it stay. If the reservation fails, or the maximum length
+    /// has reached the greatest `usize`, the error is `OutOfMemory`, and output and state are
+    /// unchanged.
+    ///
+    /// # Examples
+    ///
+    /// ```text
+    /// let mut state = DateState::default();
+    /// let count = Rfc3339.format_into(&mut line, &moment, &mut state)?;
+    /// ```
     fn format_into<V: ComponentProvider>(
         &self,
         output: &mut Vec<u8>,
@@ -104,21 +106,23 @@ pub trait Formattable: ComputeMetadata {
             → Self.width_of self.now < usize.MAX
             → result ≢ Err Format.OutOfMemory }
     {
-        if !self.fits_plainly(output.capacity() - output.len()) {
-            let width = self.compute_metadata().max_bytes_needed;
-            if width == usize::MAX || make_room(output, width).is_err() {
-                return Err(Format::OutOfMemory);
-            }
+        let width = self.compute_metadata().max_bytes_needed;
+        if width == usize::MAX || make_room(output, width).is_err() {
+            return Err(Format::OutOfMemory);
         }
         self.write_into(output, value, state)
     }
 
-    /// The text of the value, after one reservation, or the refusal that ends it. Bytes that are no
-    /// UTF-8, which only byte literals make, are read as a whole with U+FFFD for what is no
-    /// character.
+    /// Returns the text of the value, after one reservation.
     ///
-    /// The result is `OutOfMemory` if an allocation fails, for the text or for reading bytes that
-    /// are no UTF-8, or if the maximum length has reached the greatest `usize`.
+    /// Bytes that are not UTF-8, which only byte literals make, are read as a whole with U+FFFD for
+    /// each ill-formed part.
+    ///
+    /// # Errors
+    ///
+    /// A component that the value does not supply, or that the description cannot represent, is
+    /// refused. The error is `OutOfMemory` if an allocation fails, for the text or for reading
+    /// bytes that are not UTF-8, or if the maximum length has reached the greatest `usize`.
     final fn format<V: ComponentProvider>(
         &self,
         alloc: Global,
@@ -162,8 +166,9 @@ pub trait Formattable: ComputeMetadata {
     }
 }
 
-/// Reserves spare capacity for this many bytes if it is missing. One reservation at least doubles
-/// the capacity. If it fails, the vector is unchanged.
+/// Reserves spare capacity for this many bytes if it is missing.
+///
+/// One reservation at least doubles the capacity. If it fails, the vector is unchanged.
 pub fn make_room(output: &mut Vec<u8>, width: usize) -> Result<(), AllocError>
     ensures items { output.new.items ≡ output.old.items }
     ensures len { vec_len output.new ≡ vec_len output.old }

@@ -15,7 +15,7 @@ pub mod choices;
 pub mod parts;
 
 use crate::error::{Error, Format};
-use crate::formattable::{BorrowedItems, Formattable, Literal, OwnedItems};
+use crate::formattable::{BorrowedItems, Formattable, OwnedItems};
 use crate::metadata::ComputeMetadata;
 use crate::refused::Refused;
 use crate::sink::Sink;
@@ -136,24 +136,6 @@ pub fn errors_give_back_what_they_hold(
         ↔ (range.now ≡ range_in format.now) }
     ensures format { ⟦<Format as TryFrom<Error>>⟧.try_from_gives error.now inner.now
         ↔ (inner.now ≡ format_in error.now) }
-{}
-
-/// A clone of a list of items or of a literal is the same.
-pub fn clones_of_lists<const N: usize>(
-    borrowed: BorrowedItems<'_>,
-    owned: OwnedItems<'_>,
-    literal: Literal<N>,
-    borrowed_copy: BorrowedItems<'_>,
-    owned_copy: OwnedItems<'_>,
-    literal_copy: Literal<N>,
-)
-    ensures borrowed { ⟦<BorrowedItems<'static> as Clone>⟧.is_clone borrowed.entry
-        borrowed_copy.entry
-        → borrowed_copy.entry.0.now ≡ borrowed.entry.0.now }
-    ensures owned { ⟦<OwnedItems<'static> as Clone>⟧.is_clone owned.entry owned_copy.entry
-        → owned_copy.entry.0.now ≡ owned.entry.0.now }
-    ensures literal { ⟦<Literal<N> as Clone>⟧.is_clone literal.entry literal_copy.entry
-        → literal_copy.entry.0 ≡ literal.entry.0 }
 {}
 
 /// What a vector holds as a sink are its bytes, by their number, and its capacity.

@@ -1,4 +1,4 @@
-//! What is known of a text before it is written.
+//! The maximum length of a description, and its guarantee of UTF-8.
 ghost use Rattle.std.specs.Prelude.{◌≡◌, ℕ, Bool, min, true};
 ghost use Rattle.time_below.specs.Width.{component_width};
 ghost use Rattle.time_fmt.specs.Longest.{ReachesWidth};
@@ -13,24 +13,17 @@ pub trait ComputeMetadata {
     /// Whether no byte literal is among what the maximum length counts.
     ghost is_guaranteed: { Self → Bool };
 
-    /// That the text of some value has as many bytes as the maximum length, where the maximum
-    /// length comes from the table of maximum lengths; of the sums of other maximum lengths nothing
-    /// is said.
-    ghost reaches_width: { Self → Type 0 } = { λ _. Unit {0} };
-
-    /// A number of bytes that no text exceeds, or the greatest `usize` if that is less, and whether
-    /// the text is sure to be UTF-8.
+    /// Returns the maximum length of a text in bytes, at most the greatest `usize`, and whether
+    /// each text is sure to be UTF-8.
+    ///
+    /// # Examples
+    ///
+    /// ```text
+    /// let most = text!(HOUR, b":", MINUTE).compute_metadata().max_bytes_needed; // 5
+    /// ```
     fn compute_metadata(&self) -> Metadata
         ensures width { result.max_bytes_needed ≡ min (width_of self.now) usize.MAX }
-        ensures text { result.guaranteed_utf8 ≡ is_guaranteed self.now }
-        ensures reached { reaches_width self.now };
-
-    /// The number of bytes of `compute_metadata` alone.
-    fn width(&self) -> usize
-        ensures { result ≡ min (width_of self.now) usize.MAX }
-    {
-        self.compute_metadata().max_bytes_needed
-    }
+        ensures text { result.guaranteed_utf8 ≡ is_guaranteed self.now };
 }
 
 impl ComputeMetadata for Component {
@@ -38,10 +31,13 @@ impl ComputeMetadata for Component {
 
     ghost is_guaranteed = { λ _. true };
 
-    ghost reaches_width = { ReachesWidth };
-
+    // The text of one of two values has as many bytes.
     #[tactic(auto, using(crate::proofs::LongestLemmas::reaches_width))]
-    fn compute_metadata(&self) -> Metadata {
+    fn compute_metadata(&self) -> Metadata
+        ensures width { result.max_bytes_needed ≡ min (component_width self.now) usize.MAX }
+        ensures text { result.guaranteed_utf8 ≡ true }
+        ensures reached { ReachesWidth self.now }
+    {
         Metadata {
             max_bytes_needed: component_width(self),
             guaranteed_utf8: true,

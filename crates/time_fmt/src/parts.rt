@@ -1,8 +1,7 @@
 //! Descriptions that are known at compile time, by their parts in order.
 //!
 //! A description that is in the program's text needs no list of items: `text!` makes one of its
-//! parts, and the compiler one function of that, with the outcome of the list of the same items.
-//! One import has all that it takes:
+//! parts, with the outcome of the list of the same items. One import has all that it takes:
 //!
 //! ```text
 //! use time_fmt::parts::*;
@@ -21,12 +20,18 @@ use time_below::format_description::modifier;
 use time_below::format_description::modifier::{Padding, SubsecondDigits};
 pub use time_provide::DateState;
 
-/// A description of its parts in order, as `text!(YEAR, b"-", MONTH)`.
+/// Makes a description of its parts in order.
 ///
-/// A text in bytes, as `b"-"`, is a [`Literal`]. Any other part is a description: the choices of a
-/// component, a well-known format, a tree, or another `text!`. The parts are put together in pairs,
-/// four by four, so that pairs are few deep: at a call of a method there may be 32 parts. (With
-/// more, the compiler's search for the impl ends: write a longer text by two calls.)
+/// A text in bytes, such as `b"-"`, is a [`Literal`]. Any other part is a description: the choices
+/// of a component, a well-known format, a tree, or another `text!`. The parts are put together in
+/// pairs, four by four, so that pairs are few deep: at a call of a method there may be 32 parts.
+/// (With more, the search for the impl ends: write a longer text by two calls.)
+///
+/// # Examples
+///
+/// ```text
+/// moment.format_into(&mut line, &text!(YEAR, b"-", MONTH, b"-", DAY))?;
+/// ```
 #[macro_export]
 macro_rules! text {
     (@[] [$a:expr]) => { $a };

@@ -1,6 +1,4 @@
 //! What components refuse.
-//!
-//! `cold` keeps long or rare bodies out of their callers.
 ghost use Rattle.time_fmt.specs.Ends.{refusal_of};
 ghost use Rattle.time_fmt.specs.Outcome.{Names};
 

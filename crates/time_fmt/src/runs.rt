@@ -1,12 +1,11 @@
 //! A date and a time of day in one step, with a byte between each two parts.
-//!
-//! Without `inline(always)` the compiler leaves calls of the functions that have it.
-ghost use Rattle.std.specs.Prelude.{◌≡◌, ◌+◌, ◌≤◌, ◌<◌, IsTrue, length};
+ghost use Rattle.std.specs.Prelude.{◌≡◌, ◌+◌, ◌≤◌, ◌<◌, IfSome, IsTrue, length};
 ghost use Rattle.time_below.specs.Facts.{the_date, the_time};
 ghost use Rattle.time_below.specs.Month.{month_number};
 ghost use Rattle.time_below.specs.Width.{tree_width};
 ghost use Rattle.time_fmt.specs.Guarantee.{AppendsTree};
-ghost use Rattle.time_fmt.specs.Runs.{date_run, run_tree, time_run, two_after, year_text};
+ghost use Rattle.time_fmt.specs.Runs.{date_run, run_tree, three_parts, time_run, two_after};
+ghost use Rattle.time_fmt.specs.Runs.{year_text};
 ghost use Rattle.time_fmt.specs.Sink.{Fits, Puts};
 
 use crate::parts;
@@ -15,14 +14,13 @@ use crate::separators::Separators;
 use crate::sink::Sink;
 use crate::writers::{fmt_calendar_year_full_extended_range, format_two_digits_pad_zero};
 use time_below::Month;
+use time_below::format_description::Component;
 use time_digits::ru8;
 use time_provide::ComponentProvider;
 
 /// A run of components, which are written in one step.
 #[derive(Clone, Copy)]
 pub enum Run {
-    /// None, where a literal stands alone.
-    Empty,
     /// `[year]`, `[month]` and `[day]`.
     Date(Separators),
     /// `[hour]`, `[minute]` and `[second]`.
@@ -30,12 +28,58 @@ pub enum Run {
 }
 
 impl Run {
-    /// The most bytes of its text.
+    /// Returns the run of three components with these bytes between them, if they are one.
+    pub fn of(
+        first: Component,
+        second: Component,
+        third: Component,
+        between: Separators,
+    ) -> Option<Run>
+        ensures { IfSome result (λ run. run_tree run
+            ≡ three_parts first between.first second between.second third) }
+    {
+        match (first, second, third) {
+            (
+                Component::CalendarYearFullExtendedRange(year),
+                Component::MonthNumerical(month),
+                Component::Day(day),
+            ) if year == parts::YEAR && month == parts::MONTH && day == parts::DAY => {
+                Some(Run::Date(between))
+            }
+            (Component::Hour24(hour), Component::Minute(minute), Component::Second(second))
+                if hour == parts::HOUR && minute == parts::MINUTE && second == parts::SECOND => {
+                Some(Run::Time(between))
+            }
+            _ => None,
+        }
+    }
+
+    /// Returns the three components of the run, and the bytes between them.
+    pub fn components(self) -> (Component, Component, Component, Separators)
+        ensures { run_tree self
+            ≡ three_parts result.0 result.3.first result.1 result.3.second result.2 }
+    {
+        match self {
+            Run::Date(between) => (
+                Component::CalendarYearFullExtendedRange(parts::YEAR),
+                Component::MonthNumerical(parts::MONTH),
+                Component::Day(parts::DAY),
+                between,
+            ),
+            Run::Time(between) => (
+                Component::Hour24(parts::HOUR),
+                Component::Minute(parts::MINUTE),
+                Component::Second(parts::SECOND),
+                between,
+            ),
+        }
+    }
+
+    /// Returns the most bytes of the text of the run.
     pub fn width(&self) -> usize
         ensures { result ≡ tree_width (run_tree self.now) }
     {
         match self {
-            Run::Empty => 0,
             Run::Date(_) => 13,
             Run::Time(_) => 8,
         }
@@ -71,12 +115,12 @@ pub fn write_run<S: Sink, V: ComponentProvider>(
             write_date((between.first, between.second), output, value, state);
             Ok(())
         }
-        Run::Empty => Ok(()),
     }
 }
 
 /// Appends the year of a value in at least four digits, after a sign if it is negative or above
 /// 9,999, and the month and the day in two digits each, with a byte before each of these two.
+///
 /// Returns the number of bytes.
 #[inline(always)]
 pub fn write_date<S: Sink, V: ComponentProvider>(
@@ -110,7 +154,9 @@ fn number_of(month: Month) -> ru8<0, 99>
 }
 
 /// Appends the hour, the minute and the second of a value in two digits each, with a byte before
-/// each of the last two. Returns the number of bytes.
+/// each of the last two.
+///
+/// Returns the number of bytes.
 pub fn write_time<S: Sink, V: ComponentProvider>(
     between: (u8, u8),
     output: &mut S,

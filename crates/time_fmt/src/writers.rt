@@ -1,8 +1,7 @@
 //! Texts appended to a sink with room for them. No writer allocates. Each returns the number of
 //! bytes that it has appended.
 //!
-//! The writer of a component puts the text of its kind, and the impl of
-//! [`Modifier`](crate::Modifier) beside it says which kind that is.
+//! The impl of [`Modifier`](crate::Modifier) beside a component's writer calls it.
 mod century;
 mod date;
 mod decimals;
@@ -22,18 +21,16 @@ pub use century::{
 };
 pub use date::{fmt_day, fmt_month_long, fmt_month_numerical, fmt_month_short, fmt_ordinal};
 pub use decimals::format_decimals;
-pub(crate) use digits::write_two_rarely;
 pub use digits::{
     fmt_sign, format_five_digits_pad_zero, format_four_digits, format_four_digits_pad_zero,
     format_int_padded, format_single_digit, format_six_digits_pad_zero, format_three_digits,
     format_two_digits, format_two_digits_pad_zero, format_u64_pad_none,
 };
 pub use offset::{fmt_offset_hour, fmt_offset_minute, fmt_offset_second};
-pub(crate) use plain::{write_each, write_first, write_pair, write_three};
+pub(crate) use plain::write_each;
 pub use plain::{
     put_back, take_out, write, write_bytes, write_if, write_if_else, write_literal, write_many,
 };
-pub(crate) use subsecond::write_rare_decimals;
 pub use subsecond::{write_fraction, write_nine_digits, write_six_decimals, write_three_decimals};
 pub use time::{fmt_hour_12, fmt_hour_24, fmt_minute, fmt_period, fmt_second, fmt_subsecond};
 pub use timestamp::{fmt_unix_timestamp_millisecond, fmt_unix_timestamp_second};

@@ -106,14 +106,14 @@ civil_nanos_is dt = refl
 -- the date and the time that they show are those that we show
 pub same_shown : (dt : DateTime) (m : Moment) → IsMoment m
     → civil_nanos dt ≡ m.seconds *ℤ pos 1_000_000_000 +ℤ pos m.nanosecond
-    → ◌≡◌ {A = DateAndTime} (record { date = same_date dt.date; time = same_time dt.time }) (utc_date_and_time m)
+    → ◌≡◌ {A = DateAndTime} (record { date = same_date dt.date; time = same_time dt.time; offset = tt }) (utc_date_and_time m)
 same_shown dt m real shown =
     let t = dt.time in
-    let parts = one_second (unix_seconds (record { date = same_date dt.date; time = same_time dt.time })) m.seconds
+    let parts = one_second (unix_seconds (record { date = same_date dt.date; time = same_time dt.time; offset = tt })) m.seconds
     t.subsec_nanosecond m.nanosecond t.subsec_in real.1
     (in_seconds (civil_nanos dt) (days_from_civil dt.date.year dt.date.month dt.date.day) (day_number (same_date dt.date)) _
     t.hour t.minute t.second t.subsec_nanosecond (civil_nanos_is dt) (same_day dt.date) shown) in
-    only_utc m (record { date = same_date dt.date; time = same_time dt.time }) (same_date_is dt.date)
+    only_utc m (record { date = same_date dt.date; time = same_time dt.time; offset = tt }) (same_date_is dt.date)
     (t.hour_in, t.minute_in, t.second_in, t.subsec_in) parts.0 parts.1
 
 clock_sum : (civil n ahead u o : ℤ) (k : ℕ) → civil ≡ n +ℤ ahead *ℤ pos 1_000_000_000
@@ -123,10 +123,10 @@ clock_sum civil n ahead u o k shows moment offset = omega (arith, ints)
 -- of one moment at one offset they show the date and the time that we have
 pub same_clock : (z : Zoned) (t : OffsetDateAndTime) → IsDate t.date → IsTimeOfDay t.time
     → zoned_nanos z ≡ local_nanoseconds t → (plain_zoned z).offset.seconds ≡ offset_seconds t.offset
-    → ◌≡◌ {A = DateAndTime} (record { date = same_date (zoned_date z); time = same_time (zoned_time z) })
-    (record { date = t.date; time = t.time })
+    → ◌≡◌ {A = DateAndTime} (record { date = same_date (zoned_date z); time = same_time (zoned_time z); offset = tt })
+    (record { date = t.date; time = t.time; offset = tt })
 same_clock z t date time moment offset =
-    let shown : DateAndTime = record { date = t.date; time = t.time } in
+    let shown : DateAndTime = record { date = t.date; time = t.time; offset = tt } in
     let m : Moment = record { seconds = unix_seconds shown; nanosecond = t.time.nanosecond } in
     let real : IsMoment m = (IsTimestampSecond-unix_seconds shown date time, time.3) in
     same_shown (plain_zoned z).datetime m real

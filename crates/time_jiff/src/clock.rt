@@ -1,6 +1,4 @@
 //! The clock of a zone.
-//!
-//! `inline(never)` keeps a rare body out of its callers.
 ghost use Rattle.std.specs.Prelude.{◌≡◌, ◌≤ℤ◌, ◌+ℤ◌, pos, neg_ℤ};
 ghost use Rattle.jiff_tz.specs.Zone.{next_at, offset_at, previous_at};
 ghost use Rattle.time_below.specs.Offset.{offset_seconds};
@@ -94,7 +92,7 @@ pub struct ZoneClock<'a> {
 }
 
 impl<'a> ZoneClock<'a> {
-    /// The clock of the zone, as it is in 1970.
+    /// Returns the clock of the zone, as it is in 1970.
     pub fn new(zone: TimeZone<'a>) -> ZoneClock<'a>
         ensures { result.zone ≡ zone.entry }
     {
@@ -126,7 +124,7 @@ impl<'a> ZoneClock<'a> {
         *self = ZoneClock::at(self.zone, second);
     }
 
-    /// The offset of the clock at the moment: one that the zone has at a second from which
+    /// Returns the offset of the clock at the moment: one that the zone has at a second from which
     /// to the moment it reports no change.
     pub fn offset_at(&mut self, moment: &Timestamp) -> UtcOffset
         ensures zone { self.new.zone ≡ self.old.zone }

@@ -33,7 +33,7 @@ fn parts(moment: jiff::Timestamp) -> (i64, u32)
     (second, rest as u32)
 }
 
-/// The moment.
+/// Returns the moment.
 pub fn timestamp(moment: jiff::Timestamp) -> time_below::Timestamp
     ensures value { nanoseconds_of result ≡ moment.nanosecond }
     ensures second { IsBetween (neg_ℤ (pos 377_705_023_201)) (pos 253_402_207_200) result.seconds }
@@ -58,8 +58,8 @@ fn jiff_instant(nanoseconds: i128) -> Result<jiff::Timestamp, Error>
     }
 }
 
-/// The moment, if `jiff` has it: from -9999-01-02T01:59:59Z to 9999-12-30T22:00:00.999999999Z. Any
-/// other is refused by its Unix seconds.
+/// Returns the moment, if `jiff` has it: from -9999-01-02T01:59:59Z to
+/// 9999-12-30T22:00:00.999999999Z. Any other is refused by its Unix seconds.
 pub fn jiff_timestamp(moment: time_below::Timestamp) -> Result<jiff::Timestamp, Error>
     ensures succeeds { IsOk result ↔ IsTimestampNanos (nanoseconds_of moment) }
     ensures value { IfOk result (λ t. t.nanosecond ≡ nanoseconds_of moment) }
@@ -76,7 +76,7 @@ fn nanoseconds(moment: time_below::Timestamp) -> i128
     1_000_000_000 * second as i128 + nanosecond as i128
 }
 
-/// The offset.
+/// Returns the offset.
 pub fn offset(offset: jiff::tz::Offset) -> UtcOffset
     ensures parts { result ≡ offset_of_seconds offset.seconds }
     ensures value { offset_seconds result ≡ offset.seconds }
@@ -88,7 +88,7 @@ pub fn offset(offset: jiff::tz::Offset) -> UtcOffset
     }
 }
 
-/// The local date and time at the offset that the zone has at the moment.
+/// Returns the local date and time at the offset that the zone has at the moment.
 pub fn offset_date_time(zoned: &jiff::Zoned<'_>) -> OffsetDateTime
     ensures moment { local_nanoseconds result ≡ zoned_nanos zoned.now }
     ensures offset { offset_seconds result.offset ≡ (plain_zoned zoned.now).offset.seconds }
@@ -101,7 +101,7 @@ pub fn offset_date_time(zoned: &jiff::Zoned<'_>) -> OffsetDateTime
     }
 }
 
-/// The time of day.
+/// Returns the time of day.
 pub fn time(time: jiff::civil::Time) -> Time
     ensures { result ≡ same_time time }
 {
@@ -114,7 +114,7 @@ pub fn time(time: jiff::civil::Time) -> Time
     )
 }
 
-/// The date.
+/// Returns the date.
 pub fn date(date: jiff::civil::Date) -> Date
     ensures { result ≡ same_date date }
 {
@@ -123,7 +123,7 @@ pub fn date(date: jiff::civil::Date) -> Date
     Date::from_valid_calendar_date(plain.year as i32, month, plain.day)
 }
 
-/// The offset for `jiff`.
+/// Returns the offset for `jiff`.
 pub fn jiff_offset(offset: UtcOffset) -> jiff::tz::Offset
     ensures { result.seconds ≡ offset_seconds offset }
 {
@@ -133,7 +133,7 @@ pub fn jiff_offset(offset: UtcOffset) -> jiff::tz::Offset
     }
 }
 
-/// The time of day for `jiff`.
+/// Returns the time of day for `jiff`.
 pub fn jiff_time(time: Time) -> jiff::civil::Time
     ensures { same_time result ≡ time }
 {
@@ -145,7 +145,8 @@ pub fn jiff_time(time: Time) -> jiff::civil::Time
     }
 }
 
-/// The date for `jiff`, if it has the year: -9999 to 9999. Any other is refused by its year.
+/// Returns the date for `jiff`, if it has the year: -9999 to 9999. Any other is refused by its
+/// year.
 pub fn jiff_date(date: Date) -> Result<jiff::civil::Date, Error>
     ensures succeeds { IsOk result ↔ IsYear date.year }
     ensures value { IfOk result (λ d. (d.year ≡ date.year) × (d.month ≡ month_of date)
@@ -164,8 +165,8 @@ pub fn jiff_date(date: Date) -> Result<jiff::civil::Date, Error>
     }
 }
 
-/// The date and the time of day for `jiff`, if it has the year: -9999 to 9999. Others are refused
-/// by their year.
+/// Returns the date and the time of day for `jiff`, if it has the year: -9999 to 9999. Others are
+/// refused by their year.
 pub fn jiff_date_time(shown: PlainDateTime) -> Result<jiff::civil::DateTime, Error>
     ensures succeeds { IsOk result ↔ IsYear shown.date.year }
     ensures time { IfOk result (λ t. same_time t.time ≡ shown.time) }
@@ -180,9 +181,9 @@ pub fn jiff_date_time(shown: PlainDateTime) -> Result<jiff::civil::DateTime, Err
     }
 }
 
-/// The date and the time of day.
+/// Returns the date and the time of day.
 pub fn plain_date_time(shown: jiff::civil::DateTime) -> PlainDateTime
-    ensures { result ≡ record { date = same_date shown.date; time = same_time shown.time } }
+    ensures { result ≡ record { date = same_date shown.date; time = same_time shown.time; offset = tt } }
 {
     PlainDateTime::new(date(shown.date()), time(shown.time()))
 }
@@ -213,7 +214,7 @@ fn in_fixed_zone(instant: jiff::Timestamp, moment: OffsetDateTime) -> jiff::Zone
     instant.to_zoned(jiff::tz::TimeZone::fixed(jiff_offset(moment.offset())))
 }
 
-/// The moment in the zone that always has its offset, if `jiff` has the moment: from
+/// Returns the moment in the zone that always has its offset, if `jiff` has the moment: from
 /// -9999-01-02T01:59:59Z to 9999-12-30T22:00:00.999999999Z. Any other is refused by its Unix
 /// seconds.
 pub fn jiff_zoned(moment: OffsetDateTime) -> Result<jiff::Zoned<'static>, Error>

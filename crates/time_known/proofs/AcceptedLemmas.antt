@@ -9,12 +9,10 @@ use Rattle.time_fmt.specs.Outcome.{AppendsUpTo, done, refused, join, invalid_com
 use Rattle.time_known.specs.Accepted.{checked_text, component_name, refused_for}
 use Rattle.time_known.specs.Config.{Choices, DecimalSign}
 use Rattle.time_known.specs.Iso8601.{iso_of_groups}
-use Rattle.time_known.specs.UsualText.{choices_of, usual_choices, usual_text}
+use Rattle.time_known.specs.UsualText.{usual_choices, usual_text}
 use Rattle.time_known.specs.Values.{DateFacts, Offset, TimeOfDay}
 use Rattle.time_known.specs.WellKnown.{refused_if, is_outside}
 use Rattle.time_known.specs.declared.accepted.OutOfRange.{OutOfRange}
-use Rattle.time_known.specs.declared.accepted.OutOfRange.TheVariants as out
-use Rattle.time_known.specs.declared.iso8601.config.Usual.{Usual}
 use Rattle.time_known.specs.declared.iso8601.config.FormattedComponents.TheVariants as components
 use Rattle.time_known.proofs.OutcomeLemmas.{above_not, test_is_passed}
 
@@ -32,13 +30,6 @@ pub usual_accepted : (c : Choices) (has_separators : Bool) (digits : Option ℕ)
     → checked_text 0 25 d.year (unsigned_abs o.hours) (unsigned_abs o.seconds) text ≡ done text
     → iso_of_groups components.DateTimeOffset c d t o ≡ done (usual_text c digits d t o)
 usual_accepted c has_separators digits sign d t o text e accepted = grind (arith, common_steps, test_is_passed)
-
--- a year that is refused is refused by the text of these choices
-pub usual_year_refused : (c : Choices) (u : Usual) (d : DateFacts) (t : TimeOfDay) (o : Offset) (text : List ℕ)
-    → c ≡ choices_of u
-    → checked_text 0 25 d.year (unsigned_abs o.hours) (unsigned_abs o.seconds) text ≡ refused_for out.Year
-    → iso_of_groups components.DateTimeOffset c d t o ≡ refused_for out.Year
-usual_year_refused c u d t o text e refused = grind (arith, common_steps, any_hour)
 
 -- the refusals of a text by these choices are those of its year and of the seconds of its offset
 refusal_is : (outside zed seconds : Bool) (year after time zero hours minutes text name : List ℕ)

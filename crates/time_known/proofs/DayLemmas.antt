@@ -1,4 +1,4 @@
--- The tables of days: their rows are those of the days of a leap year, by computing each.
+-- The table of days: its rows are those of the days of a leap year, by computing each.
 use Rattle.std.proofs.Common.{◌≡◌, ℕ, zero, suc, ◌+◌, ◌-◌, ◌*◌, ◌<◌, Bool, true, false, if◌then◌else◌, List, [], ◌∷◌}
 use Rattle.std.proofs.Common.{take, drop, get_or, map, length, refl, sym, ap, ap₂, ◌∙◌, arith, ◌++◌}
 use Rattle.std.proofs.Math.Nat.{mul-suc}
@@ -12,8 +12,8 @@ use Rattle.time_below.specs.Calendar.{days_of_months, last_begun}
 use Rattle.time_below.proofs.MonthLemmas.{same_below}
 use Rattle.time_digits.specs.Digits.{is_ascii, padded, zero_padded}
 use Rattle.time_fmt.specs.DateText.{month_name, short_name}
-use Rattle.time_known.specs.Days.{dash, month_and_day_in, day_of_leap_year}
-use Rattle.time_known.specs.declared.days.TheConstants.{DAYS, ORDINALS}
+use Rattle.time_known.specs.Days.{month_and_day_in, day_of_leap_year}
+use Rattle.time_known.specs.declared.days.TheConstants.{DAYS}
 use Rattle.std.proofs.lemmas.Grind.{common_steps}
 
 -- what each row of a table says, one row after another
@@ -71,35 +71,6 @@ table_length = refl
 
 pub table_ascii : is_ascii DAYS.now ≡ true
 table_ascii = refl
-
--- ---- days of the year
-
--- the digits of the day, and those after a dash
-pub ordinal_row : (ordinal : ℕ) → IsInRange 1 366 ordinal
-    → take 1 (drop (4 * (ordinal - 1) + 1) ORDINALS.now) ++ take 2 (drop (4 * (ordinal - 1) + 2) ORDINALS.now)
-    ≡ dash false ++ zero_padded 3 ordinal
-unfolding rows digits padded
-ordinal_row ordinal h =
-    ap₂ (λ a b. take 1 a ++ take 2 b) (sym (drop-drop 1 (4 * (ordinal - 1)) ORDINALS.now))
-    (sym (drop-drop 2 (4 * (ordinal - 1)) ORDINALS.now))
-    ∙ row_is 4 (λ row. take 1 (drop 1 row) ++ take 2 (drop 2 row)) (λ n. dash false ++ zero_padded 3 n) 366 ORDINALS.now
-    refl ordinal h
-
-pub dashed_row : (ordinal : ℕ) → IsInRange 1 366 ordinal
-    → take 2 (drop (4 * (ordinal - 1)) ORDINALS.now) ++ take 2 (drop (4 * (ordinal - 1) + 2) ORDINALS.now)
-    ≡ dash true ++ zero_padded 3 ordinal
-unfolding rows digits padded
-dashed_row ordinal h =
-    ap (λ b. take 2 (drop (4 * (ordinal - 1)) ORDINALS.now) ++ take 2 b)
-    (sym (drop-drop 2 (4 * (ordinal - 1)) ORDINALS.now))
-    ∙ row_is 4 (λ row. take 2 row ++ take 2 (drop 2 row)) (λ n. dash true ++ zero_padded 3 n) 366 ORDINALS.now refl ordinal h
-
--- the table has 366 rows of four bytes, all ASCII
-pub ordinals_length : length ORDINALS.now ≡ 1_464
-ordinals_length = refl
-
-pub ordinals_ascii : is_ascii ORDINALS.now ≡ true
-ordinals_ascii = refl
 
 -- ---- common years
 

@@ -1,5 +1,5 @@
 -- What is known of the texts of the well-known formats: they are ASCII, and so UTF-8, for any numbers. The longest ones
--- of RFC 3339 and RFC 2822 are as long as the table widths.
+-- of RFC 3339, of RFC 2822 and of the date of HTTP are as long as the table widths.
 use Rattle.std.proofs.Common.{◌∷◌, ◌≡◌, refl, arith, ℕ, Bool, true, false, List, [], ◌++◌, IsAscii, IsUtf8, Option}
 use Rattle.std.proofs.Common.{Some, None, ℤ, if◌then◌else◌}
 use Rattle.time_digits.specs.Fraction.{trimmed_fraction}
@@ -24,6 +24,7 @@ use Rattle.time_known.specs.declared.iso8601.config.DateKind.TheVariants as kind
 use Rattle.time_known.specs.declared.iso8601.config.DecimalSign.TheVariants as sign_of
 use Rattle.time_known.specs.declared.iso8601.config.OffsetPrecision.TheVariants as offset_precision
 use Rattle.time_known.specs.declared.iso8601.config.TimePrecision.TheVariants as precision
+use Rattle.time_known.specs.ImfFixdate.{FillsImfFixdateWidth, imf_fixdate_outcome, imf_fixdate_text}
 use Rattle.time_known.specs.Iso8601.{iso8601_outcome, iso_date, iso_time, iso_offset, iso_year}
 use Rattle.time_known.specs.Iso8601.{text_after_year, units_text, decimal_part, iso_minutes}
 use Rattle.time_known.specs.Longest.{FillsRfc3339Width, FillsRfc2822Width}
@@ -31,7 +32,7 @@ use Rattle.time_known.specs.Rfc2822.{rfc2822_outcome}
 use Rattle.time_known.specs.Rfc3339.{rfc3339_outcome}
 use Rattle.time_known.specs.WellKnown.{refused_if}
 use Rattle.std.proofs.lemmas.Grind.{common_steps}
-use Rattle.time_known.proofs.WidthLemmas.{rfc3339_is_within, rfc2822_is_within}
+use Rattle.time_known.proofs.WidthLemmas.{rfc3339_is_within, rfc2822_is_within, imf_fixdate_is_within}
 
 -- a text that is ASCII
 record Ascii (bytes : List ℕ) : Type 0 where
@@ -97,7 +98,7 @@ ascii_weekday_name n = known_ascii (IsAscii-take (weekday_name n) 3 (IsAscii-wee
 -- a text is ASCII where its parts are
 ruleset ascii_text_lemmas = (ascii_empty, ascii_byte_before, ascii_append, ascii_either, ascii_zero_padded, ascii_fixed, ascii_trimmed_fraction, ascii_sign_text, ascii_month_name, ascii_weekday_name, refl)
 
--- ---- RFC 3339 and RFC 2822
+-- ---- RFC 3339, RFC 2822 and the date of HTTP
 
 -- the bytes of each outcome of RFC 3339 are UTF-8
 pub rfc3339_utf8 : (f : Facts) → IsUtf8 (rfc3339_outcome f).bytes
@@ -106,6 +107,14 @@ rfc3339_utf8 f = utf8_of_ascii (search (ascii_either_outcome, ascii_refused_if, 
 -- the bytes of each outcome of RFC 2822 are UTF-8
 pub rfc2822_utf8 : (f : Facts) → IsUtf8 (rfc2822_outcome f).bytes
 rfc2822_utf8 f = utf8_of_ascii (search (ascii_either_outcome, ascii_refused_if, ascii_text_lemmas) depth 25)
+
+ascii_imf_fixdate : (d : DateFacts) (t : TimeOfDay) → Ascii (imf_fixdate_text d t)
+ascii_imf_fixdate d t = search ascii_text_lemmas depth 25
+
+-- the bytes of each outcome of the date of HTTP are UTF-8
+pub imf_fixdate_utf8 : (f : Facts) → IsUtf8 (imf_fixdate_outcome f).bytes
+imf_fixdate_utf8 f =
+    utf8_of_ascii (search (ascii_either_outcome, ascii_refused_if, ascii_empty, ascii_imf_fixdate) depth 12)
 
 -- the longest text by RFC 3339
 pub rfc3339_fills_its_width : FillsRfc3339Width
@@ -117,8 +126,13 @@ pub rfc2822_fills_its_width : FillsRfc2822Width
 unfolding digits padded fixed trimmed_fraction days_of_months last_begun
 rfc2822_fills_its_width = record { complete = refl; full = refl }
 
--- no text by either is longer, and this one is as long
-pub ruleset rfc_widths = (rfc3339_is_within, rfc2822_is_within, rfc3339_fills_its_width, rfc2822_fills_its_width)
+-- the longest date of HTTP
+pub imf_fixdate_fills_its_width : FillsImfFixdateWidth
+unfolding digits padded days_of_months last_begun
+imf_fixdate_fills_its_width = record { complete = refl; full = refl }
+
+-- no text by any is longer, and this one is as long
+pub ruleset rfc_widths = (rfc3339_is_within, rfc2822_is_within, imf_fixdate_is_within, rfc3339_fills_its_width, rfc2822_fills_its_width, imf_fixdate_fills_its_width)
 
 -- ---- ISO 8601
 

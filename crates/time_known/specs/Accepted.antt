@@ -33,12 +33,6 @@ abbrev pub refusal_of : Result Unit OutOfRange → Option Refusal
 refusal_of (Ok u) = None
 refusal_of (Err component) = Some (invalid_component (component_name component))
 
--- all bytes of the outcome were appended, and the answer is their number; or no byte was, and the outcome is the refusal
--- of the component
-abbrev pub AppendsAllOrNone : ℕ → Vec ℕ Global → Vec ℕ Global → Result ℕ OutOfRange → Outcome → Type 0
-AppendsAllOrNone width old new (Ok n) o = AppendsUpTo width old new (Ok n) o
-AppendsAllOrNone width old new (Err component) o = (new ≡ old) × (o ≡ refused_for component)
-
 -- the bytes of the outcome were appended, and the answer is their number, or the component that each error of the
 -- outcome's refusal names
 abbrev pub AppendsParts : ℕ → Vec ℕ Global → Vec ℕ Global → Result ℕ OutOfRange → Outcome → Type 0

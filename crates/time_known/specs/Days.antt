@@ -1,5 +1,5 @@
 -- The month and the day of a day of the year.
-use Rattle.std.specs.Prelude.{ℕ, ◌+◌, ◌-◌, Bool, true, ◌||◌, List, [], codes, nat_lt, if◌then◌else◌}
+use Rattle.std.specs.Prelude.{ℕ, ◌+◌, ◌-◌, Bool, true, ◌||◌, nat_lt, if◌then◌else◌}
 use Rattle.time_below.specs.Calendar.{days_of_months, last_begun}
 use Rattle.time_known.specs.declared.days.CalendarDay.{CalendarDay}
 
@@ -18,10 +18,6 @@ month_and_day_in is_leap ordinal = record {
 -- those that are meant
 abbrev pub month_and_day : CalendarDay → MonthAndDay
 month_and_day d = month_and_day_in true d.0
-
--- a dash, if it is wanted
-abbrev pub dash : Bool → List ℕ
-dash is_wanted = if is_wanted then codes "-" else []
 
 -- the day of a leap year with the same month and day: a common year lacks 29 February
 abbrev pub day_of_leap_year : Bool → ℕ → ℕ

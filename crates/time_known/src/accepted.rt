@@ -21,7 +21,7 @@ pub enum OutOfRange {
 }
 
 impl OutOfRange {
-    /// The name of the component.
+    /// Returns the name of the component.
     pub fn name(self) -> &'static str
         ensures { result.now ≡ component_name self }
     {
@@ -43,9 +43,11 @@ impl From<OutOfRange> for Format {
     }
 }
 
-/// The year as a number of four digits, if it is from the first to 9,999, and the offset has at
-/// most this many hours and no seconds. Else the first of them that is refused. No offset has more
-/// than 25 hours, so that where these are the most they are not tested.
+/// Returns the year as a number of four digits, if it is from the first to 9,999, and the offset
+/// has at most this many hours and no seconds.
+///
+/// Else the first of them that is refused. No offset has more than 25 hours, so that where these
+/// are the most they are not tested.
 pub fn accepted_year(
     first: u16,
     greatest_hour: u8,

@@ -1,12 +1,10 @@
 //! The days of a year, by their month and the day of that month.
-//!
-//! Without `inline(always)` the compiler leaves calls of the functions that have it.
-ghost use Rattle.std.specs.Prelude.{◌≡◌, ◌+◌, ◌++◌, codes, if◌then◌else◌, length};
+ghost use Rattle.std.specs.Prelude.{◌≡◌, ◌++◌, codes, if◌then◌else◌, length};
 ghost use Rattle.std.specs.Int.{IsInRange};
 ghost use Rattle.time_below.specs.Calendar.{days_in_year, is_leap_year};
 ghost use Rattle.time_digits.specs.Digits.{zero_padded};
 ghost use Rattle.time_fmt.specs.DateText.{month_name, short_name};
-ghost use Rattle.time_known.specs.Days.{dash, day_of_leap_year, month_and_day, month_and_day_in};
+ghost use Rattle.time_known.specs.Days.{day_of_leap_year, month_and_day, month_and_day_in};
 
 use time_below::is_leap_year;
 use time_digits::ru16;
@@ -14,7 +12,8 @@ use time_digits::tables::piece_of;
 use time_provide::ranges::{Ordinal, Year};
 
 // Two digits of the month and two of the day, a space and the month's name, of each day of a leap
-// year: eight bytes a day. A common year has all of these but 29 February.
+// year: eight bytes a day. A common year has all of these but 29 February. By the month and the day
+// of the value the rows of RFC 3339 and RFC 2822 are a fifth dearer.
 const DAYS: &str = "\
 0101 Jan0102 Jan0103 Jan0104 Jan0105 Jan0106 Jan0107 Jan0108 Jan\
 0109 Jan0110 Jan0111 Jan0112 Jan0113 Jan0114 Jan0115 Jan0116 Jan\
@@ -65,28 +64,6 @@ const DAYS: &str = "\
 1217 Dec1218 Dec1219 Dec1220 Dec1221 Dec1222 Dec1223 Dec1224 Dec\
 1225 Dec1226 Dec1227 Dec1228 Dec1229 Dec1230 Dec1231 Dec";
 
-// A dash and three digits of each day of a year: four bytes a day.
-const ORDINALS: &str = "\
--001-002-003-004-005-006-007-008-009-010-011-012-013-014-015-016-017-018-019-020\
--021-022-023-024-025-026-027-028-029-030-031-032-033-034-035-036-037-038-039-040\
--041-042-043-044-045-046-047-048-049-050-051-052-053-054-055-056-057-058-059-060\
--061-062-063-064-065-066-067-068-069-070-071-072-073-074-075-076-077-078-079-080\
--081-082-083-084-085-086-087-088-089-090-091-092-093-094-095-096-097-098-099-100\
--101-102-103-104-105-106-107-108-109-110-111-112-113-114-115-116-117-118-119-120\
--121-122-123-124-125-126-127-128-129-130-131-132-133-134-135-136-137-138-139-140\
--141-142-143-144-145-146-147-148-149-150-151-152-153-154-155-156-157-158-159-160\
--161-162-163-164-165-166-167-168-169-170-171-172-173-174-175-176-177-178-179-180\
--181-182-183-184-185-186-187-188-189-190-191-192-193-194-195-196-197-198-199-200\
--201-202-203-204-205-206-207-208-209-210-211-212-213-214-215-216-217-218-219-220\
--221-222-223-224-225-226-227-228-229-230-231-232-233-234-235-236-237-238-239-240\
--241-242-243-244-245-246-247-248-249-250-251-252-253-254-255-256-257-258-259-260\
--261-262-263-264-265-266-267-268-269-270-271-272-273-274-275-276-277-278-279-280\
--281-282-283-284-285-286-287-288-289-290-291-292-293-294-295-296-297-298-299-300\
--301-302-303-304-305-306-307-308-309-310-311-312-313-314-315-316-317-318-319-320\
--321-322-323-324-325-326-327-328-329-330-331-332-333-334-335-336-337-338-339-340\
--341-342-343-344-345-346-347-348-349-350-351-352-353-354-355-356-357-358-359-360\
--361-362-363-364-365-366";
-
 /// The month and the day of a date, by the day of a leap year that has the same.
 #[derive(Clone, Copy)]
 pub struct CalendarDay(Ordinal);
@@ -112,8 +89,7 @@ impl CalendarDay {
         (piece_of(DAYS, row, 2), piece_of(DAYS, row + 2, 2))
     }
 
-    // A space and the first letter of the month's English name, and the next two letters. They
-    // stand behind the day, so that the compiler copies all of them together.
+    // A space and the first letter of the month's English name, and the next two letters.
     pub(crate) fn month_letters(self) -> (&'static str, &'static str)
         ensures text { result.0.now ++ result.1.now
             ≡ codes " " ++ short_name (month_name (month_and_day self).month) }
@@ -125,25 +101,7 @@ impl CalendarDay {
     }
 }
 
-// Three digits of a day of the year, after a dash if it is wanted, in two pieces.
-pub(crate) fn ordinal_digits(day: Ordinal, has_dash: bool) -> (&'static str, &'static str)
-    ensures digits { result.0.now ++ result.1.now ≡ dash has_dash ++ zero_padded 3 day }
-    ensures first { length result.0.now ≡ 1 + length (dash has_dash) }
-    ensures rest { length result.1.now ≡ 2 }
-{
-    let row = 4 * (day.get() as usize - 1);
-    if has_dash {
-        (piece_of(ORDINALS, row, 2), piece_of(ORDINALS, row + 2, 2))
-    } else {
-        (
-            piece_of(ORDINALS, row + 1, 1),
-            piece_of(ORDINALS, row + 2, 2),
-        )
-    }
-}
-
 // The day of a leap year with the same month and day.
-#[inline(always)]
 fn day_of_leap_year(is_leap: bool, ordinal: Ordinal) -> Ordinal
     requires { IsInRange 1 (if is_leap then 366 else 365) ordinal }
     ensures { result ≡ day_of_leap_year is_leap ordinal }

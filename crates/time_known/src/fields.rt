@@ -1,6 +1,4 @@
 //! The fields of a date, a time of day and an offset, from which the texts of moments are written.
-//!
-//! Without `inline(always)` the compiler leaves calls of the functions that have it.
 ghost use Rattle.std.specs.Prelude.{◌≡◌, ℕ, List, IfOk, IfErr, OnOk, IsTrue, unsigned_abs};
 ghost use Rattle.time_below.specs.Facts.{the_date, the_time, the_offset};
 ghost use Rattle.time_below.specs.Offset.{IsOffset};
@@ -30,7 +28,9 @@ pub struct Fields {
 }
 
 /// Returns the fields of a value whose year is from the first to 9,999, and whose offset has at
-/// most this many hours and no seconds. Else returns the first of these that has no place.
+/// most this many hours and no seconds.
+///
+/// Else returns the first of these that has no place.
 #[inline(always)]
 pub fn accepted_fields<V: ComponentProvider>(
     first: u16,

@@ -1,6 +1,4 @@
-//! The pieces of texts, put into a sink. Each is inlined, so that it becomes a few stores.
-//!
-//! Without `inline(always)` the compiler leaves calls of the functions that have it.
+//! The pieces of texts, put into a sink.
 #![tactic(auto, using(crate::proofs::LengthLemmas::joined_lengths))]
 
 ghost use Rattle.std.specs.Prelude.{◌≡◌, ◌+◌, ◌*◌, ◌++◌, codes, length, unsigned_abs};
@@ -25,19 +23,6 @@ use time_fmt::parts::WEEKDAY_SHORT;
 use time_fmt::writers::{
     fmt_weekday_short, format_four_digits_pad_zero, format_two_digits_pad_zero, write,
 };
-
-// Puts a piece, and then another.
-#[inline(always)]
-pub(crate) fn put_both<S: Sink>(output: &mut S, first: &str, second: &str)
-    requires room { Fits (S.buffer output.old) (length first.now + length second.now) }
-    ensures puts { Puts (S.buffer output.old) (S.buffer output.new)
-        (length first.now + length second.now)
-        (first.now ++ second.now) }
-    ensures length { length (first.now ++ second.now) ≡ length first.now + length second.now }
-{
-    write(output, first);
-    write(output, second);
-}
 
 /// Puts the year, the month and the day, and the separator between them.
 #[inline(always)]

@@ -1,7 +1,5 @@
 //! RFC 2822.
-//!
-//! Without `inline(always)` the compiler leaves calls of the functions that have it.
-ghost use Rattle.std.specs.Prelude.{true};
+ghost use Rattle.std.specs.Prelude.{◌≡◌, min, true};
 ghost use Rattle.time_below.specs.Weekday.{days_from_monday};
 ghost use Rattle.time_known.specs.Fields.{on_weekday};
 ghost use Rattle.time_known.specs.Longest.{FillsRfc2822Width};
@@ -33,10 +31,13 @@ impl ComputeMetadata for Rfc2822 {
 
     ghost is_guaranteed = { λ _. true };
 
-    ghost reaches_width = { λ _. FillsRfc2822Width };
-
+    // The text of one value has as many bytes.
     #[tactic(auto, using(crate::proofs::GuaranteeLemmas::rfc2822_fills_its_width))]
-    fn compute_metadata(&self) -> Metadata {
+    fn compute_metadata(&self) -> Metadata
+        ensures width { result.max_bytes_needed ≡ min rfc2822_width usize.MAX }
+        ensures text { result.guaranteed_utf8 ≡ true }
+        ensures reached { FillsRfc2822Width }
+    {
         Metadata {
             max_bytes_needed: WIDTH,
             guaranteed_utf8: true,
@@ -49,8 +50,6 @@ impl Formattable for Rfc2822 {
 
     ghost reads_as = { λ _. ReadsAs to_whole_second Rfc2822Spells Rfc2822Spells };
 
-    // More than one caller would else call it for each text.
-    #[inline(always)]
     fn write_into<V: ComponentProvider>(
         &self,
         output: &mut Vec<u8>,

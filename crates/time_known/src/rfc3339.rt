@@ -1,7 +1,5 @@
 //! RFC 3339.
-//!
-//! Without `inline(always)` the compiler leaves calls of the functions that have it.
-ghost use Rattle.std.specs.Prelude.{true};
+ghost use Rattle.std.specs.Prelude.{◌≡◌, min, true};
 ghost use Rattle.time_fmt.specs.Sink.{Fits};
 ghost use Rattle.time_known.specs.Fields.{shown};
 ghost use Rattle.time_known.specs.Longest.{FillsRfc3339Width};
@@ -39,10 +37,13 @@ impl ComputeMetadata for Rfc3339 {
 
     ghost is_guaranteed = { λ _. true };
 
-    ghost reaches_width = { λ _. FillsRfc3339Width };
-
+    // The text of one value has as many bytes.
     #[tactic(auto, using(crate::proofs::GuaranteeLemmas::rfc3339_fills_its_width))]
-    fn compute_metadata(&self) -> Metadata {
+    fn compute_metadata(&self) -> Metadata
+        ensures width { result.max_bytes_needed ≡ min rfc3339_width usize.MAX }
+        ensures text { result.guaranteed_utf8 ≡ true }
+        ensures reached { FillsRfc3339Width }
+    {
         Metadata {
             max_bytes_needed: WIDTH,
             guaranteed_utf8: true,
@@ -55,8 +56,6 @@ impl Formattable for Rfc3339 {
 
     ghost reads_as = { λ _. ReadsAs (λ v. v) Rfc3339Spells IsCanonicalRfc3339 };
 
-    // More than one caller would else call it for each text.
-    #[inline(always)]
     fn write_into<V: ComponentProvider>(
         &self,
         output: &mut Vec<u8>,

@@ -1,6 +1,4 @@
 //! Texts that are put into a sink piece by piece.
-//!
-//! Without `inline(always)` the compiler leaves calls of the functions that have it.
 ghost use Rattle.std.specs.Prelude.{◌≡◌, ◌≤◌, ◌++◌, ℕ, List, Ok, drop, length};
 ghost use Rattle.time_fmt.specs.Outcome.{AppendsUpTo, done};
 ghost use Rattle.time_fmt.specs.Room.{HasRoom};
@@ -9,7 +7,7 @@ ghost use Rattle.time_known.specs.Sink.{PutsUpTo};
 
 use std::marker::Brand;
 use time_fmt::writers::{put_back, take_out};
-use time_fmt::{Before, RoomSink, Sink};
+use time_fmt::{OldBytes, Sink, SliceSink};
 
 /// A text that is not written yet.
 pub trait Text {
@@ -26,7 +24,7 @@ pub trait Text {
             (text self.now) };
 }
 
-// Appends the text, in pieces that are inlined, and returns the number of its bytes.
+// Appends the text, and returns the number of its bytes.
 #[inline(always)]
 pub(crate) fn append<T: Text>(output: &mut Vec<u8>, text: &T) -> usize
     requires room { HasRoom output.old (T.width text.now) }
@@ -55,7 +53,7 @@ pub fn put_at_start<T: Text>(text: &T, room: &mut [u8]) -> usize
 
 // Puts it at the start of a buffer that held these bytes before.
 #[inline(always)]
-fn put_before<B: Before, T: Text>(text: &T, room: &mut [u8]) -> usize
+fn put_before<B: OldBytes, T: Text>(text: &T, room: &mut [u8]) -> usize
     requires before { room.old ≡ B.before }
     requires room { T.width text.now ≤ length room.old }
     ensures fits { result ≤ length room.old }
@@ -63,7 +61,7 @@ fn put_before<B: Before, T: Text>(text: &T, room: &mut [u8]) -> usize
     ensures text { room.new
         ≡ T.text text.now ++ drop (length (T.text text.now)) room.old }
 {
-    let mut sink = RoomSink::<B>::new(room);
+    let mut sink = SliceSink::<B>::new(room);
     text.put_into(&mut sink);
     sink.len()
 }

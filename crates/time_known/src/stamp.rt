@@ -12,13 +12,22 @@ use time_below::UtcDateTime;
 use time_fmt::{Format, Formattable};
 use time_provide::DateState;
 
-/// Appends the stamp of a date and time in UTC, as `1997-11-12T15:55:06.000000000Z`: its text by
-/// the default configuration of ISO 8601. Stamps sort by their bytes as their moments do.
+/// Appends the stamp of a date and time in UTC, and returns 30, the number of its bytes.
 ///
-/// Returns 30, the number of bytes appended. A year outside 0 to 9,999 is refused as the component
-/// `year`, and nothing is appended. Reserves once if the spare capacity is below the 35 bytes of
-/// the format's maximum length. If that fails, the result is `OutOfMemory`, and the output is
-/// unchanged.
+/// A stamp is the text by the default configuration of ISO 8601. The bytes of two stamps compare as
+/// their moments do. Reserves once if the spare capacity is below the 35 bytes of that format's
+/// maximum length.
+///
+/// # Errors
+///
+/// A year outside 0 to 9,999 is refused as the component `year`. If the reservation fails, the
+/// error is `OutOfMemory`. The output is unchanged by both.
+///
+/// # Examples
+///
+/// ```text
+/// stamp_into(&mut line, &utc_datetime!(1997-11-12 15:55:06))?; // 1997-11-12T15:55:06.000000000Z
+/// ```
 pub fn stamp_into(output: &mut Vec<u8>, value: &UtcDateTime) -> Result<usize, Format>
     ensures appended { IfOk result
         (λ _. output.new.items ≡ output.old.items ++ stamp_text value.now) }

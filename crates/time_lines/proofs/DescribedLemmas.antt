@@ -6,14 +6,12 @@ use Rattle.std.proofs.lemmas.Bool.{cases_lt}
 use Rattle.std.proofs.lemmas.List.{length-append}
 use Rattle.time_below.specs.Moment.{DateAndTime, Moment}
 use Rattle.time_fmt.specs.Outcome.{Outcome, done}
-use Rattle.time_lines.specs.Described.{IsFront, NoPastBefore, NoPastIn, ReadsForm, ReadsOneOf, tried_year}
-use Rattle.time_lines.specs.declared.described.Form.{Form}
-use Rattle.time_lines.specs.declared.described.Form.TheVariants.{AtOffset, AtMoment, Local, Yearless}
+use Rattle.time_lines.specs.Described.{IsFront, NoPastBefore, NoPastIn, ReadsOneOf, tried_year}
 use Rattle.time_lines.specs.declared.described.FormRow.{FormRow}
 use Rattle.time_lines.specs.declared.front.Front.{Front}
 use Rattle.time_lines.specs.declared.until.Until.{Until}
 use Rattle.time_lines.specs.declared.until.Years.{Years}
-use Rattle.time_plan_read.specs.Front.{BeginsWith}
+use Rattle.time_read.specs.Described.{BeginsWith}
 
 -- the text before the rest has the bytes that the rest does not have
 pub front_before : (outcome : Outcome) (text rest : List ℕ) → BeginsWith outcome text rest
@@ -25,18 +23,11 @@ front_before outcome text rest h =
     ap (λ n. take n text) count ∙ ap (take (length h.front)) h.parts ∙ take-append_seam h.front rest in
     (omega (arith, whole), h.is ∙ ap done (sym same))
 
-form_inside : (at : DateAndTime → Option Moment → Type 0) (years : Years) (form : Form) (text : List ℕ) (front : Front)
-    → ReadsForm at years form text front → front.count ≤ length text
-form_inside at years (AtOffset reader) text front h = h.1.0
-form_inside at years (AtMoment reader) text front h = h.1.0
-form_inside at years (Local reader) text front h = h.1.0
-form_inside at years (Yearless reader) text front h = h.1.0
-
 -- a text that is read lies in the one that it begins
 pub one_of_inside : (at : DateAndTime → Option Moment → Type 0) (years : Years) (rows : List FormRow) (text : List ℕ)
     (front : Front) → ReadsOneOf at years rows text front → front.count ≤ length text
 one_of_inside at years [] text front h = absurd h
-one_of_inside at years (row ∷ rows) text front (inl h) = form_inside at years row.form text front h.0
+one_of_inside at years (row ∷ rows) text front (inl h) = subst (λ n. n ≤ length text) (sym h.4.count) h.3
 one_of_inside at years (row ∷ rows) text front (inr h) = one_of_inside at years rows text front h
 
 pub found_inside : (at : DateAndTime → Option Moment → Type 0) (years : Years) (rows : List FormRow) (text : List ℕ)

@@ -1,4 +1,3 @@
-pub mod DayLemmas
 pub mod DescribedLemmas
 pub mod DigitLemmas
 pub mod JsonLemmas

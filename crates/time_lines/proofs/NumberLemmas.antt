@@ -12,6 +12,9 @@ use Rattle.std.specs.Char.{is_ascii_digit}
 use Rattle.std.specs.Str.Parse.{digits_value}
 use Rattle.time_below.specs.Moment.{Moment}
 use Rattle.time_lines.specs.Number.{begins, decimals_of, digit_count, digits_of, first_place, goes_on, has_minus, is_digit_at, moment_after, moment_of, number_at, with_sign}
+use Rattle.time_lines.specs.Number.{is_time}
+use Rattle.time_lines.specs.Window.{is_time_at, is_within}
+use Rattle.time_lines.specs.declared.number.Numbers.{Numbers}
 use Rattle.time_lines.specs.declared.number.Unit.{Unit as UnixUnit}
 
 one_less : (length at : ℕ) → at < length → length - at ≡ suc (length - (at + 1))
@@ -51,7 +54,7 @@ never d g n on = rw on (and_false d)
 
 digit_before : (passes : ℕ → Bool) (line : List ℕ) (k : ℕ) → 1 ≤ k → is_digit_at line (k - 1) ≡ true → begins passes line k ≡ false
 digit_before passes line k some digit =
-    never (is_digit_at line k) (goes_on line k) (passes (digit_count (drop k line)))
+    never (is_digit_at line k) (goes_on line k) (passes k)
     (either (nat_le 1 k) (is_digit_at line (k - 1)) _ (le-leb 1 k some) digit)
 
 -- nor does one inside a run of digits
@@ -97,6 +100,18 @@ pub digits_of_number : (line : List ℕ) (start count : ℕ) → count ≡ digit
 digits_of_number line start count is =
     let same : start + count - start ≡ digit_count (drop start line) = omega (arith, is) in
     ap (λ n. take n (drop start line)) same
+
+-- a number whose digits are a time's, and whose seconds are in the window, is a time
+pub time_is_here : (numbers : Numbers) (line : List ℕ) (at count : ℕ) (timely minus within : Bool)
+    → count ≡ digit_count (drop at line) → timely ≡ is_time numbers.unit numbers.least count → timely ≡ true
+    → minus ≡ has_minus line at → within ≡ is_within numbers minus (take (at + count - at) (drop at line))
+    → within ≡ is_time_at numbers line at
+time_is_here numbers line at count timely minus within is told timed sign inside =
+    let short : is_time numbers.unit numbers.least (digit_count (drop at line)) ≡ true =
+    ap (is_time numbers.unit numbers.least) (sym is) ∙ sym told ∙ timed in
+    inside ∙ ap (λ m. is_within numbers m (take (at + count - at) (drop at line))) sign
+    ∙ ap (is_within numbers (has_minus line at)) (digits_of_number line at count is)
+    ∙ ap (λ b. b && is_within numbers (has_minus line at) (digits_of (drop at line))) (sym short)
 
 -- and they are as many
 pub digits_length : (line : List ℕ) (start count : ℕ) → count ≤ length line - start → count ≡ digit_count (drop start line)

@@ -25,7 +25,7 @@ use Rattle.std.proofs.Common.{Option, Some, None}
 use Rattle.std.specs.Prelude.{Result, OnOk}
 use Rattle.line_streams.specs.Filter.{Adds, Stays}
 use Rattle.time_below.specs.Moment.{Moment}
-use Rattle.time_lines.specs.Read.{IsFirstText, NoText, NothingBefore, ReadBecomes, SameReads, offset_length, tail_length, text_length}
+use Rattle.time_lines.specs.Read.{IsFirstText, NoText, NothingBefore, ReadBecomes, ReadsFirstOf, SameReads, offset_length, tail_length, text_length}
 use Rattle.time_lines.specs.Shown.{IsReplaced, SameShown}
 use Rattle.time_lines.specs.declared.front.Front.{Front}
 
@@ -272,23 +272,36 @@ nothing_before : (reads reads' : List ℕ → Option Front → Type 0) (line : L
     → NothingBefore reads' line bound
 nothing_before reads reads' line bound leads none at lt = leads _ None (none at lt)
 
-read_becomes : (reads reads' : List ℕ → Option Front → Type 0) (shows shows' : Moment → Option (List ℕ) → Type 0)
+read_becomes : (reads reads' : List ℕ → Option Front → Type 0) (shows shows' : ℕ → Moment → Option (List ℕ) → Type 0)
     (line text : List ℕ) → ((text : List ℕ) (front : Option Front) → reads text front → reads' text front)
-    → ((m : Moment) (t : Option (List ℕ)) → shows m t → shows' m t) → ReadBecomes reads shows line text
+    → ((d : ℕ) (m : Moment) (t : Option (List ℕ)) → shows d m t → shows' d m t) → ReadBecomes reads shows line text
     → ReadBecomes reads' shows' line text
 read_becomes reads reads' shows shows' line text same leads (inl b) = inl (
   b.0,
   b.1,
   record { is = same _ _ b.2.is; first = nothing_before reads reads' line b.0 same b.2.first },
-  replaced shows shows' _ _ _ line text leads b.3,
+  replaced (shows _) (shows' _) _ _ _ line text (leads _) b.3,
 )
 read_becomes reads reads' shows shows' line text same leads (inr b) =
     inr (nothing_before reads reads' line (length line) same b.0, b.1)
 
 -- a line becomes the same where the same is read and shown
-pub read_stays : (reads reads' : List ℕ → Option Front → Type 0) (shows shows' : Moment → Option (List ℕ) → Type 0)
+pub read_stays : (reads reads' : List ℕ → Option Front → Type 0) (shows shows' : ℕ → Moment → Option (List ℕ) → Type 0)
     → SameReads reads reads' → SameShown shows shows' → Stays (ReadBecomes reads shows) (ReadBecomes reads' shows')
 read_stays reads reads' shows shows' same leads line text = (
-  λ b. read_becomes reads reads' shows shows' line text (λ t f. (same t f).0) (λ m t. (leads m t).0) b,
-  λ b. read_becomes reads' reads shows' shows line text (λ t f. (same t f).1) (λ m t. (leads m t).1) b,
+  λ b. read_becomes reads reads' shows shows' line text (λ t f. (same t f).0) (λ d m t. (leads d m t).0) b,
+  λ b. read_becomes reads' reads shows' shows line text (λ t f. (same t f).1) (λ d m t. (leads d m t).1) b,
 )
+
+-- the first of two readers reads the same, and so does the second
+pub first_of_stays : (one one' two two' : List ℕ → Option Front → Type 0) → SameReads one one' → SameReads two two'
+    → SameReads (ReadsFirstOf one two) (ReadsFirstOf one' two')
+first_of_stays one one' two two' same others text found = (
+  first_of one one' two two' text found (λ t f. (same t f).0) (λ t f. (others t f).0),
+  first_of one' one two' two text found (λ t f. (same t f).1) (λ t f. (others t f).1),
+) where
+  first_of : (one one' two two' : List ℕ → Option Front → Type 0) (text : List ℕ) (found : Option Front)
+      → ((t : List ℕ) (f : Option Front) → one t f → one' t f) → ((t : List ℕ) (f : Option Front) → two t f → two' t f)
+      → ReadsFirstOf one two text found → ReadsFirstOf one' two' text found
+  first_of one one' two two' text found leads others (inl b) = inl (leads _ _ b.0, b.1)
+  first_of one one' two two' text found leads others (inr b) = inr (leads _ _ b.0, others _ _ b.1)

@@ -11,10 +11,11 @@ use Rattle.time_lines.specs.declared.number.Numbers.{Numbers}
 use Rattle.line_streams.specs.Filter.{Stays}
 
 -- a place that may have the same offsets shows the same
-pub place_shows : (f : Facts → Outcome) (has has' : Moment → Offset → Type 0)
+pub place_shows : (f : ℕ → Facts → Outcome) (has has' : Moment → Offset → Type 0)
     → ((m : Moment) (o : Offset) → has m o ↔ has' m o)
-    → SameShown (λ m text. (o : Offset) × has m o × ShowsAt f o m text) (λ m text. (o : Offset) × has' m o × ShowsAt f o m text)
-place_shows f has has' same m text =
+    → SameShown (λ d m text. (o : Offset) × has m o × ShowsAt (f d) o m text)
+    (λ d m text. (o : Offset) × has' m o × ShowsAt (f d) o m text)
+place_shows f has has' same d m text =
     (λ s. (s.0, (same m s.0).0 s.1, s.2), λ s. (s.0, (same m s.0).1 s.1, s.2))
 
 pub replaces : (shows shows' : Moment → Option (List ℕ) → Type 0) (P : Type 0) (m : Moment) (before after line text : List ℕ)
@@ -24,8 +25,8 @@ replaces shows shows' P m before after line text leads (inl b) = inl (b.0, (b.1.
 replaces shows shows' P m before after line text leads (inr b) = inr (λ has. leads _ _ (b.0 has), b.1)
 
 -- the rest of a line becomes the same where the same is shown
-pub rest_becomes : (shows shows' : Moment → Option (List ℕ) → Type 0) (numbers : Numbers) (most : ℕ) (line : List ℕ)
-    (at from : ℕ) (text : List ℕ) → ((m : Moment) (t : Option (List ℕ)) → shows m t → shows' m t)
+pub rest_becomes : (shows shows' : ℕ → Moment → Option (List ℕ) → Type 0) (numbers : Numbers) (most : ℕ) (line : List ℕ)
+    (at from : ℕ) (text : List ℕ) → ((d : ℕ) (m : Moment) (t : Option (List ℕ)) → shows d m t → shows' d m t)
     → RestBecomes shows numbers most line at from text → RestBecomes shows' numbers most line at from text
 rest_becomes shows shows' numbers zero line at from text leads b = b
 rest_becomes shows shows' numbers (suc most) line at from text leads (inl b) = inl b
@@ -35,35 +36,35 @@ rest_becomes shows shows' numbers (suc most) line at from text leads (inr b) = i
   b.2,
   b.3,
   b.4,
-  replaces shows shows' _ _ _ _ _ b.1 leads b.5,
+  replaces (shows _) (shows' _) _ _ _ _ _ b.1 (leads _) b.5,
   rest_becomes shows shows' numbers most line _ _ b.2 leads b.6,
 )
 
-from_becomes : (shows shows' : Moment → Option (List ℕ) → Type 0) (numbers : Numbers) (from : Option ℕ) (line text : List ℕ)
-    → ((m : Moment) (t : Option (List ℕ)) → shows m t → shows' m t) → FromBecomes shows numbers from line text
+from_becomes : (shows shows' : ℕ → Moment → Option (List ℕ) → Type 0) (numbers : Numbers) (from : Option ℕ) (line text : List ℕ)
+    → ((d : ℕ) (m : Moment) (t : Option (List ℕ)) → shows d m t → shows' d m t) → FromBecomes shows numbers from line text
     → FromBecomes shows' numbers from line text
 from_becomes shows shows' numbers None line text leads b = b
 from_becomes shows shows' numbers (Some from) line text leads b = rest_becomes shows shows' numbers _ line 0 from text leads b
 
 -- a line becomes the same where the same is shown
-pub unix_stays : (shows shows' : Moment → Option (List ℕ) → Type 0) (numbers : Numbers) (after : Option (List ℕ))
+pub unix_stays : (shows shows' : ℕ → Moment → Option (List ℕ) → Type 0) (numbers : Numbers) (after : Option (List ℕ))
     → SameShown shows shows' → Stays (UnixBecomes shows numbers after) (UnixBecomes shows' numbers after)
 unix_stays shows shows' numbers after same line text = (
-  λ b. (b.0, b.1, from_becomes shows shows' numbers b.0 line text (λ m t. (same m t).0) b.2),
-  λ b. (b.0, b.1, from_becomes shows' shows numbers b.0 line text (λ m t. (same m t).1) b.2),
+  λ b. (b.0, b.1, from_becomes shows shows' numbers b.0 line text (λ d m t. (same d m t).0) b.2),
+  λ b. (b.0, b.1, from_becomes shows' shows numbers b.0 line text (λ d m t. (same d m t).1) b.2),
 )
 
-now_becomes : (shows shows' : Moment → Option (List ℕ) → Type 0) (line text : List ℕ)
-    → ((m : Moment) (t : Option (List ℕ)) → shows m t → shows' m t) → NowBecomes shows line text → NowBecomes shows' line text
+now_becomes : (shows shows' : ℕ → Moment → Option (List ℕ) → Type 0) (line text : List ℕ)
+    → ((d : ℕ) (m : Moment) (t : Option (List ℕ)) → shows d m t → shows' d m t) → NowBecomes shows line text → NowBecomes shows' line text
 now_becomes shows shows' line text leads b =
-    (b.0, (b.1.0, (b.1.1.0, leads b.1.0 b.1.1.0 b.1.1.1, b.1.1.2)), b.2)
+    (b.0, (b.1.0, (b.1.1.0, leads 3 b.1.0 b.1.1.0 b.1.1.1, b.1.1.2)), b.2)
 
 -- the same stands before a line where the same is shown
-pub now_stays : (shows shows' : Moment → Option (List ℕ) → Type 0) → SameShown shows shows'
+pub now_stays : (shows shows' : ℕ → Moment → Option (List ℕ) → Type 0) → SameShown shows shows'
     → Stays (NowBecomes shows) (NowBecomes shows')
 now_stays shows shows' same line text = (
-  λ b. now_becomes shows shows' line text (λ m t. (same m t).0) b,
-  λ b. now_becomes shows' shows line text (λ m t. (same m t).1) b,
+  λ b. now_becomes shows shows' line text (λ d m t. (same d m t).0) b,
+  λ b. now_becomes shows' shows line text (λ d m t. (same d m t).1) b,
 )
 
 none_of : (text : Option (List ℕ)) → is_some text ≡ false → text ≡ None

@@ -1,4 +1,3 @@
-pub mod Day
 pub mod Described
 pub mod Json
 pub mod Now
@@ -7,3 +6,4 @@ pub mod Passed
 pub mod Read
 pub mod Shown
 pub mod Unix
+pub mod Window

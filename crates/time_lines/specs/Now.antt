@@ -13,10 +13,10 @@ abbrev pub stamp_of : Option (List ℕ) → List ℕ
 stamp_of None = []
 stamp_of (Some text) = spaced text
 
--- the stamp is what is shown of some moment
-abbrev pub IsStamp : (Moment → Option (List ℕ) → Type 0) → List ℕ → Type 0
-IsStamp shows stamp = (m : Moment) × ((shown : Option (List ℕ)) × shows m shown × (stamp ≡ stamp_of shown))
+-- the stamp is what is shown of some moment, with three decimals of a second
+abbrev pub IsStamp : (ℕ → Moment → Option (List ℕ) → Type 0) → List ℕ → Type 0
+IsStamp shows stamp = (m : Moment) × ((shown : Option (List ℕ)) × shows 3 m shown × (stamp ≡ stamp_of shown))
 
 -- the line with such a stamp before it
-abbrev pub NowBecomes : (Moment → Option (List ℕ) → Type 0) → List ℕ → List ℕ → Type 0
+abbrev pub NowBecomes : (ℕ → Moment → Option (List ℕ) → Type 0) → List ℕ → List ℕ → Type 0
 NowBecomes shows line text = (stamp : List ℕ) × IsStamp shows stamp × (text ≡ stamp ++ line)

@@ -1,5 +1,5 @@
 -- The numbers of a line that are times, and the moments that they name.
-use Rattle.std.specs.Prelude.{ℕ, ◌+◌, ◌-◌, ◌*◌, ◌/◌, ◌%◌, ◌^◌, ◌≤◌, pos, neg_ℤ, ◌-ℤ◌, List, [], ◌∷◌, length, take, drop, get_or}
+use Rattle.std.specs.Prelude.{ℕ, ◌+◌, ◌-◌, ◌*◌, ◌/◌, ◌%◌, ◌^◌, ◌≤◌, min, pos, neg_ℤ, ◌-ℤ◌, List, [], ◌∷◌, length, take, drop, get_or}
 use Rattle.std.specs.Prelude.{zero, suc, Bool, not, ◌&&◌, ◌||◌, ◌==◌, nat_le, if◌then◌else◌, Option, Some, None, is_some}
 use Rattle.std.specs.Char.{is_ascii_digit, is_ascii_alphanumeric}
 use Rattle.std.specs.List.{prefix_len}
@@ -52,10 +52,9 @@ unit_for asked count = elim (unit_of asked count) [
 abbrev pub is_time : Option UnixUnit → ℕ → ℕ → Bool
 is_time asked least count = nat_le least count && is_some (unit_of asked count)
 
--- whether a number begins here whose count of digits passes
+-- whether a number begins here, where one passes
 abbrev pub begins : (ℕ → Bool) → List ℕ → ℕ → Bool
-begins passes line at =
-    is_digit_at line at && (not (goes_on line at) && passes (digit_count (drop at line)))
+begins passes line at = is_digit_at line at && (not (goes_on line at) && passes at)
 
 -- the first place from here on that passes, of so many
 abbrev pub first_place : (ℕ → Bool) → ℕ → ℕ → Option ℕ
@@ -110,6 +109,10 @@ places_of Seconds = 0
 places_of Milliseconds = 3
 places_of Microseconds = 6
 places_of Nanoseconds = 9
+
+-- how many decimals of a second a number of the unit has that has so many: those below a nanosecond are left out
+abbrev pub decimals_shown : UnixUnit → ℕ → ℕ
+decimals_shown unit count = min (count + places_of unit) 9
 
 -- the value of the first of the decimals, as many as this, where missing ones are zeros
 abbrev pub decimals_value : ℕ → List ℕ → ℕ

@@ -1,7 +1,7 @@
 -- What a line becomes whose first text that is read is replaced.
-use Rattle.std.specs.Prelude.{ℕ, ◌≡◌, ◌↔◌, ◌+◌, ◌<◌, ◌≤◌, ◌⊎◌, List, [], ◌∷◌, Option, Some, None, IfSome, IfNone, ◌||◌, ◌==◌, length, take, drop, if◌then◌else◌}
+use Rattle.std.specs.Prelude.{ℕ, ◌≡◌, ◌↔◌, ◌+◌, ◌<◌, ◌≤◌, ◌⊎◌, List, [], ◌∷◌, Option, Some, None, IfSome, IfNone, ◌||◌, ◌==◌, length, take, drop, min, true, is_some, if◌then◌else◌}
 use Rattle.time_below.specs.Moment.{Moment, OffsetDateAndTime, IsMoment, local_moment}
-use Rattle.time_lines.specs.Number.{digit_count}
+use Rattle.time_lines.specs.Number.{decimals_of, digit_count}
 use Rattle.time_lines.specs.Shown.{IsReplaced}
 use Rattle.time_lines.specs.declared.front.Front.{Front}
 use Rattle.time_read.specs.Lenient.{Rfc3339Means}
@@ -20,15 +20,20 @@ pub record IsFirstText (reads : List ℕ → Option Front → Type 0) (line : Li
   pub first : NothingBefore reads line at
 
 -- what a line becomes: its first text is replaced, and one without stays as it is
-abbrev pub ReadBecomes : (List ℕ → Option Front → Type 0) → (Moment → Option (List ℕ) → Type 0) → List ℕ → List ℕ → Type 0
+abbrev pub ReadBecomes : (List ℕ → Option Front → Type 0) → (ℕ → Moment → Option (List ℕ) → Type 0) → List ℕ → List ℕ → Type 0
 ReadBecomes reads shows line text =
     ((at : ℕ) × (front : Front) × IsFirstText reads line at front
-    × IsReplaced shows front.moment (take at line) (drop front.count (drop at line)) line text)
+    × IsReplaced (shows front.decimals) front.moment (take at line) (drop front.count (drop at line)) line text)
     ⊎ (NothingBefore reads line (length line) × (text ≡ line))
 
 -- the moment is this one, if it is a moment that a timestamp may have
 abbrev pub IsMomentIfReal : Moment → Option Moment → Type 0
 IsMomentIfReal m found = IfSome found (λ n. (n ≡ m) × IsMoment n) × IfNone found (¬ IsMoment m)
+
+-- what the first of two readers reads, or else the second one
+abbrev pub ReadsFirstOf : (List ℕ → Option Front → Type 0) → (List ℕ → Option Front → Type 0) → List ℕ → Option Front → Type 0
+ReadsFirstOf first second text found =
+    (first text found × (is_some found ≡ true)) ⊎ (first text None × second text found)
 
 -- ---- RFC 3339
 
@@ -36,12 +41,13 @@ IsMomentIfReal m found = IfSome found (λ n. (n ≡ m) × IsMoment n) × IfNone 
 abbrev pub NoText : List ℕ → Type 0
 NoText text = (count : ℕ) (v : OffsetDateAndTime) → count ≤ length text → ¬ Rfc3339Means v (take count text)
 
--- so many first bytes of the text are one of RFC 3339, with its moment
+-- so many first bytes of the text are one of RFC 3339, with its moment and its decimals, of which nine count
 abbrev pub ReadsRfc3339 : List ℕ → Option Front → Type 0
 ReadsRfc3339 text None = NoText text
 ReadsRfc3339 text (Some front) =
     (v : OffsetDateAndTime) × (front.count ≤ length text) × Rfc3339Means v (take front.count text)
     × IsMomentIfReal (local_moment v) front.moment
+    × (front.decimals ≡ min (length (decimals_of (drop 19 text))) 9)
 
 -- ---- where such a text ends, by its bytes
 

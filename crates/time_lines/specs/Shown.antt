@@ -1,14 +1,27 @@
 -- What is shown of a moment.
-use Rattle.std.specs.Prelude.{ℕ, ◌≡◌, ◌↔◌, ◌++◌, ◌⊎◌, Bool, List, [], Option, Some, None, is_some}
+use Rattle.std.specs.Prelude.{ℕ, ◌≡◌, ◌↔◌, ◌++◌, ◌⊎◌, Bool, List, [], Option, Some, None, is_some, get_or, nat_le, if◌then◌else◌}
 use Rattle.time_below.specs.Facts.{facts_of_offset_date_time}
 use Rattle.time_below.specs.Moment.{Moment, IsMoment, local_at, moved}
 use Rattle.time_below.specs.Offset.{Offset}
 use Rattle.time_below.specs.Facts.{Facts}
 use Rattle.time_fmt.specs.Outcome.{Outcome}
+use Rattle.time_known.specs.Changes.{the_time, with_choice}
+use Rattle.time_known.specs.Config.{Choices, default_choices}
+use Rattle.time_known.specs.declared.iso8601.config.TimePrecision.TheVariants.{Second}
+use Rattle.time_lines.specs.declared.descriptions.Descriptions.{Descriptions}
 
 -- the same may be shown as before
-abbrev pub SameShown : (Moment → Option (List ℕ) → Type 0) → (Moment → Option (List ℕ) → Type 0) → Type 0
-SameShown old new = (m : Moment) (text : Option (List ℕ)) → old m text ↔ new m text
+abbrev pub SameShown : (ℕ → Moment → Option (List ℕ) → Type 0) → (ℕ → Moment → Option (List ℕ) → Type 0) → Type 0
+SameShown old new = (decimals : ℕ) (m : Moment) (text : Option (List ℕ)) → old decimals m text ↔ new decimals m text
+
+-- the description for a text with so many decimals of a second
+abbrev pub description_for : {F : Type 0} → Descriptions F → ℕ → F
+description_for descriptions decimals = get_or descriptions.by_decimals.items decimals descriptions.usual
+
+-- ISO 8601 by the default choices, with so many decimals
+abbrev pub with_decimals : ℕ → Choices
+with_decimals decimals =
+    with_choice the_time (Second (if nat_le 1 decimals then Some decimals else None)) default_choices
 
 -- the bytes of a text, if there is one
 abbrev pub bytes_of : Option (List ℕ) → List ℕ

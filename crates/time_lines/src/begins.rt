@@ -1,10 +1,11 @@
 //! How texts of a plan begin, by which most places of a line are passed over.
+use crate::described::FormRow;
 use time_below::format_description::Component;
 use time_below::format_description::modifier::Padding;
 use time_plan::{Literal, Run, Shown, Step};
 
 /// A byte that stands at a place of each text that begins without a sign.
-#[derive(Clone, Copy)]
+#[derive(Clone, Copy, PartialEq, Eq)]
 struct Mark {
     at: usize,
     byte: u8,
@@ -112,7 +113,7 @@ fn begin_of_step(shown: &Shown, behind: Option<u8>) -> (First, Option<Mark>) {
             let (at, byte) = (2, between.first);
             return (First::Digits, Some(Mark { at, byte }));
         }
-        Shown::Run(Run::Empty) => match behind {
+        Shown::Nothing => match behind {
             Some(byte) => return (First::Only(byte), None),
             None => (First::Any, None),
         },
@@ -143,6 +144,33 @@ impl Begins {
             first: table_of(first),
             mark,
         }
+    }
+
+    /// How texts begin that begin by one or by the other.
+    pub(crate) fn or(&self, other: &Begins) -> Begins {
+        let mut first = self.first;
+        for byte in 0..=255u8 {
+            let at = byte as usize;
+            first[at] = first[at] || other.first[at];
+        }
+        let mark = if self.mark == other.mark {
+            self.mark
+        } else {
+            None
+        };
+        Begins { first, mark }
+    }
+
+    /// How texts begin that begin by one of these.
+    pub(crate) fn of_each(rows: &[FormRow<'_>]) -> Begins {
+        let mut begins: Option<Begins> = None;
+        for row in rows {
+            begins = Some(match &begins {
+                Some(others) => others.or(&row.begins),
+                None => row.begins.or(&row.begins),
+            });
+        }
+        begins.unwrap_or_else(|| Begins::of(&[]))
     }
 
     /// Whether a text may begin so.

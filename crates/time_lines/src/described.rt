@@ -1,22 +1,24 @@
 //! Texts of descriptions, read.
-//!
-//! `inline(never)` keeps a long body out of its caller.
 ghost use Rattle.std.specs.Prelude.{◌≡◌, ◌≤◌, Option, IfSome, true, false, get_or, length, drop};
 ghost use Rattle.std.specs.Char.{is_ascii_digit};
 ghost use Rattle.time_below.specs.Moment.{DateAndTime, Moment, in_utc, local_moment};
-ghost use Rattle.time_lines.specs.Described.{IsFront, ReadsForm, ReadsOneOf, has_more, is_cut};
-ghost use Rattle.time_lines.specs.Described.{is_by_clock, plan_of, written};
+ghost use Rattle.time_lines.specs.Described.{IsFront, IsFrontOf, ReadsForm, ReadsOneOf, ReadsRow};
+ghost use Rattle.time_lines.specs.Described.{has_decimals, has_hours, has_offset, is_by_clock};
+ghost use Rattle.time_lines.specs.Described.{ends_with_digit, has_offset_here, is_cut, is_to_second};
+ghost use Rattle.time_lines.specs.Described.{lacks_decimals, lacks_offset, more_behind, plan_of};
+ghost use Rattle.time_lines.specs.Described.{written};
 ghost use Rattle.time_lines.specs.Read.{IsMomentIfReal};
 
 use crate::begins::Begins;
+use crate::decimals::{decimals_in, decimals_of};
 use crate::front::{Front, Reads, moment_of_value};
-use crate::shown::Utc;
+use crate::passed::Why;
 use crate::until::Years;
-use crate::years::yearless_moment;
+use crate::years::{lack_in, yearless_moment};
 use time_below::{OffsetDateTime, PlainDateTime, Timestamp};
 use time_fmt::ComponentProvider;
 use time_plan::Plan;
-use time_plan_read::{Readable, Reader};
+use time_read::{Readable, Reader};
 
 /// A place, whose clock shows dates and times at moments.
 pub trait Zone {
@@ -27,6 +29,10 @@ pub trait Zone {
     fn moment_of(&self, local: PlainDateTime) -> Option<Timestamp>
         ensures { has_moment self.now local result };
 }
+
+/// The place whose clock is that of UTC.
+#[derive(Clone, Copy)]
+pub struct Utc;
 
 impl Zone for Utc {
     ghost has_moment = { λ _ t. IsMomentIfReal (local_moment (in_utc t)) };
@@ -49,25 +55,25 @@ pub enum Form<'a> {
     Yearless(Reader<'a, PlainDateTime>),
 }
 
-/// A form, and how its texts begin.
+/// A form, and what is known of its texts.
 #[derive(Drop)]
 pub struct FormRow<'a> {
     pub form: Form<'a>,
-    /// A text is not read where decimals or an offset follow it, which would be of its time.
-    pub is_whole: bool,
-    begins: Begins,
+    /// How many decimals of a second they have, unless they have as many as their moment needs.
+    decimals: Option<usize>,
+    pub(crate) begins: Begins,
 }
 
 impl<'a> FormRow<'a> {
-    /// A form of these texts, which are read whatever follows them.
+    /// Returns a form of these texts.
     pub fn new(form: Form<'a>) -> FormRow<'a>
-        ensures form { result.form ≡ form.entry }
-        ensures whole { result.is_whole ≡ false }
+        ensures { result.form ≡ form.entry }
     {
+        let decimals = decimals_of(form.plan());
         let begins = Begins::of(form.plan().steps());
         FormRow {
             form,
-            is_whole: false,
+            decimals,
             begins,
         }
     }
@@ -83,6 +89,13 @@ impl<'a> Form<'a> {
             Form::AtMoment(reader) => reader.plan,
             Form::Local(reader) | Form::Yearless(reader) => reader.plan,
         }
+    }
+
+    /// Whether its texts show the date, the time and the offset.
+    fn has_offset(&self) -> bool
+        ensures { result ≡ has_offset self.now }
+    {
+        matches!(self, Form::AtOffset(_))
     }
 
     /// Whether the moment of its texts is the one at which a clock shows them.
@@ -101,6 +114,24 @@ pub struct Described<'a, Z: Zone + Drop> {
     pub years: Years,
     /// The place of a text that shows no offset.
     pub zone: Z,
+    begins: Begins,
+}
+
+impl<'a, Z: Zone + Drop> Described<'a, Z> {
+    /// Reads the texts of these forms.
+    pub fn new(forms: Vec<FormRow<'a>>, years: Years, zone: Z) -> Described<'a, Z>
+        ensures forms { result.forms ≡ forms.entry }
+        ensures years { result.years ≡ years }
+        ensures zone { result.zone ≡ zone }
+    {
+        let begins = Begins::of_each(forms.as_slice());
+        Described {
+            forms,
+            years,
+            zone,
+            begins,
+        }
+    }
 }
 
 /// The value at the front of a text, and how many bytes it has.
@@ -117,35 +148,46 @@ where
     }
 }
 
+/// A text of a form at the front of another one, and what it means by itself.
+#[derive(Clone, Copy)]
+pub(crate) struct Meant {
+    /// How many bytes it has.
+    pub count: usize,
+    /// Its moment, unless it has none.
+    pub moment: Option<Timestamp>,
+    /// Why it has no moment, if it has none.
+    pub lacks: Why,
+}
+
 /// The text of a form at the front of a text, if there is one.
-fn read_form<Z: Zone>(form: &Form<'_>, zone: &Z, years: &Years, text: &[u8]) -> Option<Front>
+fn read_form<Z: Zone>(form: &Form<'_>, zone: &Z, years: &Years, text: &[u8]) -> Option<Meant>
     ensures reads { IfSome result (ReadsForm (Z.has_moment zone.now)
         years.now form.now text.now) }
-    ensures local { IfSome result (λ front. front.is_local ≡ is_by_clock form.now) }
-    ensures inside { IfSome result (λ front. front.count ≤ length text.now) }
+    ensures inside { IfSome result (λ meant. meant.count ≤ length text.now) }
 {
-    let (moment, count) = match form {
+    let (count, moment, lacks) = match form {
         Form::AtOffset(reader) => {
             let (value, count) = value_at_front(reader, text)?;
-            (moment_of_value(value), count)
+            (count, moment_of_value(value), Why::NoMoment)
         }
         Form::AtMoment(reader) => {
             let (value, count) = value_at_front(reader, text)?;
-            (Some(value), count)
+            (count, Some(value), Why::NoMoment)
         }
         Form::Local(reader) => {
             let (local, count) = value_at_front(reader, text)?;
-            (zone.moment_of(local), count)
+            (count, zone.moment_of(local), Why::NoLocalMoment)
         }
         Form::Yearless(reader) => {
             let (local, count) = value_at_front(reader, text)?;
-            (yearless_moment(zone, local, years), count)
+            let moment = yearless_moment(zone, local, years);
+            (count, moment, lack_in(local, years))
         }
     };
-    Some(Front {
+    Some(Meant {
         count,
         moment,
-        is_local: form.is_by_clock(),
+        lacks,
     })
 }
 
@@ -166,46 +208,115 @@ fn is_cut(text: &[u8], count: usize) -> bool
     count > 0 && is_digit_at(text, count - 1) && is_digit_at(text, count)
 }
 
-/// Whether a text goes on behind a time with decimals or an offset.
-fn has_more(rest: &[u8]) -> bool
-    ensures { result ≡ has_more rest.now }
+/// Whether decimals stand here.
+fn has_decimals(text: &[u8]) -> bool
+    ensures { result ≡ has_decimals text.now }
 {
-    match rest {
-        [b'Z' | b'z', ..] => true,
-        [b'.' | b',' | b'+' | b'-', next, ..] => next.is_ascii_digit(),
+    match text {
+        [b'.' | b',', next, ..] => next.is_ascii_digit(),
         _ => false,
     }
 }
 
-/// The text of a form at the front of a text, if there is one and it does not end inside a number,
-/// nor, where that is asked for, before decimals or an offset.
+/// Whether a sign and two digits stand here.
+fn has_hours(text: &[u8]) -> bool
+    ensures { result ≡ has_hours text.now }
+{
+    match text {
+        [b'+' | b'-', tens, ones, ..] => tens.is_ascii_digit() && ones.is_ascii_digit(),
+        _ => false,
+    }
+}
+
+/// Whether an offset stands here, perhaps behind a space.
+fn has_offset(text: &[u8]) -> bool
+    ensures { result ≡ has_offset_here text.now }
+{
+    match text {
+        [b'Z' | b'z', ..] => true,
+        [b' ', rest @ ..] => has_hours(rest),
+        _ => has_hours(text),
+    }
+}
+
+/// Whether so many first bytes end with a digit.
+fn ends_with_digit(text: &[u8], count: usize) -> bool
+    ensures { result ≡ ends_with_digit text.now count }
+{
+    count > 0 && is_digit_at(text, count - 1)
+}
+
+/// Whether texts of the form have no decimals of a second, and no offset.
+fn is_to_second(row: &FormRow<'_>) -> bool
+    ensures { result ≡ is_to_second row.now }
+{
+    match row.decimals {
+        Some(0) => !row.form.has_offset(),
+        _ => false,
+    }
+}
+
+/// Whether decimals follow a text of a form that has so many bytes, and the form has none.
+fn lacks_decimals(row: &FormRow<'_>, text: &[u8], count: usize) -> bool
+    requires { count ≤ length text.now }
+    ensures { result ≡ lacks_decimals row.now text.now count }
+{
+    is_to_second(row) && ends_with_digit(text, count) && has_decimals(&text[count..])
+}
+
+/// Whether an offset follows a text of a form that has so many bytes, and the form has none.
+fn lacks_offset(row: &FormRow<'_>, text: &[u8], count: usize) -> bool
+    requires { count ≤ length text.now }
+    ensures { result ≡ lacks_offset row.now text.now count }
+{
+    row.form.is_by_clock() && has_offset(&text[count..])
+}
+
+/// What follows a text of a form that has so many bytes, if it is of the same time and the form
+/// does not have it: decimals of its second, or an offset.
+fn more_behind(row: &FormRow<'_>, text: &[u8], count: usize) -> Option<Why>
+    requires { count ≤ length text.now }
+    ensures { result ≡ more_behind row.now text.now count }
+{
+    if lacks_decimals(row, text, count) {
+        Some(Why::Decimals)
+    } else if lacks_offset(row, text, count) {
+        Some(Why::Offset)
+    } else {
+        None
+    }
+}
+
+/// What is read of a text of a form: it has no moment where more of its time follows it.
+fn front_of(meant: Meant, more: Option<Why>, decimals: usize) -> Front
+    ensures { IsFrontOf more meant result }
+{
+    let (moment, lacks) = match more {
+        None => (meant.moment, meant.lacks),
+        Some(why) => (None, why),
+    };
+    Front {
+        count: meant.count,
+        decimals,
+        moment,
+        lacks,
+    }
+}
+
+/// The text of a form at the front of a text, if there is one and it does not end inside a number.
 fn read_row<Z: Zone>(row: &FormRow<'_>, zone: &Z, years: &Years, text: &[u8]) -> Option<Front>
-    ensures reads { IfSome result (ReadsForm (Z.has_moment zone.now)
-        years.now row.now.form text.now) }
-    ensures local { IfSome result (λ front. front.is_local ≡ is_by_clock row.now.form) }
-    ensures uncut { IfSome result (λ front. is_cut text.now front.count ≡ false) }
-    ensures whole { IfSome result (λ front. row.now.is_whole ≡ true
-        → has_more (drop front.count text.now) ≡ false) }
+    ensures { IfSome result (ReadsRow (Z.has_moment zone.now) years.now row.now text.now) }
 {
     if !row.begins.may_begin(text) {
         return None;
     }
-    let front = read_form(&row.form, zone, years, text)?;
-    if is_cut(text, front.count) {
+    let meant = read_form(&row.form, zone, years, text)?;
+    if is_cut(text, meant.count) {
         return None;
     }
-    if row.is_whole && has_more(&text[front.count..]) {
-        return None;
-    }
-    Some(front)
-}
-
-/// Whether a text may begin so, where there is one form.
-fn may_begin(forms: &[FormRow<'_>], text: &[u8]) -> bool {
-    match forms {
-        [row] => row.begins.may_begin(text),
-        _ => true,
-    }
+    let more = more_behind(row, text, meant.count);
+    let decimals = decimals_in(row.decimals, meant.moment);
+    Some(front_of(meant, more, decimals))
 }
 
 /// The text of the first form that reads one at the front of a text.
@@ -229,7 +340,7 @@ impl<Z: Zone + Drop> Reads for Described<'_, Z> {
         (Z.has_moment d.zone) d.years d.forms.items text) };
 
     fn read_front(&mut self, text: &[u8]) -> Option<Front> {
-        if !may_begin(self.forms.as_slice(), text) {
+        if !self.begins.may_begin(text) {
             return None;
         }
         read_forms(self.forms.as_slice(), &self.zone, &self.years, text)

@@ -7,7 +7,7 @@ use std::default::Default;
 use time_below::format_description::Component;
 use time_below::{Date, Month, OffsetDateTime, PlainDateTime, Time, Timestamp};
 use time_plan::{Plan, Run, Shown};
-use time_plan_read::{NoReader, ReadPlan};
+use time_read::{NoReader, ReadPlan};
 
 /// Why the texts of a plan have no moments.
 #[derive(Clone, Copy, Debug, PartialEq, Eq)]
@@ -99,7 +99,7 @@ impl ShownParts {
                         ..shows
                     };
                 }
-                Shown::Run(_) => {}
+                Shown::Run(Run::Time(_)) | Shown::Nothing => {}
             }
         }
         shows
@@ -173,8 +173,8 @@ fn without_offset<'a>(plan: &'a Plan, base: Date) -> Result<Form<'a>, NoForm>
 }
 
 impl<'a> Form<'a> {
-    /// The form of a plan. Where texts show only a part of the year, the other part is that of the
-    /// date.
+    /// Returns the form of a plan. Where texts show only a part of the year, the other part is that
+    /// of the date.
     pub fn of(plan: &'a Plan, base: Date) -> Result<Form<'a>, NoForm>
         ensures { IfOk result (λ form. plan_of form ≡ plan.now) }
     {

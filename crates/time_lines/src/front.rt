@@ -4,6 +4,7 @@ ghost use Rattle.time_below.specs.Moment.{IsMoment, local_moment};
 ghost use Rattle.time_lines.specs.Read.{SameReads};
 ghost use Rattle.time_lines.specs.declared.front.Front.{Front};
 
+use crate::passed::Why;
 use time_below::{OffsetDateTime, Timestamp};
 
 /// A text at the front of another one that was read.
@@ -11,10 +12,12 @@ use time_below::{OffsetDateTime, Timestamp};
 pub struct Front {
     /// How many bytes it has.
     pub count: usize,
+    /// How many decimals of a second it has, at most nine.
+    pub decimals: usize,
     /// Its moment, unless it has none.
     pub moment: Option<Timestamp>,
-    /// It shows no offset, so that its moment is the one at which a clock shows it.
-    pub is_local: bool,
+    /// Why it has no moment, if it has none.
+    pub lacks: Why,
 }
 
 /// What reads texts at the front of others.

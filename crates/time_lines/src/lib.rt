@@ -2,8 +2,9 @@
 #![tactic(auto)]
 
 mod begins;
-mod day;
+mod decimals;
 mod described;
+mod descriptions;
 mod forms;
 mod front;
 mod json;
@@ -18,14 +19,14 @@ mod unix;
 mod until;
 mod years;
 
-pub use day::Rfc3339InPlace;
-pub use described::{Described, Form, FormRow, Zone};
+pub use described::{Described, Form, FormRow, Utc, Zone};
+pub use descriptions::{Descriptions, with_decimals};
 pub use forms::NoForm;
 pub use front::{Front, Reads};
 pub use now::NowJob;
-pub use number::{Numbers, Unit};
+pub use number::{Numbers, Unit, Window};
 pub use passed::{FirstPassed, Passed, Why};
-pub use read::ReadJob;
-pub use shown::{InPlace, InUtc, Place, Shows, Utc};
+pub use read::{FirstOf, ReadJob, Rfc3339Texts};
+pub use shown::{InPlace, InUtc, Place, Shows};
 pub use unix::UnixJob;
 pub use until::{Until, Years};

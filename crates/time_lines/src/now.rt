@@ -31,6 +31,9 @@ fn add_space(text: &mut Vec<u8>) -> Result<(), AllocError>
     Ok(())
 }
 
+/// How many decimals of a second are shown, unless the description has its own.
+const DECIMALS: usize = 3;
+
 /// Makes the stamp of a moment.
 fn put_stamp<S: Shows>(
     shown: &mut S,
@@ -41,7 +44,7 @@ fn put_stamp<S: Shows>(
     ensures stamp { OnOk result (IsStamp (S.shows shown.old) stamp.new.items) }
 {
     stamp.clear();
-    if shown.append(stamp, moment)? {
+    if shown.append(stamp, moment, DECIMALS)? {
         add_space(stamp)?;
     }
     Ok(())

@@ -1,6 +1,4 @@
 //! The numbers of a line that are times, and the moments that they name.
-//!
-//! Without `inline(always)` the compiler leaves calls of the functions that have it.
 ghost use Rattle.std.specs.Prelude.{ℕ, ◌≡◌, ◌≤◌, ◌<◌, ◌-◌, ◌*◌, ◌^◌, pos, true, false, Some, None};
 ghost use Rattle.std.specs.Prelude.{length, drop, IfSome, IfNone, MatchOption};
 ghost use Rattle.std.specs.Char.{is_ascii_digit};
@@ -9,7 +7,8 @@ ghost use Rattle.std.specs.Str.Parse.{digits_value};
 ghost use Rattle.time_lines.specs.Number.{begins, decimals_length, decimals_of, decimals_value};
 ghost use Rattle.time_lines.specs.Number.{digit_count, goes_on, has_minus};
 ghost use Rattle.time_lines.specs.Number.{is_digit_at, is_time, moment_after, named_moment};
-ghost use Rattle.time_lines.specs.Number.{number_start};
+ghost use Rattle.time_lines.specs.Number.{decimals_shown, number_start, places_of};
+ghost use Rattle.time_lines.specs.Window.{has_second, is_time_at, is_within};
 ghost use Rattle.time_lines.specs.Number.{unit_by_digits, unit_for, unit_of, with_sign};
 ghost use Rattle.time_below.specs.Moment.{IsMoment};
 
@@ -26,6 +25,13 @@ pub enum Unit {
     Nanoseconds,
 }
 
+/// Seconds since 1970, from one to another.
+#[derive(Clone, Copy)]
+pub struct Window {
+    pub first: i64,
+    pub last: i64,
+}
+
 /// Which numbers of a line are times, and how they are replaced.
 #[derive(Clone, Copy)]
 pub struct Numbers {
@@ -35,6 +41,8 @@ pub struct Numbers {
     pub unit: Option<Unit>,
     /// How many digits a number has at least.
     pub least: usize,
+    /// The seconds of which one is that of each number, if they are given.
+    pub window: Option<Window>,
     /// Each number of a line is replaced, and not the first alone.
     pub is_all: bool,
     /// A text is put in quotes where its number stands as a value of JSON.
@@ -60,7 +68,7 @@ fn unit_by_digits(count: usize) -> Option<Unit>
 
 /// The unit of a number of so many digits: the one that is asked for, and else the one by its
 /// digits.
-fn unit_of(asked: Option<Unit>, count: usize) -> Option<Unit>
+pub(crate) fn unit_of(asked: Option<Unit>, count: usize) -> Option<Unit>
     ensures { result ≡ unit_of asked count }
 {
     match asked {
@@ -70,7 +78,7 @@ fn unit_of(asked: Option<Unit>, count: usize) -> Option<Unit>
 }
 
 /// The same, and seconds where it has none.
-fn unit_for(asked: Option<Unit>, count: usize) -> Unit
+pub(crate) fn unit_for(asked: Option<Unit>, count: usize) -> Unit
     ensures { result ≡ unit_for asked count }
 {
     match unit_of(asked, count) {
@@ -84,6 +92,60 @@ fn is_time(numbers: &Numbers, count: usize) -> bool
     ensures { result ≡ is_time numbers.now.unit numbers.now.least count }
 {
     count >= numbers.least && (count == 10 || unit_of(numbers.unit, count).is_some())
+}
+
+/// How many of a unit a second has.
+fn per_second(unit: Unit) -> u64
+    ensures value { result ≡ 10 ^ places_of unit }
+    ensures some { 1 ≤ result }
+{
+    match unit {
+        Unit::Seconds => 1,
+        Unit::Milliseconds => 1_000,
+        Unit::Microseconds => 1_000_000,
+        Unit::Nanoseconds => 1_000_000_000,
+    }
+}
+
+/// How many decimals of a second a number has whose unit is this, with so many decimals: those
+/// below a nanosecond are left out.
+pub(crate) fn decimals_shown(unit: Unit, count: usize) -> usize
+    ensures { result ≡ decimals_shown unit count }
+{
+    let places = match unit {
+        Unit::Seconds => 0,
+        Unit::Milliseconds => 3,
+        Unit::Microseconds => 6,
+        Unit::Nanoseconds => 9,
+    };
+    count.saturating_add(places).min(9)
+}
+
+/// Whether so many seconds before 1970 or after it are in the window.
+fn has_second(window: Window, is_negative: bool, seconds: u64) -> bool
+    ensures { result ≡ has_second window is_negative seconds }
+{
+    let Ok(seconds) = i64::try_from(seconds) else {
+        return false;
+    };
+    let second = if is_negative { -seconds } else { seconds };
+    window.first <= second && second <= window.last
+}
+
+/// Whether a number of these digits is in the window, if there is one.
+#[inline(always)]
+fn is_within(numbers: &Numbers, is_negative: bool, digits: &[u8]) -> bool
+    requires digits { list_all is_ascii_digit digits.now ≡ true }
+    ensures { result ≡ is_within numbers.now is_negative digits.now }
+{
+    let Some(window) = numbers.window else {
+        return true;
+    };
+    if digits.len() > 19 {
+        return false;
+    }
+    let unit = unit_for(numbers.unit, digits.len());
+    has_second(window, is_negative, value_of(digits) / per_second(unit))
 }
 
 /// Whether a digit stands before this position, or a point after a digit.
@@ -129,13 +191,25 @@ fn next_digit(line: &[u8], from: usize) -> usize
     at
 }
 
+/// Whether the number whose digits begin here, which are so many, is a time.
+#[inline(always)]
+fn is_time_here(line: &[u8], at: usize, count: usize, numbers: &Numbers) -> bool
+    requires inside { at ≤ length line.now }
+    requires digits { count ≤ length line.now - at }
+    requires count { count ≡ digit_count (drop at line.now) }
+    ensures { result ≡ is_time_at numbers.now line.now at }
+{
+    is_time(numbers, count) && is_within(numbers, has_minus(line, at), &line[at..at + count])
+}
+
 /// Whether a time begins here, where so many digits stand in a row.
 fn is_number(line: &[u8], at: usize, count: usize, numbers: &Numbers) -> bool
     requires inside { at ≤ length line.now }
+    requires digits { count ≤ length line.now - at }
     requires count { count ≡ digit_count (drop at line.now) }
-    ensures { result ≡ begins (is_time numbers.now.unit numbers.now.least) line.now at }
+    ensures { result ≡ begins (is_time_at numbers.now line.now) line.now at }
 {
-    count > 0 && is_time(numbers, count) && !goes_on(line, at)
+    count > 0 && !goes_on(line, at) && is_time_here(line, at, count, numbers)
 }
 
 /// Where the first time begins from this position on, and how many digits it has.
@@ -143,8 +217,8 @@ fn is_number(line: &[u8], at: usize, count: usize, numbers: &Numbers) -> bool
 fn number_from(line: &[u8], numbers: &Numbers, from: usize) -> Option<(usize, usize)>
     requires inside { from ≤ length line.now }
     ensures place { MatchOption result
-        (number_start (is_time numbers.now.unit numbers.now.least) line.now from ≡ None)
-        (λ s. number_start (is_time numbers.now.unit numbers.now.least) line.now from ≡ Some s.0) }
+        (number_start (is_time_at numbers.now line.now) line.now from ≡ None)
+        (λ s. number_start (is_time_at numbers.now line.now) line.now from ≡ Some s.0) }
     ensures inside { IfSome result (λ s. s.0 ≤ length line.now) }
     ensures count { IfSome result (λ s. s.1 ≡ digit_count (drop s.0 line.now)) }
     ensures digits { IfSome result (λ s. s.1 ≤ length line.now - s.0) }
@@ -175,8 +249,8 @@ fn first_count(line: &[u8]) -> usize
 #[inline(always)]
 fn first_number(line: &[u8], numbers: &Numbers) -> Option<(usize, usize)>
     ensures place { MatchOption result
-        (number_start (is_time numbers.now.unit numbers.now.least) line.now 0 ≡ None)
-        (λ s. number_start (is_time numbers.now.unit numbers.now.least) line.now 0 ≡ Some s.0) }
+        (number_start (is_time_at numbers.now line.now) line.now 0 ≡ None)
+        (λ s. number_start (is_time_at numbers.now line.now) line.now 0 ≡ Some s.0) }
     ensures inside { IfSome result (λ s. s.0 ≤ length line.now) }
     ensures count { IfSome result (λ s. s.1 ≡ digit_count (drop s.0 line.now)) }
     ensures digits { IfSome result (λ s. s.1 ≤ length line.now - s.0) }
@@ -193,8 +267,8 @@ fn first_number(line: &[u8], numbers: &Numbers) -> Option<(usize, usize)>
 pub(crate) fn number_start(line: &[u8], numbers: &Numbers, from: usize) -> Option<(usize, usize)>
     requires from { from ≤ length line.now }
     ensures place { MatchOption result
-        (number_start (is_time numbers.now.unit numbers.now.least) line.now from ≡ None)
-        (λ s. number_start (is_time numbers.now.unit numbers.now.least) line.now from ≡ Some s.0) }
+        (number_start (is_time_at numbers.now line.now) line.now from ≡ None)
+        (λ s. number_start (is_time_at numbers.now line.now) line.now from ≡ Some s.0) }
     ensures inside { IfSome result (λ s. s.0 ≤ length line.now) }
     ensures count { IfSome result (λ s. s.1 ≡ digit_count (drop s.0 line.now)) }
     ensures digits { IfSome result (λ s. s.1 ≤ length line.now - s.0) }
@@ -253,8 +327,8 @@ fn sum_of(digits: &[u8]) -> u64
     value
 }
 
-/// The same. The compiler unrolls the loops for ten digits, as of the seconds from 2001 to 2286,
-/// and three, as of their milliseconds.
+/// The same. Numbers of ten digits, as the seconds from 2001 to 2286, and of three, as their
+/// milliseconds, have loops of a known length for the row "a line of `movaliren unix`".
 #[inline(always)]
 fn value_of(digits: &[u8]) -> u64
     requires count { length digits.now ≤ 19 }
@@ -269,7 +343,7 @@ fn value_of(digits: &[u8]) -> u64
 }
 
 /// Ten to this power.
-fn power_of_ten(exponent: usize) -> u64
+pub(crate) fn power_of_ten(exponent: usize) -> u64
     requires { exponent ≤ 9 }
     ensures { result ≡ 10 ^ exponent }
 {

@@ -10,14 +10,22 @@ pub enum Why {
     NoPlace,
     /// It has no time.
     NoTime,
-    /// It has numbers, and their digits are those of no unit.
-    NoUnit,
+    /// It has numbers, of which the first has so many digits, and they are those of no unit.
+    NoUnit(usize),
+    /// Its numbers are of no year that is asked for.
+    OtherYears,
     /// Its time is no moment of the years -999,999 to 999,999: its year is outside, it has more
     /// than 19 digits, or it is a value of JSON with an exponent.
     NoMoment,
     /// No clock shows its time in the years -9999 to 9999: the text has no offset, and its year is
-    /// outside or does not have its day.
+    /// outside.
     NoLocalMoment,
+    /// The year of its time does not have the day.
+    NoDay,
+    /// Decimals follow its time, which the description does not read.
+    Decimals,
+    /// An offset follows its time, which the description does not read.
+    Offset,
     /// The description has no text for its moment.
     NoText,
 }

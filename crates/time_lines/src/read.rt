@@ -1,16 +1,15 @@
 //! Texts in lines, read and replaced by what is shown of their moments.
-//!
-//! Without `inline(always)` the compiler leaves calls of the functions that have it.
 ghost use Rattle.std.specs.Prelude.{◌≡◌, ◌+◌, ◌≤◌, length, take, drop, IfSome, IfNone, OnOk};
-ghost use Rattle.std.specs.Prelude.{if◌then◌else◌};
 ghost use Rattle.line_streams.specs.Filter.{Adds};
 ghost use Rattle.time_lines.specs.Read.{IsFirstText, NoText, NothingBefore, ReadBecomes};
-ghost use Rattle.time_lines.specs.Read.{ReadsRfc3339, SameReads, offset_length, tail_length};
+ghost use Rattle.time_lines.specs.Number.{decimals_of};
+ghost use Rattle.time_lines.specs.Read.{ReadsFirstOf, ReadsRfc3339, SameReads, offset_length};
+ghost use Rattle.time_lines.specs.Read.{tail_length};
 ghost use Rattle.time_lines.specs.Shown.{IsReplaced, SameShown};
-ghost use Rattle.time_lines.specs.declared.passed.Why.TheVariants.{NoLocalMoment, NoMoment};
 ghost use Rattle.time_read.specs.Lenient.{Rfc3339Means};
 
 use crate::front::{Front, Reads, moment_of_value};
+use crate::number::decimals_of;
 use crate::passed::{Passed, Why, why_stays};
 use crate::runs::digit_count;
 use crate::shown::Shows;
@@ -18,16 +17,19 @@ use crate::unix::append_replaced;
 use line_streams::{FilterError, LineJob};
 use std::alloc::AllocError;
 use time_below::OffsetDateTime;
-use time_read::LenientReader;
+use time_read::rfc3339::read_lenient;
 
-/// Replaces the first text of each line that a reader reads by what is shown of its moment. A
-/// `LenientReader` of `time_read` reads those of RFC 3339, and `Described` those of descriptions. A
-/// line without one passes as it is, and is counted; so does one of whose moment nothing is shown.
+/// Replaces the first text of each line that a reader reads by what is shown of its moment.
+/// `Rfc3339Texts` reads those of RFC 3339, and `Described` those of descriptions. A line without
+/// one passes as it is, and is counted; so does one of whose moment nothing is shown.
 #[derive(Drop)]
 pub struct ReadJob<S: Shows + Drop, R: Reads + Drop> {
     pub shown: S,
     pub reader: R,
     pub passed: Passed,
+    /// The beginning of the first line that passed, or of what follows the text in it that was
+    /// read.
+    pub example: Vec<u8>,
 }
 
 /// How many bytes an offset has that the text begins with.
@@ -57,12 +59,22 @@ fn tail_length(text: &[u8]) -> usize
     }
 }
 
-/// The text of RFC 3339 that this text begins with, if it does: how many bytes it has, and its
-/// value.
+/// A text of RFC 3339 at the front of another one.
+#[derive(Drop)]
+struct TextHere {
+    /// How many bytes it has.
+    count: usize,
+    /// How many decimals it has.
+    decimals: usize,
+    value: OffsetDateTime,
+}
+
+/// The text of RFC 3339 that this text begins with, if it does.
 #[inline(always)]
-fn text_here(reader: &mut LenientReader, text: &[u8]) -> Option<(usize, OffsetDateTime)>
-    ensures inside { IfSome result (λ r. r.0 ≤ length text.now) }
-    ensures means { IfSome result (λ r. Rfc3339Means r.1 (take r.0 text.now)) }
+fn text_here(text: &[u8]) -> Option<TextHere>
+    ensures inside { IfSome result (λ r. r.count ≤ length text.now) }
+    ensures means { IfSome result (λ r. Rfc3339Means r.value (take r.count text.now)) }
+    ensures decimals { IfSome result (λ r. r.decimals ≡ length (decimals_of (drop 19 text.now))) }
     ensures none { IfNone result (NoText text.now) }
 {
     if text.len() < 20 {
@@ -75,23 +87,49 @@ fn text_here(reader: &mut LenientReader, text: &[u8]) -> Option<(usize, OffsetDa
     if count > text.len() {
         return None;
     }
-    match reader.read(&text[..count]) {
-        Ok(value) => Some((count, value)),
+    match read_lenient(&text[..count]) {
+        Ok(value) => Some(TextHere {
+            count,
+            decimals: decimals_of(&text[19..]).len(),
+            value,
+        }),
         Err(_) => None,
     }
 }
 
-impl Reads for LenientReader {
+/// Reads the texts of RFC 3339 that `read_lenient` of `time_read` reads.
+#[derive(Clone, Copy, Drop)]
+pub struct Rfc3339Texts;
+
+impl Reads for Rfc3339Texts {
     ghost reads = { λ _. ReadsRfc3339 };
 
     #[inline(always)]
     fn read_front(&mut self, text: &[u8]) -> Option<Front> {
-        let (count, value) = text_here(self, text)?;
+        let here = text_here(text)?;
         Some(Front {
-            count,
-            moment: moment_of_value(value),
-            is_local: false,
+            count: here.count,
+            decimals: here.decimals.min(9),
+            moment: moment_of_value(here.value),
+            lacks: Why::NoMoment,
         })
+    }
+}
+
+/// Reads what the first of two readers reads, or else what the second one does.
+#[derive(Drop)]
+pub struct FirstOf<A: Reads + Drop, B: Reads + Drop>(pub A, pub B);
+
+impl<A: Reads + Drop, B: Reads + Drop> Reads for FirstOf<A, B> {
+    ghost reads = { λ r. ReadsFirstOf (A.reads r.0) (B.reads r.1) };
+
+    #[inline(always)]
+    #[tactic(auto, using(crate::proofs::ReadLemmas::first_of_stays))]
+    fn read_front(&mut self, text: &[u8]) -> Option<Front> {
+        match self.0.read_front(text) {
+            Some(front) => Some(front),
+            None => self.1.read_front(text),
+        }
     }
 }
 
@@ -134,7 +172,8 @@ fn append_found<S: Shows>(
     requires at { found.now.at ≤ length line.now }
     requires count { found.now.front.count ≤ length (drop found.now.at line.now) }
     ensures same { SameShown (S.shows shown.old) (S.shows shown.new) }
-    ensures appended { OnOk result (Adds (IsReplaced (S.shows shown.old) found.now.front.moment
+    ensures appended { OnOk result (Adds (IsReplaced (S.shows shown.old found.now.front.decimals)
+        found.now.front.moment
         (take found.now.at line.now)
         (drop found.now.front.count (drop found.now.at line.now)) line.now)
         output.old.items output.new.items) }
@@ -149,18 +188,26 @@ fn append_found<S: Shows>(
         rest,
         after,
         found.front.moment,
+        found.front.decimals,
     )
 }
 
-/// Why a text that was read has no moment, if it has none.
-fn why_momentless(front: &Front) -> Why
-    ensures { result ≡ (if front.now.is_local then NoLocalMoment else NoMoment) }
-{
-    if front.is_local {
-        Why::NoLocalMoment
-    } else {
-        Why::NoMoment
+/// How many bytes of a line are kept as an example.
+const EXAMPLE_BYTES: usize = 1_024;
+
+/// Counts a line that passed as it was, if there is a reason, and keeps the beginning of a text of
+/// the first such line.
+fn note(
+    passed: &mut Passed,
+    example: &mut Vec<u8>,
+    stays: Option<Why>,
+    text: &[u8],
+) -> Result<(), AllocError> {
+    if stays.is_some() && passed.first.is_none() {
+        example.extend_from_slice(&text[..text.len().min(EXAMPLE_BYTES)])?;
     }
+    passed.pass_if(stays);
+    Ok(())
 }
 
 impl<S: Shows + Drop, R: Reads + Drop> LineJob for ReadJob<S, R> {
@@ -175,15 +222,16 @@ impl<S: Shows + Drop, R: Reads + Drop> LineJob for ReadJob<S, R> {
     fn append(&mut self, output: &mut Vec<u8>, line: &[u8]) -> Result<(), AllocError> {
         self.passed.begin_line();
         let Some(found) = first_text(&mut self.reader, line) else {
-            self.passed.pass(Why::NoTime);
+            let stays = Some(Why::NoTime);
+            note(&mut self.passed, &mut self.example, stays, line)?;
             output.extend_from_slice(line)?;
             return Ok(());
         };
         let is_shown = append_found(&mut self.shown, output, line, &found)?;
-        let has_moment = found.front.moment.is_some();
-        let momentless = why_momentless(&found.front);
-        self.passed
-            .pass_if(why_stays(is_shown, has_moment, momentless));
+        let front = found.front;
+        let stays = why_stays(is_shown, front.moment.is_some(), front.lacks);
+        let behind = &line[found.at..][front.count..];
+        note(&mut self.passed, &mut self.example, stays, behind)?;
         Ok(())
     }
 }

@@ -2,9 +2,11 @@
 ghost use Rattle.std.specs.Prelude.{◌≡◌, ◌↔◌, ℕ, List, Option, IfOk};
 ghost use Rattle.time_below.specs.Facts.{facts_of_timestamp};
 ghost use Rattle.time_below.specs.Moment.{Moment};
-ghost use Rattle.time_below.specs.Offset.{Offset, utc};
-ghost use Rattle.time_lines.specs.Shown.{AppendsShown, SameShown, ShowsAt, text_of};
+ghost use Rattle.time_below.specs.Offset.{Offset};
+ghost use Rattle.time_lines.specs.Shown.{AppendsShown, SameShown, ShowsAt, description_for};
+ghost use Rattle.time_lines.specs.Shown.{text_of};
 
+use crate::descriptions::Descriptions;
 use std::alloc::AllocError;
 use std::default::Default;
 use time_below::{Timestamp, UtcOffset};
@@ -13,14 +15,19 @@ use time_provide::{ComponentProvider, DateState, TimestampState};
 
 /// What is shown of moments.
 pub trait Shows {
-    /// What may be shown of a moment.
-    ghost shows: { Self → Moment → Option (List ℕ) → Type 0 };
+    /// What may be shown of a moment in place of a text with so many decimals of a second.
+    ghost shows: { Self → ℕ → Moment → Option (List ℕ) → Type 0 };
 
     /// Appends what is shown of the moment, and says whether that is a text.
-    fn append(&mut self, output: &mut Vec<u8>, moment: &Timestamp) -> Result<bool, AllocError>
+    fn append(
+        &mut self,
+        output: &mut Vec<u8>,
+        moment: &Timestamp,
+        decimals: usize,
+    ) -> Result<bool, AllocError>
         ensures same { SameShown (shows self.old) (shows self.new) }
         ensures shown { IfOk result
-            (AppendsShown (shows self.old moment.now) output.old.items output.new.items) };
+            (AppendsShown (shows self.old decimals moment.now) output.old.items output.new.items) };
 }
 
 /// A place, whose clock has an offset at each moment.
@@ -33,21 +40,6 @@ pub trait Place {
         ensures same { (m : Moment) (o : Offset)
             → has_offset self.old m o ↔ has_offset self.new m o }
         ensures offset { has_offset self.old moment.now result };
-}
-
-/// The place whose clock is that of UTC.
-#[derive(Clone, Copy)]
-pub struct Utc;
-
-impl Place for Utc {
-    ghost has_offset = { λ _ _ o. o ≡ utc };
-
-    fn offset_at(&mut self, _moment: &Timestamp) -> UtcOffset {
-        match UtcOffset::from_hms(0, 0, 0) {
-            Ok(utc) => utc,
-            Err(_) => unreachable!(),
-        }
-    }
 }
 
 /// Appends the text of a value, or nothing where the description refuses it, and says whether it
@@ -74,19 +66,24 @@ pub(crate) fn append_text<F: Formattable, V: ComponentProvider>(
     }
 }
 
-/// The texts of a description in UTC.
+/// The texts of descriptions in UTC.
 #[derive(Drop)]
 pub struct InUtc<F: Formattable + Drop> {
-    pub description: F,
+    pub descriptions: Descriptions<F>,
 }
 
 impl<F: Formattable + Drop> Shows for InUtc<F> {
-    ghost shows = { λ s m text. text
-        ≡ text_of (F.outcome_of s.description (facts_of_timestamp m)) };
+    ghost shows = { λ s decimals m text. text
+        ≡ text_of (F.outcome_of (description_for s.descriptions decimals) (facts_of_timestamp m)) };
 
-    fn append(&mut self, output: &mut Vec<u8>, moment: &Timestamp) -> Result<bool, AllocError> {
+    fn append(
+        &mut self,
+        output: &mut Vec<u8>,
+        moment: &Timestamp,
+        decimals: usize,
+    ) -> Result<bool, AllocError> {
         append_text(
-            &self.description,
+            self.descriptions.of(decimals),
             output,
             moment,
             &mut TimestampState::default(),
@@ -94,23 +91,28 @@ impl<F: Formattable + Drop> Shows for InUtc<F> {
     }
 }
 
-/// The texts of a description by the clock of a place.
+/// The texts of descriptions by the clock of a place.
 #[derive(Drop)]
 pub struct InPlace<F: Formattable + Drop, P: Place + Drop> {
-    pub description: F,
+    pub descriptions: Descriptions<F>,
     pub place: P,
 }
 
 impl<F: Formattable + Drop, P: Place + Drop> Shows for InPlace<F, P> {
-    ghost shows = { λ s m text. (o : Offset) × P.has_offset s.place m o
-        × ShowsAt (F.outcome_of s.description) o m text };
+    ghost shows = { λ s decimals m text. (o : Offset) × P.has_offset s.place m o
+        × ShowsAt (F.outcome_of (description_for s.descriptions decimals)) o m text };
 
-    fn append(&mut self, output: &mut Vec<u8>, moment: &Timestamp) -> Result<bool, AllocError> {
+    fn append(
+        &mut self,
+        output: &mut Vec<u8>,
+        moment: &Timestamp,
+        decimals: usize,
+    ) -> Result<bool, AllocError> {
         let offset = self.place.offset_at(moment);
         match moment.checked_to_offset(offset) {
             None => Ok(false),
             Some(local) => append_text(
-                &self.description,
+                self.descriptions.of(decimals),
                 output,
                 &local,
                 &mut DateState::default(),

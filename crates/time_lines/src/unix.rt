@@ -1,7 +1,4 @@
 //! Unix time in lines, replaced by its text.
-//!
-//! Without `inline(always)` the compiler leaves calls of the functions that have it. `cold` and
-//! `inline(never)` keep long or rare bodies out of their callers.
 ghost use Rattle.std.specs.Prelude.{◌≡◌, ◌≤◌, ◌+◌, ◌-◌, ◌++◌, ◌&&◌, true, false, length, drop};
 ghost use Rattle.std.specs.Prelude.{Some, IfNone, IfOk, IfSome, OnOk, if◌then◌else◌};
 ghost use Rattle.line_streams.specs.Filter.{Adds};
@@ -13,11 +10,12 @@ ghost use Rattle.time_lines.specs.Number.{digit_count, named_moment, number_at};
 ghost use Rattle.time_lines.specs.Shown.{IsReplaced, SameShown};
 ghost use Rattle.time_lines.specs.Unix.{FromBecomes, HasText, LooksFrom, PieceBecomes, RestBecomes};
 ghost use Rattle.time_lines.specs.Unix.{IsFoundNumber, UnixBecomes, between, is_quoted};
-ghost use Rattle.time_lines.specs.Unix.{moment_of_time};
+ghost use Rattle.time_lines.specs.Unix.{decimals_at, moment_of_time};
 
 use crate::json::{has_exponent, is_value_at, quotes_if};
 use crate::number::{
-    Numbers, Unit, decimals_length, decimals_of, has_minus, moment_of, number_start,
+    Numbers, Unit, decimals_length, decimals_of, decimals_shown, has_minus, moment_of,
+    number_start, unit_for, unit_of,
 };
 use crate::passed::{Passed, Why, why_stays};
 use crate::shown::Shows;
@@ -70,10 +68,11 @@ pub(crate) fn append_replaced<S: Shows>(
     own: &[u8],
     after: &[u8],
     moment: Option<Timestamp>,
+    decimals: usize,
 ) -> Result<bool, AllocError>
     ensures same { SameShown (S.shows shown.old) (S.shows shown.new) }
     ensures appended { OnOk result (Adds
-        (IsReplaced (S.shows shown.old) moment (before.now ++ marks.now) (marks.now ++ after.now)
+        (IsReplaced (S.shows shown.old decimals) moment (before.now ++ marks.now) (marks.now ++ after.now)
         (before.now ++ own.now))
         output.old.items output.new.items) }
 {
@@ -84,7 +83,7 @@ pub(crate) fn append_replaced<S: Shows>(
     };
     let length = output.as_slice().len();
     append_bytes(output, marks)?;
-    if shown.append(output, &moment)? {
+    if shown.append(output, &moment, decimals)? {
         append_bytes(output, marks)?;
         append_bytes(output, after)?;
         return Ok(true);
@@ -110,6 +109,8 @@ struct FoundNumber {
     end: usize,
     /// It is a value of JSON, whose text is put in quotes.
     is_value: bool,
+    /// How many decimals of a second it has.
+    decimals: usize,
     /// Its moment, unless it has none or is a value with an exponent.
     moment: Option<Timestamp>,
 }
@@ -160,6 +161,7 @@ fn found_number(numbers: &Numbers, line: &[u8], start: usize, count: usize) -> F
     ensures first { result.first ≡ (number_at line.now start).first }
     ensures end { result.end ≡ (number_at line.now start).end }
     ensures value { result.is_value ≡ is_quoted numbers.now line.now start }
+    ensures decimals { result.decimals ≡ decimals_at numbers.now line.now start }
     ensures some { IfSome result.moment (λ m. (m ≡ moment_of_time numbers.now line.now start)
         × HasText numbers.now line.now start) }
     ensures none { IfNone result.moment (¬ HasText numbers.now line.now start) }
@@ -178,6 +180,7 @@ fn found_number(numbers: &Numbers, line: &[u8], start: usize, count: usize) -> F
         first: first_place(is_negative, start),
         end,
         is_value,
+        decimals: decimals_shown(unit_for(numbers.unit, count), decimals.len()),
         moment,
     }
 }
@@ -233,7 +236,16 @@ fn append_piece<S: Shows>(
     let own = &line[found.first..found.end];
     let marks = quotes_if(found.is_value);
     let has_moment = found.moment.is_some();
-    let is_shown = append_replaced(shown, output, before, marks, own, &[], found.moment)?;
+    let is_shown = append_replaced(
+        shown,
+        output,
+        before,
+        marks,
+        own,
+        &[],
+        found.moment,
+        found.decimals,
+    )?;
     Ok(Piece {
         end: found.end,
         stays: why_stays(is_shown, has_moment, Why::NoMoment),
@@ -303,12 +315,14 @@ fn append_behind<S: Shows>(
 fn why_none(numbers: &Numbers, line: &[u8], from: usize) -> Why
     requires { from ≤ length line.now }
 {
-    let any_unit = Numbers {
+    let any = Numbers {
         unit: Some(Unit::Seconds),
+        window: None,
         ..*numbers
     };
-    match number_start(line, &any_unit, from) {
-        Some(_) => Why::NoUnit,
+    match number_start(line, &any, from) {
+        Some((_, count)) if unit_of(numbers.unit, count).is_none() => Why::NoUnit(count),
+        Some(_) => Why::OtherYears,
         None => Why::NoTime,
     }
 }
@@ -395,8 +409,7 @@ fn append_asked<S: Shows>(
     append_from(shown, numbers, passed, output, line, from)
 }
 
-/// The same where the first time of each line is replaced, and no JSON is read. The compiler drops
-/// from the copy of the numbers what else may be asked for, as long as no call is handed it.
+/// The same where the first time of each line is replaced, and no JSON is read.
 #[inline(always)]
 fn append_usual<S: Shows>(
     shown: &mut S,

@@ -2,9 +2,10 @@
 ghost use Rattle.std.specs.Prelude.{◌≡◌, ◌<◌, IfNone, IfSome};
 ghost use Rattle.time_lines.specs.declared.until.Years.TheVariants.{Latest};
 ghost use Rattle.time_lines.specs.Described.{HasDay, HasYearlessMoment, IsPastIn, IsUntilDayAfter};
-ghost use Rattle.time_lines.specs.Described.{NoPastIn, in_year, tried_year};
+ghost use Rattle.time_lines.specs.Described.{IsLackIn, NoPastIn, in_year, tried_year};
 
 use crate::described::Zone;
+use crate::passed::Why;
 use crate::until::{Until, Years};
 use time_below::{Date, PlainDateTime, Timestamp};
 
@@ -15,7 +16,7 @@ const YEARS_TRIED: u8 = 10;
 const DAY_SECONDS: i64 = 86_400;
 
 impl Years {
-    /// The latest year in which the moment is at most a day after this one.
+    /// Returns the latest year in which the moment is at most a day after this one.
     pub fn before_day_after(now: Timestamp) -> Years
         ensures { IsUntilDayAfter now result }
     {
@@ -79,6 +80,16 @@ fn latest_moment<Z: Zone>(zone: &Z, local: PlainDateTime, until: &Until) -> Opti
         }
     }
     None
+}
+
+/// Why a date and time without a year has no moment, if it has none.
+pub(crate) fn lack_in(local: PlainDateTime, years: &Years) -> Why
+    ensures { IsLackIn years.now local result }
+{
+    match years {
+        Years::One(year) if in_year(local, *year).is_none() => Why::NoDay,
+        _ => Why::NoLocalMoment,
+    }
 }
 
 /// The moment in the year that is asked for.

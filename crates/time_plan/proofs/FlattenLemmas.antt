@@ -13,7 +13,6 @@ use Rattle.time_fmt.proofs.WriteLemmas.{join_assoc, join_nothing}
 use Rattle.time_plan.specs.Literal.{literal_bytes, literal_tree}
 use Rattle.time_plan.specs.Shown.{shown_tree}
 use Rattle.time_plan.specs.Steps.{step_tree, step_trees, Extends, Begins}
-use Rattle.time_fmt.specs.declared.runs.Run.TheVariants as run
 use Rattle.time_plan.specs.declared.shown.Shown.TheVariants as shown
 use Rattle.time_plan.specs.declared.step.Step.{Step}
 use Rattle.time_plan.proofs.StepLemmas.{step_outcome, step_width, step_is_text, and_true}
@@ -56,7 +55,7 @@ shown_pushed xs s no_literal is_text = record {
 
 -- a literal behind no component
 pub literal_pushed : (xs : List Step) (s : Step) (b : Bool) (bs : List ℕ)
-    → s.shown ≡ shown.Run run.Empty
+    → s.shown ≡ shown.Nothing
     → literal_bytes s.literal ≡ bs → s.is_text ≡ b
     → Extends (step_trees xs) (step_trees (xs ++ s ∷ [])) (literal_tree b bs)
 literal_pushed xs s b bs nothing is_literal is_text = record {

@@ -54,10 +54,11 @@ one_byte (b ∷ c ∷ bs) some few = let no : ⊥ = omega arith in absurd no
 shown_text : (s : Shown) (f : Facts) → IsTextIf (is_guaranteed_text (shown_tree s)) (tree_outcome (shown_tree s) f)
 shown_text (shown.Component c) f = λ _. text_of_component c f
 shown_text (shown.Run r) f = run_text r f
+shown_text shown.Nothing f = λ _. empty_utf8
 
 pub shown_guaranteed : (s : Shown) → is_guaranteed_text (shown_tree s) ≡ true
 shown_guaranteed (shown.Component c) = refl
-shown_guaranteed (shown.Run run.Empty) = refl
+shown_guaranteed shown.Nothing = refl
 shown_guaranteed (shown.Run (run.Date b)) = refl
 shown_guaranteed (shown.Run (run.Time b)) = refl
 

@@ -1,15 +1,15 @@
 -- Three parts with a byte between each two.
 use Rattle.std.proofs.Common.{◌≡◌, ℕ, ◌≤◌, ◌&&◌, List, [], ◌∷◌, length, sym, ap, ◌∙◌, arith, map, drop}
-use Rattle.std.proofs.Common.{get_or, subst}
+use Rattle.std.proofs.Common.{get_or, subst, Option, Some, None, IfSome}
+use Rattle.time_below.specs.declared.format_description.component.Component.{Component}
 use Rattle.time_below.proofs.NodeLemmas.{next_of}
 use Rattle.time_below.specs.Tree.{Tree, Trees, of_component, text_literal, more, trees}
 use Rattle.time_below.specs.Width.{is_guaranteed_text, are_guaranteed_text}
 use Rattle.time_fmt.specs.Description.{tree_outcome, trees_outcome}
 use Rattle.time_fmt.specs.Outcome.{Outcome, done, join}
-use Rattle.time_fmt.specs.Runs.{three_parts}
-use Rattle.time_plan.specs.Shown.{part_component}
+use Rattle.time_fmt.specs.Runs.{run_tree, three_parts}
+use Rattle.time_fmt.specs.declared.runs.Run.{Run}
 use Rattle.time_plan.specs.Steps.{IsAlike, Begins}
-use Rattle.time_plan.specs.declared.shown.RunPart.{RunPart}
 use Rattle.time_fmt.proofs.WriteLemmas.{join_assoc, join_nothing}
 
 -- what is joined to three parts is joined to the last of them
@@ -24,18 +24,18 @@ regrouped a x b y c o =
     ∙ ap (join y) (ap (λ z. join z o) (join_nothing c))))))
 
 -- a component, a text of one byte and so on: three parts, and what is left
-three_begin : (p q r : RunPart) (x y : ℕ) (a b c : Tree) (left : Trees) → IsAlike a (of_component (part_component p))
-    → IsAlike b (of_component (part_component q)) → IsAlike c (of_component (part_component r))
+three_begin : (p q r : Component) (x y : ℕ) (a b c : Tree) (left : Trees) → IsAlike a (of_component p)
+    → IsAlike b (of_component q) → IsAlike c (of_component r)
     → Begins (more a (more (text_literal (x ∷ [])) (more b (more (text_literal (y ∷ [])) (more c left)))))
-    (three_parts (part_component p) x (part_component q) y (part_component r)) left
+    (three_parts p x q y r) left
 three_begin p q r x y a b c left is_a is_b is_c = record {
   outcome = λ f.
       ap (λ o. join o (join (done (x ∷ [])) (join (tree_outcome b f) (join (done (y ∷ [])) (join (tree_outcome c f) (trees_outcome left f)))))) (is_a.same_outcome f)
-      ∙ ap (λ o. join (tree_outcome (of_component (part_component p)) f) (join (done (x ∷ [])) (join o (join (done (y ∷ [])) (join (tree_outcome c f) (trees_outcome left f)))))) (is_b.same_outcome f)
-      ∙ ap (λ o. join (tree_outcome (of_component (part_component p)) f) (join (done (x ∷ [])) (join (tree_outcome (of_component (part_component q)) f) (join (done (y ∷ [])) (join o (trees_outcome left f)))))) (is_c.same_outcome f)
-      ∙ regrouped (tree_outcome (of_component (part_component p)) f) (done (x ∷ []))
-      (tree_outcome (of_component (part_component q)) f) (done (y ∷ []))
-      (tree_outcome (of_component (part_component r)) f) (trees_outcome left f);
+      ∙ ap (λ o. join (tree_outcome (of_component p) f) (join (done (x ∷ [])) (join o (join (done (y ∷ [])) (join (tree_outcome c f) (trees_outcome left f)))))) (is_b.same_outcome f)
+      ∙ ap (λ o. join (tree_outcome (of_component p) f) (join (done (x ∷ [])) (join (tree_outcome (of_component q) f) (join (done (y ∷ [])) (join o (trees_outcome left f)))))) (is_c.same_outcome f)
+      ∙ regrouped (tree_outcome (of_component p) f) (done (x ∷ []))
+      (tree_outcome (of_component q) f) (done (y ∷ []))
+      (tree_outcome (of_component r) f) (trees_outcome left f);
   width = omega (arith, is_a.same_width, is_b.same_width, is_c.same_width);
   text = ap (λ w. w && (is_guaranteed_text b && (is_guaranteed_text c && are_guaranteed_text left))) is_a.same_guarantee
       ∙ ap (λ w. w && (is_guaranteed_text c && are_guaranteed_text left)) is_b.same_guarantee
@@ -43,13 +43,14 @@ three_begin p q r x y a b c left is_a is_b is_c = record {
 }
 
 -- so where the trees are those of five nodes
-pub run_begins : (p q r is_p is_q is_r : RunPart) (x y : ℕ) (a s b t c : Tree) (left : Trees)
-    → IsAlike a (of_component (part_component p)) → s ≡ text_literal (x ∷ [])
-    → IsAlike b (of_component (part_component q)) → t ≡ text_literal (y ∷ [])
-    → IsAlike c (of_component (part_component r)) → p ≡ is_p → q ≡ is_q → r ≡ is_r
-    → Begins (more a (more s (more b (more t (more c left))))) (three_parts (part_component is_p) x (part_component is_q) y (part_component is_r)) left
-run_begins p q r is_p is_q is_r x y a s b t c left is_a is_s is_b is_t is_c same_p same_q same_r =
-    rw (is_s, is_t, ← same_p, ← same_q, ← same_r) (three_begin p q r x y a b c left is_a is_b is_c)
+pub run_begins : (run : Option Run) (p q r : Component) (x y : ℕ) (a s b t c : Tree)
+    → IsAlike a (of_component p) → s ≡ text_literal (x ∷ [])
+    → IsAlike b (of_component q) → t ≡ text_literal (y ∷ []) → IsAlike c (of_component r)
+    → IfSome run (λ it. run_tree it ≡ three_parts p x q y r)
+    → IfSome run (λ it. (left : Trees) → Begins (more a (more s (more b (more t (more c left))))) (run_tree it) left)
+run_begins None p q r x y a s b t c is_a is_s is_b is_t is_c is = tt
+run_begins (Some it) p q r x y a s b t c is_a is_s is_b is_t is_c is = λ left.
+    rw (is_s, is_t, is) (three_begin p q r x y a b c left is_a is_b is_c)
 
 -- and these stand at the front of a list
 pub front_begins : {A : Type 0} (tree : A → Tree) (nodes : List A) (a x b y c : A) (t : Tree) (behind : List A)

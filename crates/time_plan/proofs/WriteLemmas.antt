@@ -1,8 +1,7 @@
 -- Steps that are written one after another.
 use Rattle.std.proofs.Common.{◌≡◌, ℕ, ◌+◌, ◌≤◌, ◌++◌, List, length, refl, sym, ap, ◌∙◌, arith, append_assoc, subst}
-use Rattle.std.proofs.Common.{[], ◌∷◌, Bool, false, map, Ok, Err, length-append}
+use Rattle.std.proofs.Common.{Ok, Err, length-append}
 use Rattle.time_below.specs.Facts.{Facts}
-use Rattle.time_below.specs.Tree.{Tree, all_of, trees}
 use Rattle.time_below.specs.Width.{tree_width}
 use Rattle.time_fmt.specs.declared.refused.Refused.{Refused}
 use Rattle.time_fmt.specs.Description.{tree_outcome}
@@ -10,8 +9,6 @@ use Rattle.time_fmt.specs.Ends.{Ends, refusal_of}
 use Rattle.time_fmt.specs.Guarantee.{AppendsTree}
 use Rattle.time_fmt.specs.Outcome.{Outcome, done}
 use Rattle.time_fmt.specs.Sink.{Buffer, Puts}
-use Rattle.time_fmt.specs.Steps.{IsWrittenUpTo, StopsBefore}
-use Rattle.time_fmt.proofs.Engine.{all_written}
 use Rattle.time_fmt.proofs.WriteLemmas.{join_refused, join_done}
 use Rattle.time_plan.specs.Shown.{shown_tree}
 use Rattle.time_plan.specs.Steps.{step_tree}
@@ -68,10 +65,3 @@ step_refused {r = r} s f old new stopped =
       ends = subst (λ (o : Outcome). Ends (tree_width (step_tree s)) old new (Err r) o) (sym is) ends;
       text = step_text s f;
     }
-
--- where the loop stops before no step, all are written
-pub nothing_left : {A : Type 0} (is_valid : A → Bool) (tree : A → Tree) (f : Facts) (all left : List A) (old now : Buffer)
-    → StopsBefore (λ _. false) left → IsWrittenUpTo is_valid tree f all left old now
-    → AppendsTree (all_of (trees (map tree all))) f old now (Ok tt)
-nothing_left is_valid tree f all [] old now none so_far = all_written is_valid tree f all [] old now refl so_far
-nothing_left is_valid tree f all (x ∷ xs) old now some so_far = let never : ⊥ = cc in absurd never

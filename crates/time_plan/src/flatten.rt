@@ -1,6 +1,4 @@
 //! The steps of a tree.
-//!
-//! `inline(never)` keeps long or rare bodies out of their callers.
 ghost use Rattle.std.specs.Prelude.{◌≡◌, true, OnOk, MatchOption, IsUtf8, map};
 ghost use Rattle.time_below.specs.Tree.{of_component, all_of, trees};
 ghost use Rattle.time_plan.specs.Literal.{literal_tree};
@@ -13,7 +11,6 @@ use crate::shown::Shown;
 use crate::step::Step;
 use std::alloc::{AllocError, Global};
 use time_below::format_description::{Component, Layer, Node};
-use time_fmt::Run;
 
 /// Adds the nodes in order. A date or a time of day is one step in place of three.
 #[cycle(flatten)]
@@ -60,7 +57,6 @@ fn add_leaf<T: Node>(
 
 /// Adds the steps of a node.
 #[cycle(flatten)]
-#[inline(never)]
 pub(crate) fn add_node<T: Node>(
     alloc: Global,
     steps: &mut Vec<Step>,
@@ -127,7 +123,7 @@ fn add_literal(
         }
         _ => {
             steps.push(Step {
-                shown: Shown::Run(Run::Empty),
+                shown: Shown::Nothing,
                 literal,
                 is_text,
             })?;

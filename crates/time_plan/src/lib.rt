@@ -17,4 +17,4 @@ pub use shown::Shown;
 pub use step::Step;
 pub use time_describe::{InvalidDescription, InvalidStrftime};
 pub use time_fmt::{Run, Separators};
-pub use write::{end_shown, write_steps};
+pub use write::{write_shown, write_steps};

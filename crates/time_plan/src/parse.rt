@@ -32,11 +32,19 @@ fn plan_of<S: Syntax>(alloc: Global, text: &[u8]) -> Result<Plan, InvalidDescrip
 }
 
 impl Plan {
-    /// The plan of a text in the syntax of `time`'s format descriptions, version 2, as
-    /// `[year]-[month]-[day]`.
+    /// Returns the plan of a text in the syntax of `time`'s format descriptions, version 2.
     ///
-    /// An error is that of `parse_owned` of `time_describe`. Only of a text without a fault it says
-    /// that an allocation failed.
+    /// # Errors
+    ///
+    /// The error is that of `parse_owned` of `time_describe`: the first fault, with the index of
+    /// its byte. A failed allocation is the error only of a text without a fault.
+    ///
+    /// # Examples
+    ///
+    /// ```text
+    /// let plan = Plan::parse(alloc, b"[year]-[month]-[day]")?;
+    /// moment.format_into(&mut line, &plan)?;
+    /// ```
     pub fn parse(alloc: Global, text: &[u8]) -> Result<Plan, InvalidDescription>
         ensures means { IfOk result (λ plan. IsOkAnd (tree_of (reading.described text.now))
             (Means
@@ -50,10 +58,18 @@ impl Plan {
         plan_of::<Brackets>(alloc, text)
     }
 
-    /// The plan of a text in the syntax of strftime, as `%Y-%m-%d`.
+    /// Returns the plan of a text in the syntax of `strftime`.
     ///
-    /// An error says the first fault and the index of its byte. Only of a text without a fault it
-    /// says that an allocation failed.
+    /// # Errors
+    ///
+    /// The error is the first fault, with the index of its byte. A failed allocation is the error
+    /// only of a text without a fault.
+    ///
+    /// # Examples
+    ///
+    /// ```text
+    /// let plan = Plan::parse_strftime(alloc, b"%Y-%m-%d")?;
+    /// ```
     pub fn parse_strftime(alloc: Global, text: &[u8]) -> Result<Plan, InvalidStrftime>
         ensures means { IfOk result (λ plan. IsOkAnd (tree_of (strftime.described text.now))
             (Means

@@ -1,6 +1,4 @@
 //! Plans: descriptions that were flattened, with what is known of their texts.
-//!
-//! `cold` keeps a rare body out of its callers.
 ghost use Rattle.std.specs.Prelude.{◌≡◌};
 ghost use Rattle.time_below.specs.Metadata.{trees_metadata};
 ghost use Rattle.time_below.specs.Width.{trees_width, are_guaranteed_text};
@@ -15,7 +13,7 @@ use crate::write::write_steps;
 use std::alloc::{AllocError, Global};
 use std::default::Default;
 use time_below::format_description::{Layer, Metadata, Node};
-use time_fmt::{ComputeMetadata, Format, Formattable, Refused, make_room};
+use time_fmt::{ComputeMetadata, Format, Formattable, Refused};
 use time_provide::ComponentProvider;
 
 /// A description that was made of a tree once, with its width cached.
@@ -36,9 +34,12 @@ impl Plan {
     ghost use Rattle.time_fmt.specs.Laws.{Means};
     ghost use Rattle.time_plan.specs.Plan.{steps_of};
 
-    /// The plan of a tree: a borrowed or an owned item, or a version 3 description by its `inner`.
+    /// Returns the plan of a tree: a borrowed or an owned item, or a version 3 description by its
+    /// `inner`.
     ///
-    /// The result is an error only if an allocation fails.
+    /// # Errors
+    ///
+    /// Returns an error only if an allocation fails.
     pub fn of<T: Node>(alloc: Global, node: &T) -> Result<Plan, AllocError>
         ensures means { IfOk result (λ plan. Means
             (⟦<Plan as Formattable>⟧.outcome_of plan)
@@ -51,9 +52,11 @@ impl Plan {
         Ok(Plan::of_steps(steps))
     }
 
-    /// The plan of items in order, as of a slice of borrowed or owned items.
+    /// Returns the plan of items in order, as of a slice of borrowed or owned items.
     ///
-    /// The result is an error only if an allocation fails.
+    /// # Errors
+    ///
+    /// Returns an error only if an allocation fails.
     pub fn of_items<T: Node>(alloc: Global, nodes: &[T]) -> Result<Plan, AllocError>
         ensures means { IfOk result (λ plan. Means
             (⟦<Plan as Formattable>⟧.outcome_of plan)
@@ -66,7 +69,7 @@ impl Plan {
         Ok(Plan::of_steps(steps))
     }
 
-    /// The steps, in order: a component or a run of them, and the literal after it.
+    /// Returns the steps in order: a component or a run of them, and the literal after it.
     pub fn steps(&self) -> &[Step]
         ensures steps { result.now ≡ steps_of self.now }
         ensures outcome { ⟦<Plan as Formattable>⟧.outcome_of self.now
@@ -143,23 +146,5 @@ impl Formattable for Plan {
             Ok(_) => Ok(output.len() - begin),
             Err(refused) => Err(named(refused)),
         }
-    }
-
-    // No vector has room for the greatest `usize`, so that a greater width is refused too.
-    fn format_into<V: ComponentProvider>(
-        &self,
-        output: &mut Vec<u8>,
-        value: &V,
-        state: &mut V::State,
-    ) -> Result<usize, Format> {
-        if make_room(output, self.metadata.max_bytes_needed).is_err() {
-            return Err(Format::OutOfMemory);
-        }
-        self.write_into(output, value, state)
-    }
-
-    fn fits_plainly(&self, room: usize) -> bool {
-        let width = self.metadata.max_bytes_needed;
-        width < usize::MAX && width <= room
     }
 }

@@ -1,7 +1,4 @@
 //! Dates and times of day at the front of a list.
-//!
-//! Without `inline(always)` the compiler leaves calls of the functions that have it. `cold` keeps
-//! long or rare bodies out of their callers.
 ghost use Rattle.std.specs.Prelude.{◌≡◌, ◌∷◌, [], true, IfSome, map, drop};
 ghost use Rattle.std.specs.Str.{is_utf8};
 ghost use Rattle.time_below.specs.Facts.{Facts};
@@ -9,10 +6,8 @@ ghost use Rattle.time_below.specs.Tree.{Trees, of_component, text_literal, more,
 ghost use Rattle.time_below.specs.Width.{component_width};
 ghost use Rattle.time_fmt.specs.Description.{component_outcome};
 ghost use Rattle.time_fmt.specs.Runs.{run_tree};
-ghost use Rattle.time_plan.specs.Shown.{part_component};
 ghost use Rattle.time_plan.specs.Steps.{IsAlike, Begins};
 
-use crate::shown::RunPart;
 use time_below::format_description::{Component, Layer, Node, component_width};
 use time_fmt::{Run, Separators};
 
@@ -43,36 +38,25 @@ fn run_between<T: Node>(
         (more (T.tree first.now) (more (T.tree before_second.now) (more (T.tree second.now)
         (more (T.tree before_third.now) (more (T.tree third.now) left))))) (run_tree run) left) }
 {
-    let first = part_of(first)?;
+    let first = component_of(first)?;
     let between = Separators {
         first: byte_of(before_second)?,
         second: byte_of(before_third)?,
     };
-    match (first, part_of(second)?, part_of(third)?) {
-        (RunPart::Year, RunPart::Month, RunPart::Day) => Some(Run::Date(between)),
-        (RunPart::Hour, RunPart::Minute, RunPart::Second) => Some(Run::Time(between)),
-        _ => None,
-    }
+    Run::of(first, component_of(second)?, component_of(third)?, between)
 }
 
-/// The part that a node is, if it is one. A component is tried as it is first, since few are
-/// deprecated.
-#[inline(always)]
-fn part_of<T: Node>(node: &T) -> Option<RunPart>
-    ensures { IfSome result (λ part. IsAlike (T.tree node.now)
-        (of_component (part_component part))) }
+/// The component that a node is, if it is one.
+fn component_of<T: Node>(node: &T) -> Option<Component>
+    ensures { IfSome result (λ component. IsAlike (T.tree node.now) (of_component component)) }
 {
     match node.layer() {
-        Layer::Component(component) => match RunPart::of(component) {
-            Some(part) => Some(part),
-            None => RunPart::of(kept_of(component)),
-        },
+        Layer::Component(component) => Some(kept_of(component)),
         _ => None,
     }
 }
 
 /// The byte that a node is, if it is a text of one.
-#[inline(always)]
 fn byte_of<T: Node>(node: &T) -> Option<u8>
     ensures tree { IfSome result (λ byte. T.tree node.now ≡ text_literal (byte ∷ [])) }
     ensures text { IfSome result (λ byte. is_utf8 (byte ∷ []) ≡ true) }
@@ -103,7 +87,6 @@ pub(crate) fn kept_of(component: Component) -> Component
 }
 
 /// The current component in place of any one, where its maximum length is the same.
-#[cold]
 fn current_if_as_wide(component: Component) -> Component
     ensures outcome { (f : Facts) → component_outcome result f ≡ component_outcome component f }
     ensures width { component_width result ≡ component_width component }

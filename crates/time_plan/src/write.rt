@@ -1,14 +1,11 @@
 //! The steps of a plan, as they are written.
-//!
-//! Without `inline(always)` the compiler leaves calls of the functions that have it.
-//! `inline(never)` keeps long or rare bodies out of their callers.
-ghost use Rattle.std.specs.Prelude.{◌≡◌, MatchOption, false, length, true};
+ghost use Rattle.std.specs.Prelude.{◌≡◌, MatchOption, length, true};
 ghost use Rattle.time_below.specs.Tree.{all_of};
 ghost use Rattle.time_below.specs.Width.{tree_width, trees_width};
 ghost use Rattle.time_fmt.specs.Description.{tree_outcome};
 ghost use Rattle.time_fmt.specs.Ends.{Ends};
 ghost use Rattle.time_fmt.specs.Guarantee.{AppendsTree};
-ghost use Rattle.time_fmt.specs.Sink.{Fits, Puts, Ready};
+ghost use Rattle.time_fmt.specs.Sink.{Fits, Puts};
 ghost use Rattle.time_plan.specs.Literal.{literal_bytes};
 ghost use Rattle.time_plan.specs.Shown.{shown_tree};
 ghost use Rattle.time_plan.specs.Steps.{step_tree, step_trees};
@@ -17,11 +14,17 @@ use crate::literal::Literal;
 use crate::shown::Shown;
 use crate::step::Step;
 use time_fmt::writers::write_bytes;
-use time_fmt::{Refused, Sink, WriteStep, end_component, write_all, write_often, write_run};
+use time_fmt::{
+    Refused, Sink, WriteStep, write_component, write_component_inline, write_run,
+    write_steps_inline,
+};
 use time_provide::ComponentProvider;
 
-/// Writes the steps in order, up to the first that is refused, and returns its refusal. The loop
-/// stops before none, so that none is left.
+/// Writes the steps in order.
+///
+/// # Errors
+///
+/// The first step that is refused ends the text, and its refusal is returned.
 #[inline(never)]
 pub fn write_steps<S: Sink, V: ComponentProvider>(
     steps: &[Step],
@@ -35,7 +38,11 @@ pub fn write_steps<S: Sink, V: ComponentProvider>(
         (S.buffer output.old) (S.buffer output.new) result }
     ensures agrees { V.agrees state.new value.now }
 {
-    write_all(steps, (), output, value, state)?;
+    let mut left = steps;
+    while let [step, behind @ ..] = write_steps_inline(left, (), output, value, state)? {
+        write_step(step, output, value, state)?;
+        left = behind;
+    }
     Ok(())
 }
 
@@ -44,18 +51,17 @@ impl WriteStep<()> for Step {
 
     ghost is_valid = { λ _ _. true };
 
-    ghost may_stop = { λ _. false };
-
     ghost has_room = { true };
 
-    fn write_often<S: Sink, V: ComponentProvider>(
+    /// Writes a date or a time of day, or a component of a frequent kind, with the literal behind it.
+    fn write_inline<S: Sink, V: ComponentProvider>(
         &self,
         _beside: (),
         output: &mut S,
         value: &V,
         state: &mut V::State,
     ) -> Option<Result<(), Refused>> {
-        match write_shown(&self.shown, output, value, state) {
+        match write_shown_inline(&self.shown, output, value, state) {
             Some(Ok(())) => {
                 write_literal(output, &self.literal);
                 Some(Ok(()))
@@ -64,39 +70,28 @@ impl WriteStep<()> for Step {
             None => None,
         }
     }
-
-    fn write_seldom<S: Sink, V: ComponentProvider>(
-        &self,
-        _beside: (),
-        output: &mut S,
-        value: &V,
-        state: &mut V::State,
-    ) -> Option<Result<(), Refused>> {
-        let mut apart = output.take_out();
-        let answer = write_step(self, &mut apart, value, state);
-        output.put_back(apart);
-        Some(answer)
-    }
 }
 
-/// Writes what a step shows, if that is met often, and returns its refusal, if it is refused. Of
-/// any other component it writes nothing, and returns `None`.
-fn write_shown<S: Sink, V: ComponentProvider>(
+/// Writes what a step shows, if that is a date, a time of day, or a component of a frequent kind, and
+/// returns its refusal, if it is refused. For any other component writes nothing and returns `None`.
+fn write_shown_inline<S: Sink, V: ComponentProvider>(
     shown: &Shown,
     output: &mut S,
     value: &V,
     state: &mut V::State,
 ) -> Option<Result<(), Refused>>
-    requires ready { Ready (S.buffer output.old) (tree_width (shown_tree shown.now))
-        (V.agrees state.old value.now) }
-    ensures writes { MatchOption result (S.buffer output.new ≡ S.buffer output.old)
+    requires room { Fits (S.buffer output.old) (tree_width (shown_tree shown.now)) }
+    requires agrees { V.agrees state.old value.now }
+    ensures ends { MatchOption result (S.buffer output.new ≡ S.buffer output.old)
         (λ answer. Ends (tree_width (shown_tree shown.now))
         (S.buffer output.old) (S.buffer output.new) answer
-        (tree_outcome (shown_tree shown.now) (V.facts value.now))) × V.agrees state.new value.now }
+        (tree_outcome (shown_tree shown.now) (V.facts value.now))) }
+    ensures agrees { V.agrees state.new value.now }
 {
     match shown {
-        Shown::Component(component) => write_often(*component, output, value, state),
+        Shown::Component(component) => write_component_inline(*component, output, value, state),
         Shown::Run(run) => Some(write_run(run, output, value, state)),
+        Shown::Nothing => Some(Ok(())),
     }
 }
 
@@ -114,7 +109,7 @@ fn write_step<S: Sink, V: ComponentProvider>(
         (S.buffer output.old) (S.buffer output.new) result }
     ensures agrees { V.agrees state.new value.now }
 {
-    match end_shown(&step.shown, output, value, state) {
+    match write_shown(&step.shown, output, value, state) {
         Ok(_) => {
             write_literal(output, &step.literal);
             Ok(())
@@ -123,8 +118,12 @@ fn write_step<S: Sink, V: ComponentProvider>(
     }
 }
 
-/// Writes what a step shows, or returns its refusal.
-pub fn end_shown<S: Sink, V: ComponentProvider>(
+/// Writes what a step shows.
+///
+/// # Errors
+///
+/// Returns the refusal of its component.
+pub fn write_shown<S: Sink, V: ComponentProvider>(
     shown: &Shown,
     output: &mut S,
     value: &V,
@@ -138,8 +137,9 @@ pub fn end_shown<S: Sink, V: ComponentProvider>(
     ensures agrees { V.agrees state.new value.now }
 {
     match shown {
-        Shown::Component(component) => end_component(*component, output, value, state),
+        Shown::Component(component) => write_component(*component, output, value, state),
         Shown::Run(run) => write_run(run, output, value, state),
+        Shown::Nothing => Ok(()),
     }
 }
 

@@ -1,5 +1,4 @@
--- What a state may hold: nothing but components of the value that it is used for. And what it still holds after a
--- call: what it held before.
+-- What a state may hold: nothing but components of the value that it is used for.
 use Rattle.std.specs.Prelude.{◌≡◌, ℕ, Option, Some, None, IfSome}
 use Rattle.time_below.specs.Facts.{DateFacts, date_facts}
 use Rattle.time_below.specs.Moment.{Moment, utc_date, utc_time}
@@ -25,20 +24,3 @@ pub record AgreesWithMoment (state : TimestampState) (moment : Moment) : Type 0 
   pub date : IfSome state.date (λ date. date ≡ utc_date moment.seconds)
   pub time : IfSome state.time (λ time. time ≡ utc_time moment)
   pub date_state : Agrees state.date_state (date_facts (utc_date moment.seconds))
-
--- what was held is held
-abbrev pub IsKept : {T : Type 0} → Option T → Option T → Type 0
-IsKept before after = IfSome before (λ held. after ≡ Some held)
-
--- each entry that was held before is held after
-pub record Keeps (before after : DateState) : Type 0 where
-  pub day : IsKept before.day after.day
-  pub month : IsKept before.month after.month
-  pub iso_week : IsKept before.iso_week after.iso_week
-  pub iso_year : IsKept before.iso_year after.iso_year
-
--- the date and the time that were held are held, and so is what the date kept
-pub record KeepsOfMoment (before after : TimestampState) : Type 0 where
-  pub date : IsKept before.date after.date
-  pub time : IsKept before.time after.time
-  pub date_state : Keeps before.date_state after.date_state

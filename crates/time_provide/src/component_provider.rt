@@ -1,6 +1,4 @@
 //! The components of a value.
-//!
-//! Without `inline(always)` the compiler leaves calls of the functions that have it.
 ghost use Rattle.std.specs.Prelude.{◌≡◌, ◌≤◌, ◌<◌, Bool, IsTrue, unsigned_abs};
 ghost use Rattle.std.specs.Int.{IsInRange};
 ghost use Rattle.time_below.specs.Calendar.{IsDate};
@@ -15,7 +13,7 @@ ghost use Rattle.time_provide.specs.Laws.{States, Supplies};
 ghost use Rattle.time_provide.specs.Real.{AgreesOnDate, AgreesOnTime, AgreesOnOffset};
 ghost use Rattle.time_provide.specs.Real.{AgreesOnMoment};
 
-use crate::kept::Kept;
+use crate::date_cache::DateCache;
 use crate::ranges::{
     Day, Hours, IsoWeekNumber, Minutes, MondayBasedWeek, Nanoseconds, OffsetHours, OffsetMinutes,
     OffsetSeconds, Ordinal, Seconds, SundayBasedWeek, Year,
@@ -26,22 +24,18 @@ use time_digits::{ri8, ri32, ru8, ru16};
 /// Gives the components of a value, group by group.
 ///
 /// A method may cache in the state what it computed. It may be called where the value supplies its
-/// group and the state agrees with the value, and the state agrees afterwards. It still holds what
-/// it held. The group is real: a date of the calendar with its own components, a time of day in its
-/// ranges, an offset in its ranges and of one sign, a moment less than 26 hours outside the range
-/// of `Timestamp` at most.
+/// group and the state agrees with the value, and the state agrees afterwards. The group is real: a
+/// date of the calendar with its own components, a time of day in its ranges, an offset in its
+/// ranges and of one sign, a moment less than 26 hours outside the range of `Timestamp` at most.
 pub trait ComponentProvider {
     /// What earlier calls for the same value computed.
-    type State: Kept;
+    type State: DateCache;
 
     /// The components of the value.
     ghost facts: { Self → Facts };
 
     /// The state holds nothing but components of the value.
     ghost agrees: { Self.State → Self → Type 0 };
-
-    /// What the first state holds, the second holds.
-    ghost keeps: { Self.State → Self.State → Type 0 };
 
     ghost SUPPLIES_DATE: { Bool };
 
@@ -72,8 +66,7 @@ pub trait ComponentProvider {
         requires agrees { agrees state.old self.now }
         ensures value { the_date (facts self.now) ≡ date_facts result }
         ensures real { IsDate result }
-        ensures agrees { agrees state.new self.now }
-        ensures kept { keeps state.old state.new };
+        ensures agrees { agrees state.new self.now };
 
     /// The time of day.
     fn supplied_time(&self, state: &mut Self::State) -> Time
@@ -81,8 +74,7 @@ pub trait ComponentProvider {
         requires agrees { agrees state.old self.now }
         ensures value { the_time (facts self.now) ≡ result }
         ensures real { IsTimeOfDay result }
-        ensures agrees { agrees state.new self.now }
-        ensures kept { keeps state.old state.new };
+        ensures agrees { agrees state.new self.now };
 
     /// The nanosecond of the second, 0 to 999,999,999. A moment has it at hand, so that nothing is
     /// cached.
@@ -91,8 +83,7 @@ pub trait ComponentProvider {
         requires agrees { agrees state.old self.now }
         ensures value { result ≡ (the_time (facts self.now)).nanosecond }
         ensures range { result ≤ 999_999_999 }
-        ensures agrees { AgreesOnTime (agrees state.new self.now) (facts self.now) }
-        ensures kept { keeps state.old state.new };
+        ensures agrees { AgreesOnTime (agrees state.new self.now) (facts self.now) };
 
     /// The offset from UTC.
     fn supplied_offset(&self) -> UtcOffset
@@ -113,7 +104,7 @@ pub trait ComponentProvider {
         → Supplies SUPPLIES_DATE SUPPLIES_TIME SUPPLIES_OFFSET SUPPLIES_TIMESTAMP (facts value) };
 
     // What the state caches of the date leaves it in agreement with the value.
-    ghost states: { (value : Self) → States Self.State.holds Self.State.grows keeps
+    ghost states: { (value : Self) → States Self.State.agrees Self.State.grows
         (λ state. agrees state value) (the_date (facts value)) };
 
     // A fresh state agrees with every value. Callers with a value of any type search for this law,
@@ -122,6 +113,7 @@ pub trait ComponentProvider {
         → agrees state value };
 
     /// The day of the month, 1 to 31.
+    // Row: a borrowed list of 11 items.
     #[inline(always)]
     final fn day(&self, state: &mut Self::State) -> Day
         requires supplied { IsTrue SUPPLIES_DATE }
@@ -129,23 +121,22 @@ pub trait ComponentProvider {
         ensures value { result ≡ (the_date (facts self.now)).day }
         ensures range { IsInRange 1 31 result }
         ensures agrees { AgreesOnDate (agrees state.new self.now) (facts self.now) }
-        ensures kept { keeps state.old state.new }
     {
         let date = self.supplied_date(state);
-        state.kept_day(date)
+        state.day(date)
     }
 
     /// The month.
+    // Row: a borrowed list of 11 items.
     #[inline(always)]
     final fn month(&self, state: &mut Self::State) -> Month
         requires supplied { IsTrue SUPPLIES_DATE }
         requires agrees { agrees state.old self.now }
         ensures value { month_number result ≡ (the_date (facts self.now)).month }
         ensures agrees { AgreesOnDate (agrees state.new self.now) (facts self.now) }
-        ensures kept { keeps state.old state.new }
     {
         let date = self.supplied_date(state);
-        state.kept_month(date)
+        state.month(date)
     }
 
     /// The day of the year, 1 to 366.
@@ -155,7 +146,6 @@ pub trait ComponentProvider {
         ensures value { result ≡ (the_date (facts self.now)).ordinal }
         ensures range { IsInRange 1 366 result }
         ensures agrees { AgreesOnDate (agrees state.new self.now) (facts self.now) }
-        ensures kept { keeps state.old state.new }
     {
         ru16::within(self.supplied_date(state).ordinal())
     }
@@ -166,7 +156,6 @@ pub trait ComponentProvider {
         requires agrees { agrees state.old self.now }
         ensures value { days_from_monday result ≡ (the_date (facts self.now)).weekday }
         ensures agrees { AgreesOnDate (agrees state.new self.now) (facts self.now) }
-        ensures kept { keeps state.old state.new }
     {
         self.supplied_date(state).weekday()
     }
@@ -178,10 +167,9 @@ pub trait ComponentProvider {
         ensures value { result ≡ (the_date (facts self.now)).iso_week }
         ensures range { IsInRange 1 53 result }
         ensures agrees { AgreesOnDate (agrees state.new self.now) (facts self.now) }
-        ensures kept { keeps state.old state.new }
     {
         let date = self.supplied_date(state);
-        state.kept_iso_week(date)
+        state.iso_week(date)
     }
 
     /// The week of the year, 0 to 53, where week 1 begins on the first Monday.
@@ -191,7 +179,6 @@ pub trait ComponentProvider {
         ensures value { result ≡ (the_date (facts self.now)).monday_based_week }
         ensures range { result ≤ 53 }
         ensures agrees { AgreesOnDate (agrees state.new self.now) (facts self.now) }
-        ensures kept { keeps state.old state.new }
     {
         ru8::within(self.supplied_date(state).monday_based_week())
     }
@@ -203,12 +190,12 @@ pub trait ComponentProvider {
         ensures value { result ≡ (the_date (facts self.now)).sunday_based_week }
         ensures range { result ≤ 53 }
         ensures agrees { AgreesOnDate (agrees state.new self.now) (facts self.now) }
-        ensures kept { keeps state.old state.new }
     {
         ru8::within(self.supplied_date(state).sunday_based_week())
     }
 
     /// The year, -999,999 to 999,999.
+    // Row: a borrowed list of 11 items.
     #[inline(always)]
     final fn calendar_year(&self, state: &mut Self::State) -> Year
         requires supplied { IsTrue SUPPLIES_DATE }
@@ -216,7 +203,6 @@ pub trait ComponentProvider {
         ensures value { result ≡ (the_date (facts self.now)).year }
         ensures range { unsigned_abs result ≤ 999_999 }
         ensures agrees { AgreesOnDate (agrees state.new self.now) (facts self.now) }
-        ensures kept { keeps state.old state.new }
     {
         ri32::within(self.supplied_date(state).year())
     }
@@ -228,13 +214,13 @@ pub trait ComponentProvider {
         ensures value { result ≡ (the_date (facts self.now)).iso_year }
         ensures range { unsigned_abs result ≤ 999_999 }
         ensures agrees { AgreesOnDate (agrees state.new self.now) (facts self.now) }
-        ensures kept { keeps state.old state.new }
     {
         let date = self.supplied_date(state);
-        state.kept_iso_year(date)
+        state.iso_year(date)
     }
 
     /// The hour of the day, 0 to 23.
+    // Row: a borrowed list of 11 items.
     #[inline(always)]
     final fn hour(&self, state: &mut Self::State) -> Hours
         requires supplied { IsTrue SUPPLIES_TIME }
@@ -242,12 +228,12 @@ pub trait ComponentProvider {
         ensures value { result ≡ (the_time (facts self.now)).hour }
         ensures range { result ≤ 23 }
         ensures agrees { AgreesOnTime (agrees state.new self.now) (facts self.now) }
-        ensures kept { keeps state.old state.new }
     {
         ru8::within(self.supplied_time(state).as_hms_nano().0)
     }
 
     /// The minute of the hour, 0 to 59.
+    // Row: a borrowed list of 11 items.
     #[inline(always)]
     final fn minute(&self, state: &mut Self::State) -> Minutes
         requires supplied { IsTrue SUPPLIES_TIME }
@@ -255,7 +241,6 @@ pub trait ComponentProvider {
         ensures value { result ≡ (the_time (facts self.now)).minute }
         ensures range { result ≤ 59 }
         ensures agrees { AgreesOnTime (agrees state.new self.now) (facts self.now) }
-        ensures kept { keeps state.old state.new }
     {
         ru8::within(self.supplied_time(state).as_hms_nano().1)
     }
@@ -266,7 +251,6 @@ pub trait ComponentProvider {
         requires agrees { agrees state.old self.now }
         ensures value { result ≡ period_of (the_time (facts self.now)) }
         ensures agrees { AgreesOnTime (agrees state.new self.now) (facts self.now) }
-        ensures kept { keeps state.old state.new }
     {
         if self.supplied_time(state).as_hms_nano().0 < 12 {
             Period::Am
@@ -276,6 +260,7 @@ pub trait ComponentProvider {
     }
 
     /// The second of the minute, 0 to 59.
+    // Row: a borrowed list of 11 items.
     #[inline(always)]
     final fn second(&self, state: &mut Self::State) -> Seconds
         requires supplied { IsTrue SUPPLIES_TIME }
@@ -283,7 +268,6 @@ pub trait ComponentProvider {
         ensures value { result ≡ (the_time (facts self.now)).second }
         ensures range { result ≤ 59 }
         ensures agrees { AgreesOnTime (agrees state.new self.now) (facts self.now) }
-        ensures kept { keeps state.old state.new }
     {
         ru8::within(self.supplied_time(state).as_hms_nano().2)
     }
@@ -294,7 +278,6 @@ pub trait ComponentProvider {
         requires agrees { agrees state.old self.now }
         ensures value { result ≡ is_negative (the_offset (facts self.now)) }
         ensures agrees { AgreesOnOffset (agrees state.new self.now) (facts self.now) }
-        ensures kept { keeps state.old state.new }
     {
         self.supplied_offset().is_negative()
     }
@@ -305,7 +288,6 @@ pub trait ComponentProvider {
         requires agrees { agrees state.old self.now }
         ensures value { result ≡ is_utc (the_offset (facts self.now)) }
         ensures agrees { AgreesOnOffset (agrees state.new self.now) (facts self.now) }
-        ensures kept { keeps state.old state.new }
     {
         self.supplied_offset().is_utc()
     }
@@ -317,7 +299,6 @@ pub trait ComponentProvider {
         ensures value { result ≡ (the_offset (facts self.now)).hours }
         ensures range { unsigned_abs result ≤ 25 }
         ensures agrees { AgreesOnOffset (agrees state.new self.now) (facts self.now) }
-        ensures kept { keeps state.old state.new }
     {
         ri8::within(self.supplied_offset().as_hms().0)
     }
@@ -329,7 +310,6 @@ pub trait ComponentProvider {
         ensures value { result ≡ (the_offset (facts self.now)).minutes }
         ensures range { unsigned_abs result ≤ 59 }
         ensures agrees { AgreesOnOffset (agrees state.new self.now) (facts self.now) }
-        ensures kept { keeps state.old state.new }
     {
         ri8::within(self.supplied_offset().as_hms().1)
     }
@@ -341,7 +321,6 @@ pub trait ComponentProvider {
         ensures value { result ≡ (the_offset (facts self.now)).seconds }
         ensures range { unsigned_abs result ≤ 59 }
         ensures agrees { AgreesOnOffset (agrees state.new self.now) (facts self.now) }
-        ensures kept { keeps state.old state.new }
     {
         ri8::within(self.supplied_offset().as_hms().2)
     }
@@ -353,7 +332,6 @@ pub trait ComponentProvider {
         ensures value { result ≡ (the_moment (facts self.now)).seconds }
         ensures range { unsigned_abs result < 100_000_000_000_000 }
         ensures agrees { AgreesOnMoment (agrees state.new self.now) (facts self.now) }
-        ensures kept { keeps state.old state.new }
     {
         self.supplied_moment().0
     }
@@ -365,7 +343,6 @@ pub trait ComponentProvider {
         ensures value { result ≡ milliseconds (the_moment (facts self.now)) }
         ensures range { unsigned_abs result < 100_000_000_000_000_000 }
         ensures agrees { AgreesOnMoment (agrees state.new self.now) (facts self.now) }
-        ensures kept { keeps state.old state.new }
     {
         let (seconds, nanosecond) = self.supplied_moment();
         moment::milliseconds(seconds, nanosecond)

@@ -1,16 +1,13 @@
-//! What the methods of a date computed before.
-//!
-//! With `inline(always)` the loop over a version 3 list computes the month and the day without a
-//! call: 11 items cost a twentieth less.
+//! The cache of a date.
 ghost use Rattle.std.specs.Prelude.{◌≡◌, ◌≤◌, unsigned_abs};
 ghost use Rattle.std.specs.Int.{IsInRange};
 ghost use Rattle.time_below.specs.Calendar.{OrdinalDate, month_of, day_of, iso_year_of};
 ghost use Rattle.time_below.specs.Calendar.{iso_week_of};
 ghost use Rattle.time_below.specs.Facts.{date_facts};
 ghost use Rattle.time_below.specs.Month.{month_number};
-ghost use Rattle.time_provide.specs.Agreement.{Agrees, Keeps, of_month_and_day};
+ghost use Rattle.time_provide.specs.Agreement.{Agrees, of_month_and_day};
 
-use crate::kept::Kept;
+use crate::date_cache::DateCache;
 use crate::ranges::{Day, IsoWeekNumber, Year};
 use time_below::{Date, Month};
 use time_digits::{ri32, ru8};
@@ -24,20 +21,18 @@ pub struct DateState {
     pub(crate) iso_year: Option<Year>,
 }
 
-impl Kept for DateState {
-    ghost holds = { Agrees };
+impl DateCache for DateState {
+    ghost agrees = { Agrees };
 
-    ghost grows = { λ old new date. Agrees new date × Keeps old new };
+    ghost grows = { λ _ new date. Agrees new date };
 
     // The day of the month. Where it is absent, it is cached with the month.
-    #[inline(always)]
-    fn kept_day(&mut self, date: Date) -> Day
+    fn day(&mut self, date: Date) -> Day
         requires { Agrees self.old (date_facts date) }
         ensures value { result ≡ day_of date }
         ensures held { self.new ≡ record self.old { day = Some result; month = self.new.month } }
         ensures range { IsInRange 1 31 result }
         ensures agrees { Agrees self.new (date_facts date) }
-        ensures kept { Keeps self.old self.new }
     {
         if let Some(day) = self.day {
             let _in_range = day.get();
@@ -51,13 +46,11 @@ impl Kept for DateState {
     }
 
     // The month, which is cached.
-    #[inline(always)]
-    fn kept_month(&mut self, date: Date) -> Month
+    fn month(&mut self, date: Date) -> Month
         requires { Agrees self.old (date_facts date) }
         ensures value { month_number result ≡ month_of date }
         ensures held { self.new ≡ record self.old { month = Some result } }
         ensures agrees { Agrees self.new (date_facts date) }
-        ensures kept { Keeps self.old self.new }
     {
         if let Some(month) = self.month {
             return month;
@@ -68,14 +61,13 @@ impl Kept for DateState {
     }
 
     // The week of the week calendar. Where it is absent, it is cached with its year.
-    fn kept_iso_week(&mut self, date: Date) -> IsoWeekNumber
+    fn iso_week(&mut self, date: Date) -> IsoWeekNumber
         requires { Agrees self.old (date_facts date) }
         ensures value { result ≡ iso_week_of date }
         ensures held { self.new
             ≡ record self.old { iso_week = Some result; iso_year = self.new.iso_year } }
         ensures range { IsInRange 1 53 result }
         ensures agrees { Agrees self.new (date_facts date) }
-        ensures kept { Keeps self.old self.new }
     {
         if let Some(week) = self.iso_week {
             let _in_range = week.get();
@@ -85,14 +77,13 @@ impl Kept for DateState {
     }
 
     // The year of the week calendar. Where it is absent, it is cached with the week.
-    fn kept_iso_year(&mut self, date: Date) -> Year
+    fn iso_year(&mut self, date: Date) -> Year
         requires { Agrees self.old (date_facts date) }
         ensures value { result ≡ iso_year_of date }
         ensures held { self.new
             ≡ record self.old { iso_week = self.new.iso_week; iso_year = Some result } }
         ensures range { unsigned_abs result ≤ 999_999 }
         ensures agrees { Agrees self.new (date_facts date) }
-        ensures kept { Keeps self.old self.new }
     {
         if let Some(year) = self.iso_year {
             let _in_range = year.get();
@@ -103,7 +94,7 @@ impl Kept for DateState {
 }
 
 impl DateState {
-    /// The state of a date whose month and day of the month are known.
+    /// Returns the state of a date whose month and day of the month are known.
     pub fn from_month_and_day(month: Month, day: Day) -> DateState
         ensures held { result ≡ of_month_and_day month day }
         ensures agrees { (date : OrdinalDate) → month_of date ≡ month_number month
@@ -117,7 +108,7 @@ impl DateState {
         }
     }
 
-    // Keeps the year of the week calendar and the week.
+    // Caches the year of the week calendar and the week.
     fn fill_week(&mut self, date: Date) -> (Year, IsoWeekNumber)
         requires { Agrees self.old (date_facts date) }
         ensures year { result.0 ≡ iso_year_of date }
@@ -127,7 +118,6 @@ impl DateState {
         ensures year_range { unsigned_abs result.0 ≤ 999_999 }
         ensures week_range { IsInRange 1 53 result.1 }
         ensures agrees { Agrees self.new (date_facts date) }
-        ensures kept { Keeps self.old self.new }
     {
         let (year, week) = date.iso_year_week();
         let year = ri32::within(year);

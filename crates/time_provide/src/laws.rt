@@ -4,9 +4,7 @@
 ghost use Rattle.std.specs.Prelude.{◌≡◌, ◌↔◌, IsTrue};
 
 use crate::date_state::DateState;
-pub use crate::providers::{
-    states_agree_with_their_values, states_keep_what_they_held, values_supply_their_components,
-};
+pub use crate::providers::{states_agree_with_their_values, values_supply_their_components};
 
 /// Two states of a date are equal exactly if each entry of the one is that of the other.
 pub fn date_state_equality(a: DateState, b: DateState)

@@ -4,14 +4,19 @@
 #![tactic(auto)]
 
 pub mod component_provider;
+mod date_cache;
 mod date_state;
-mod kept;
 pub mod laws;
 mod providers;
 pub mod ranges;
 mod timestamp_state;
 
 pub use component_provider::ComponentProvider;
+pub use date_cache::DateCache;
 pub use date_state::DateState;
-pub use kept::Kept;
+pub use ranges::{
+    Day, ExtendedCentury, Hours, IsoWeekNumber, LastTwo, Minutes, MondayBasedWeek, Nanoseconds,
+    OffsetHours, OffsetMinutes, OffsetSeconds, Ordinal, Seconds, StandardCentury, StandardYear,
+    SundayBasedWeek, Year,
+};
 pub use timestamp_state::TimestampState;

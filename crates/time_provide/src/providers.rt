@@ -9,8 +9,7 @@ ghost use Rattle.time_below.specs.Facts.{facts_of_timestamp};
 ghost use Rattle.time_below.specs.Moment.{Moment, DateAndTime, OffsetDateAndTime};
 ghost use Rattle.time_below.specs.Offset.{Offset, utc};
 ghost use Rattle.time_below.specs.TimeOfDay.{TimeOfDay};
-ghost use Rattle.time_provide.specs.Agreement.{Agrees, AgreesWithMoment, Keeps, KeepsOfMoment};
-ghost use Rattle.time_provide.specs.Laws.{kept_itself, kept_on};
+ghost use Rattle.time_provide.specs.Agreement.{Agrees, AgreesWithMoment};
 ghost use Rattle.time_provide.specs.Real.{midnight};
 
 use crate::component_provider::ComponentProvider;
@@ -51,8 +50,6 @@ impl ComponentProvider for Date {
 
     ghost agrees = { λ state date. Agrees state (date_facts date) };
 
-    ghost keeps = { Keeps };
-
     ghost SUPPLIES_DATE = { true };
 
     const SUPPLIES_DATE: bool = true;
@@ -76,14 +73,12 @@ impl ComponentProvider for Date {
 
     fn supplied_time(&self, state: &mut DateState) -> Time
         ensures value { result ≡ midnight }
-        ensures kept { state.new ≡ state.old }
     {
         no_time()
     }
 
     fn nanosecond(&self, state: &mut DateState) -> Nanoseconds
         ensures value { result ≡ 0 }
-        ensures kept { state.new ≡ state.old }
     {
         ru32::within(0)
     }
@@ -102,7 +97,7 @@ impl ComponentProvider for Date {
 
     ghost groups = { λ value. Prim.search rules };
 
-    ghost states = { λ value. Prim.search (rules, kept_itself, kept_on) };
+    ghost states = { λ value. Prim.search rules };
 
     ghost fresh = { λ state value is_fresh. Prim.search rules };
 }
@@ -114,8 +109,6 @@ impl ComponentProvider for Time {
     ghost facts = { facts_of_time };
 
     ghost agrees = { λ _ _. Unit {0} };
-
-    ghost keeps = { λ _ _. Unit {0} };
 
     ghost SUPPLIES_DATE = { false };
 
@@ -174,8 +167,6 @@ impl ComponentProvider for UtcOffset {
     ghost facts = { facts_of_offset };
 
     ghost agrees = { λ _ _. Unit {0} };
-
-    ghost keeps = { λ _ _. Unit {0} };
 
     ghost SUPPLIES_DATE = { false };
 
@@ -237,8 +228,6 @@ impl ComponentProvider for PlainDateTime {
 
     ghost agrees = { λ state value. Agrees state (date_facts value.date) };
 
-    ghost keeps = { Keeps };
-
     ghost SUPPLIES_DATE = { true };
 
     const SUPPLIES_DATE: bool = true;
@@ -285,7 +274,7 @@ impl ComponentProvider for PlainDateTime {
 
     ghost groups = { λ value. Prim.search rules };
 
-    ghost states = { λ value. Prim.search (rules, kept_itself, kept_on) };
+    ghost states = { λ value. Prim.search rules };
 
     ghost fresh = { λ state value is_fresh. Prim.search rules };
 }
@@ -297,8 +286,6 @@ impl ComponentProvider for UtcDateTime {
     ghost facts = { facts_of_utc_date_time };
 
     ghost agrees = { λ state value. Agrees state (date_facts value.date) };
-
-    ghost keeps = { Keeps };
 
     ghost SUPPLIES_DATE = { true };
 
@@ -342,7 +329,7 @@ impl ComponentProvider for UtcDateTime {
 
     ghost groups = { λ value. Prim.search rules };
 
-    ghost states = { λ value. Prim.search (rules, kept_itself, kept_on) };
+    ghost states = { λ value. Prim.search rules };
 
     ghost fresh = { λ state value is_fresh. Prim.search rules };
 }
@@ -354,8 +341,6 @@ impl ComponentProvider for OffsetDateTime {
     ghost facts = { facts_of_offset_date_time };
 
     ghost agrees = { λ state value. Agrees state (date_facts value.date) };
-
-    ghost keeps = { Keeps };
 
     ghost SUPPLIES_DATE = { true };
 
@@ -401,7 +386,7 @@ impl ComponentProvider for OffsetDateTime {
 
     ghost groups = { λ value. Prim.search rules };
 
-    ghost states = { λ value. Prim.search (rules, kept_itself, kept_on) };
+    ghost states = { λ value. Prim.search rules };
 
     ghost fresh = { λ state value is_fresh. Prim.search rules };
 }
@@ -413,8 +398,6 @@ impl ComponentProvider for Timestamp {
     ghost facts = { facts_of_timestamp };
 
     ghost agrees = { AgreesWithMoment };
-
-    ghost keeps = { KeepsOfMoment };
 
     ghost SUPPLIES_DATE = { true };
 
@@ -459,7 +442,7 @@ impl ComponentProvider for Timestamp {
 
     ghost groups = { λ value. Prim.search rules };
 
-    ghost states = { λ value. Prim.search (rules, kept_itself, kept_on) };
+    ghost states = { λ value. Prim.search rules };
 
     ghost fresh = { λ state value is_fresh. Prim.search rules };
 }
@@ -494,20 +477,4 @@ pub fn states_agree_with_their_values(state: DateState, of_moment: TimestampStat
         ↔ Agrees state (date_facts v.date) }
     ensures timestamp { (v : Moment)
         → ⟦<Timestamp as ComponentProvider>⟧.agrees of_moment v ↔ AgreesWithMoment of_moment v }
-{}
-
-/// A state keeps what another one held exactly if each entry that the other one held it holds.
-pub fn states_keep_what_they_held(
-    old: DateState,
-    new: DateState,
-    old_of_moment: TimestampState,
-    new_of_moment: TimestampState,
-)
-    ensures date { ⟦<Date as ComponentProvider>⟧.keeps old new ↔ Keeps old new }
-    ensures plain_date_time { ⟦<PlainDateTime as ComponentProvider>⟧.keeps old new ↔ Keeps old new }
-    ensures utc_date_time { ⟦<UtcDateTime as ComponentProvider>⟧.keeps old new ↔ Keeps old new }
-    ensures offset_date_time { ⟦<OffsetDateTime as ComponentProvider>⟧.keeps old new
-        ↔ Keeps old new }
-    ensures timestamp { ⟦<Timestamp as ComponentProvider>⟧.keeps old_of_moment new_of_moment
-        ↔ KeepsOfMoment old_of_moment new_of_moment }
 {}

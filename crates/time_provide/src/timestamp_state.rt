@@ -1,10 +1,10 @@
-//! What the methods of a moment computed before.
+//! The cache of a moment.
 ghost use Rattle.std.specs.Prelude.{◌≡◌};
 ghost use Rattle.time_below.specs.Moment.{utc_date, utc_time};
-ghost use Rattle.time_provide.specs.Agreement.{Agrees, AgreesWithMoment, Keeps, KeepsOfMoment};
+ghost use Rattle.time_provide.specs.Agreement.{Agrees, AgreesWithMoment};
 
+use crate::date_cache::DateCache;
 use crate::date_state::DateState;
-use crate::kept::Kept;
 use crate::ranges::{Day, IsoWeekNumber, Year};
 use time_below::{Date, Month, Time, Timestamp};
 
@@ -23,7 +23,6 @@ impl TimestampState {
         ensures value { result ≡ utc_date moment.seconds }
         ensures held { self.new ≡ record self.old { date = Some result } }
         ensures agrees { AgreesWithMoment self.new moment }
-        ensures kept { KeepsOfMoment self.old self.new }
     {
         if let Some(date) = self.date {
             return date;
@@ -39,7 +38,6 @@ impl TimestampState {
         ensures value { result ≡ utc_time moment }
         ensures held { self.new ≡ record self.old { time = Some result } }
         ensures agrees { AgreesWithMoment self.new moment }
-        ensures kept { KeepsOfMoment self.old self.new }
     {
         if let Some(time) = self.time {
             return time;
@@ -50,25 +48,25 @@ impl TimestampState {
     }
 }
 
-impl Kept for TimestampState {
-    ghost holds = { λ state date. Agrees state.date_state date };
+impl DateCache for TimestampState {
+    ghost agrees = { λ state date. Agrees state.date_state date };
 
     ghost grows = { λ old new date. (new ≡ record old { date_state = new.date_state })
-        × Agrees new.date_state date × Keeps old.date_state new.date_state };
+        × Agrees new.date_state date };
 
-    fn kept_day(&mut self, date: Date) -> Day {
-        self.date_state.kept_day(date)
+    fn day(&mut self, date: Date) -> Day {
+        self.date_state.day(date)
     }
 
-    fn kept_month(&mut self, date: Date) -> Month {
-        self.date_state.kept_month(date)
+    fn month(&mut self, date: Date) -> Month {
+        self.date_state.month(date)
     }
 
-    fn kept_iso_week(&mut self, date: Date) -> IsoWeekNumber {
-        self.date_state.kept_iso_week(date)
+    fn iso_week(&mut self, date: Date) -> IsoWeekNumber {
+        self.date_state.iso_week(date)
     }
 
-    fn kept_iso_year(&mut self, date: Date) -> Year {
-        self.date_state.kept_iso_year(date)
+    fn iso_year(&mut self, date: Date) -> Year {
+        self.date_state.iso_year(date)
     }
 }

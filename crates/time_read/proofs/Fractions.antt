@@ -15,7 +15,7 @@ use Rattle.time_read.specs.Fault.{BeginsOffset}
 use Rattle.time_below.proofs.MonthLemmas.{same_below}
 use Rattle.time_known.specs.Rfc3339Grammar.{TimeSecfrac}
 use Rattle.time_known.proofs.Rules.Texts.{digits_below}
-use Rattle.time_read.specs.Shapes.{AtFraction, FirstDigits, Skipped, next_after}
+use Rattle.time_read.specs.Shapes.{AtFraction, FirstDigits, Skipped, after_fraction, next_after}
 use Rattle.time_read.specs.declared.fault.Expected.TheVariants as expected
 use Rattle.time_read.specs.declared.decimals.TheConstants.{POWERS}
 use Rattle.time_read.specs.declared.fault.Profile.{Profile}
@@ -161,14 +161,18 @@ first_secfrac text count first some =
     subst (λ k. TimeSecfrac (digits_value 10 (take count text) * 10 ^ (9 - k)) (46 ∷ take count text)) long
     (secfrac (take count text) first.digits (omega arith, omega arith))
 
+after_some : (p : Profile) (count : ℕ) → 1 ≤ count → after_fraction p count ≡ next_after p count
+after_some p count some = let t : count == 0 ≡ false = grind (arith, nat_tests) in rw t refl
+
 -- where the digits of a fraction end, of which some are cut
 pub at_fraction : (p : Profile) (text : List ℕ) (count : ℕ) (rest : List ℕ) → FirstDigits text count → 1 ≤ count
     → Skipped p (drop count text) rest
-    → AtFraction p (46 ∷ text) (digits_value 10 (take count text) * 10 ^ (9 - count)) rest (next_after p count)
+    → AtFraction p (46 ∷ text) (digits_value 10 (take count text) * 10 ^ (9 - count)) rest (after_fraction p count)
 at_fraction p text count rest first some skipped =
-    at_fraction_of p text (take count text) count rest first.digits some first.most
+    subst (AtFraction p (46 ∷ text) (digits_value 10 (take count text) * 10 ^ (9 - count)) rest) (sym (after_some p count some))
+    (at_fraction_of p text (take count text) count rest first.digits some first.most
     (digits_value 10 (take count text) * 10 ^ (9 - count)) (length-take-le count text first.within)
-    (sym (take-append-drop count text)) (first_secfrac text count first some) first.end skipped
+    (sym (take-append-drop count text)) (first_secfrac text count first some) first.end skipped)
 
 -- the digits that were skipped
 pub skipped : (text : List ℕ) (count : ℕ) → AllDigits 10 (take count text)

@@ -16,6 +16,8 @@ use Rattle.time_known.specs.Rules.{Rule, Digits, Literal, ◌▹◌}
 use Rattle.time_known.specs.Stamps.{HasStamp, stamp_text}
 use Rattle.time_known.specs.Values.{OrdinalDate, OffsetDateAndTime, Offset, utc}
 use Rattle.time_read.specs.Profiles.{in_utc}
+use Rattle.time_read.specs.Stamp.{IsStamp}
+use Rattle.time_known.proofs.Rfc3339Lemmas.{rfc3339_one_value}
 use Rattle.time_known.proofs.Rules.Offsets.{one_signed}
 use Rattle.time_known.proofs.Rules.Texts.{one_after, reads_digits, two_zeros}
 use Rattle.time_known.proofs.StampLemmas.{default_is_whole, stamps_are_completed}
@@ -120,3 +122,14 @@ pub stamp_is_rfc : (v : DateAndTime) (text : List ℕ) → HasStamp v → text �
 stamp_is_rfc v text h e =
     subst (Rfc3339Spells (in_utc v)) (sym e) (iso_is_rfc (in_utc v) (stamp_text v)
     (record { date = h.date; time = h.time; offset = IsOffset-signed_offset false 0 0 (omega arith) (omega arith) }) (omega arith) (stamps_are_completed v h).is_done)
+
+-- what a stamp spells is the value that has it
+pub same_stamp : (text : List ℕ) (u : OffsetDateAndTime) (v : DateAndTime) → Rfc3339Spells u text → IsStamp v text
+    → ◌≡◌ {A = DateAndTime} (record { date = u.date; time = u.time; offset = tt }) v
+same_stamp text u v h s =
+    ap (λ (w : OffsetDateAndTime). let d : DateAndTime = record { date = w.date; time = w.time; offset = tt } in d)
+    (rfc3339_one_value text u (in_utc v) h (stamp_is_rfc v text s.has s.is))
+
+-- no text is the stamp of two values
+pub one_stamp : (text : List ℕ) (v w : DateAndTime) → IsStamp v text → IsStamp w text → v ≡ w
+one_stamp text v w s t = same_stamp text (in_utc v) w (stamp_is_rfc v text s.has s.is) t

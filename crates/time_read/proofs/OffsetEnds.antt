@@ -9,7 +9,7 @@ use Rattle.time_digits.specs.Digits.{fixed}
 use Rattle.time_known.specs.Laws.{OneValue}
 use Rattle.time_known.specs.Parts.{SignedOffset}
 use Rattle.time_known.specs.Rfc3339Grammar.{ColonMinute, TimeOffset}
-use Rattle.time_known.specs.Rules.{Rule, Digits, Literal, ◌▹◌}
+use Rattle.time_known.specs.Rules.{Rule, Digits, Literal, Sign, ◌▹◌}
 use Rattle.time_known.specs.Values.{Offset, utc}
 use Rattle.time_known.proofs.Rules.Texts.{HasWidth, reads_digits, one_then, one_after, two_zeros, digits_are_fixed}
 use Rattle.time_read.specs.Fault.{SpellsSome, Begins, IsFirstFault, IsLetter}
@@ -83,6 +83,14 @@ nothing_end text e t = record {
 signs : (b : Bool) (rest : List ℕ) → (if b then codes "-" else codes "+") ++ rest ≡ sign_byte b ∷ rest
 signs true rest = refl
 signs false rest = refl
+
+-- the sign that was read
+pub sign_front : (b : Bool) {text rest : List ℕ} → text ≡ sign_byte b ∷ rest → Front (Sign b) text rest
+sign_front b {text} {rest} e = record {
+  front = if b then codes "-" else codes "+";
+  whole = e ∙ sym (signs b rest);
+  is = refl;
+}
 
 -- an offset by numbers begins with its sign
 pub numbers_are : {o : Offset} {text : List ℕ} (n : SignedOffset 23 ColonMinute o text) → text ≡ sign_byte n.is_negative ∷ n.spelled.rest

@@ -17,7 +17,7 @@ use Rattle.time_read.specs.Fault.{Allows, BeginsOffset, IsLetter, SpellsSome, Be
 use Rattle.time_read.specs.Front.{Front, TextFault}
 use Rattle.time_read.specs.Lenient.{MeansSecfrac, IsOffsetFor}
 use Rattle.time_read.specs.Profiles.{Secfrac, EndOffset, Tail, RestOfOffset, TheLetter}
-use Rattle.time_read.specs.Shapes.{sign_byte, AtFraction}
+use Rattle.time_read.specs.Shapes.{sign_byte, AtFraction, after_fraction}
 use Rattle.time_read.specs.declared.fault.Expected.{Expected}
 use Rattle.time_read.specs.declared.fault.Expected.TheVariants as expected
 use Rattle.time_read.specs.declared.fault.Unexpected.{Unexpected}
@@ -166,7 +166,7 @@ pub record Leads (p : Profile) (text : List ℕ) : Type 0 where
   pub is : text ≡ first ∷ rest
   pub begins : BeginsOffset p first
 
-sign_begins : (p : Profile) (b : Bool) → BeginsOffset p (sign_byte b)
+pub sign_begins : (p : Profile) (b : Bool) → BeginsOffset p (sign_byte b)
 sign_begins p true = inr (inr refl)
 sign_begins p false = inr (inl refl)
 
@@ -535,7 +535,7 @@ tail_is p first o a h s = record {
 
 -- ---- what is read of a fraction
 
-pub no_fraction : (p : Profile) (text : List ℕ) → ((after : List ℕ) → text ≡ 46 ∷ after → ⊥) → AtFraction p text 0 text (expected.PointOrOffset p)
+pub no_fraction : (p : Profile) (text : List ℕ) → ((after : List ℕ) → text ≡ 46 ∷ after → ⊥) → AtFraction p text 0 text (after_fraction p 0)
 no_fraction p text none = record {
   front = [];
   whole = refl;

@@ -1,5 +1,5 @@
 -- Whole texts of RFC 3339.
-use Rattle.std.proofs.Common.{◌≡◌, ℕ, ◌-◌, ◌≤◌, List, [], ◌∷◌, ◌++◌, length, length-append, take, drop}
+use Rattle.std.proofs.Common.{◌≡◌, ℕ, ◌-◌, ◌≤◌, List, [], ◌∷◌, length, length-append, take, drop}
 use Rattle.std.specs.Prelude.{◌↔◌, IsTrue}
 use Rattle.std.proofs.Common.{refl, sym, ap, subst, ◌∙◌, arith, inl, inr}
 use Rattle.std.proofs.lemmas.List.{take_at, drop_at}
@@ -148,10 +148,6 @@ whole_is p d c n o text rest last end h l q t =
 pub no_digit : (p : Profile) (text : List ℕ) (e : Unexpected) → FieldFault 1 (SpellsSome (OneDigit 0 9)) text e
     → TextFault (SpellsSome (ReadsAs p)) text e
 no_digit p text e f = whole_date p text e (date_first text e (four_first text e (two_first 0 99 text e (omega arith, omega arith) f)))
-
--- the date is in front
-pub date_there : (d : OrdinalDate) (front rest : List ℕ) → FullDate d front → Front (FullDate d) (front ++ rest) rest
-date_there d front rest h = record { front = front; whole = refl; is = h }
 
 -- ---- places
 

@@ -1,11 +1,7 @@
 -- The first place at which a text is none of a rule.
-use Rattle.std.specs.Prelude.{◌≡◌, ◌↔◌, ℕ, ◌+◌, ◌%◌, ◌⊎◌, List, [], ◌∷◌, ◌++◌, slice_get, Some}
-use Rattle.std.specs.Prelude.{slice_index_or, take}
+use Rattle.std.specs.Prelude.{◌≡◌, ◌↔◌, ℕ, ◌+◌, ◌⊎◌, List, [], ◌∷◌, ◌++◌, slice_get, Some}
 use Rattle.std.specs.Int.{IsInRange}
-use Rattle.time_below.specs.Weekday.{days_from_monday}
-use Rattle.time_known.specs.Rfc2822Grammar.{day_names}
 use Rattle.time_known.specs.Rules.{Rule}
-use Rattle.time_read.specs.Names.{NameOf}
 use Rattle.time_read.specs.declared.fault.Expected.{Expected}
 use Rattle.time_read.specs.declared.fault.Expected.TheVariants as expected
 use Rattle.time_read.specs.declared.fault.Profile.{Profile}
@@ -30,7 +26,7 @@ pub record Begins (P : Rule) (front : List ℕ) : Type 0 where
   pub more : List ℕ
   pub whole : P (front ++ more)
 
--- a byte is one of those that could have come
+-- a byte is one of those that could have come, where a byte was expected
 abbrev pub Allows : Expected → ℕ → Type 0
 Allows (expected.Digit first last) b = IsInRange (48 + first) (48 + last) b
 Allows (expected.Byte wanted) b = b ≡ wanted
@@ -40,12 +36,8 @@ Allows (expected.PointOrOffset p) b = (b ≡ 46) ⊎ BeginsOffset p b
 Allows (expected.DigitOrOffset p) b = IsInRange 48 57 b ⊎ BeginsOffset p b
 Allows expected.End b = ⊥
 Allows expected.Sign b = (b ≡ 43) ⊎ (b ≡ 45)
-Allows (expected.EachFourth first last) b =
-    IsInRange (48 + first) (48 + last) b × (b % 4 ≡ first % 4)
-Allows (expected.Name names count first second) b =
-    Begins (SpellsSome (NameOf names)) (take count (first ∷ second ∷ []) ++ b ∷ [])
-Allows (expected.Weekday weekday) b =
-    slice_index_or (slice_index_or day_names (days_from_monday weekday) []) 0 0 ≡ b
+Allows (expected.Mail part) b = ⊥
+Allows (expected.Plan mismatch) b = ⊥
 
 -- The right bytes begin a text of the rule. With one more they do so exactly if it is expected, and none
 -- that is expected follows.

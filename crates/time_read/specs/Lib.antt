@@ -1,11 +1,10 @@
+pub mod Described
 pub mod Fault
 pub mod Front
-pub mod Kept
-pub mod Keys
 pub mod Lenient
-pub mod Mail
 pub mod MailLenient
 pub mod Names
+pub mod Parts
 pub mod Profiles
 pub mod Refused
 pub mod Shapes

@@ -132,6 +132,10 @@ next_after profile.Strict count =
     if count == 9 then expected.Offset profile.Strict else expected.DigitOrOffset profile.Strict
 next_after profile.Lenient count = expected.DigitOrOffset profile.Lenient
 
+-- what may follow a fraction of so many digits, or no fraction, which has none
+abbrev pub after_fraction : Profile → ℕ → Expected
+after_fraction p count = if count == 0 then expected.PointOrOffset p else next_after p count
+
 -- the text goes on where it should end
 pub record IsTrailing (text : List ℕ) (fault : Unexpected) : Type 0 where
   pub expected : fault.expected ≡ expected.End

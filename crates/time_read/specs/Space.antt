@@ -3,7 +3,6 @@ use Rattle.std.specs.Prelude.{◌≡◌, ◌≢◌, ℕ, ◌+◌, ◌-◌, Bool,
 use Rattle.std.specs.Prelude.{Option, Some, None, List, [], ◌∷◌}
 use Rattle.std.specs.Option.{option_and_then}
 use Rattle.time_known.specs.Rules.{Rule, Literal, ◌▹◌}
-use Rattle.time_read.specs.Front.{Front}
 use Rattle.time_read.specs.declared.space.Depth.{Depth}
 
 -- outside of comments
@@ -37,14 +36,6 @@ IsSpace text = depth_after outside text ≡ Some outside
 abbrev pub IsGap : Rule
 IsGap text = IsSpace text × (text ≢ [])
 
--- no white space and no comment begins the text
-abbrev pub NoSpace : Rule
-NoSpace text = (b : ℕ) (after : List ℕ) → text ≡ b ∷ after → after_byte outside b ≡ None
-
 -- this byte, between white space and comments
 abbrev pub Mark : ℕ → Rule
 Mark byte = IsSpace ▹ Literal (byte ∷ []) ▹ IsSpace
-
--- no front of the text follows the rule and goes as far as white space and comments go
-abbrev pub NoFrontTo : Rule → Rule
-NoFrontTo P text = (rest : List ℕ) → Front P text rest → ¬ NoSpace rest

@@ -65,7 +65,7 @@ fn are_nine(text: &[u8]) -> bool
     are_eight(text) && text[8].is_ascii_digit()
 }
 
-// The number of some digits. The compiler unrolls the loop for nine.
+// The number of some digits.
 fn number_of(digits: &[u8]) -> u32
     requires few { length digits.now ≤ 9 }
     requires digits { AllDigits 10 digits.now }

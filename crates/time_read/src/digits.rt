@@ -55,23 +55,6 @@ pub(crate) fn after_letter(text: &[u8], letter: u8, profile: Profile) -> Option<
     None
 }
 
-// Reads this letter.
-#[inline(always)]
-pub(crate) fn letter(text: &[u8], letter: u8, profile: Profile) -> Result<&[u8], Unexpected>
-    requires { letter ≤ 90 }
-    ensures read { IfOk result (λ rest. Front (TheLetter profile letter tt) text.now rest.now) }
-    ensures fault { IfErr result (λ e.
-        FieldFault 1 (SpellsSome (TheLetter profile letter)) text.now e) }
-{
-    match after_letter(text, letter, profile) {
-        Some(rest) => Ok(rest),
-        None => Err(Unexpected {
-            left: text.len(),
-            expected: Expected::Letter(letter, profile),
-        }),
-    }
-}
-
 // Reads this byte.
 #[inline(always)]
 pub(crate) fn byte(text: &[u8], wanted: u8) -> Result<&[u8], Unexpected>

@@ -1,7 +1,10 @@
-//! Where a text could not be read.
+//! What is refused, and where.
+ghost use Rattle.std.specs.Prelude.{◌≤◌, length};
+
 use std::fmt;
 use thiserror::Error;
 use time_below::Weekday;
+use time_below::format_description::Component;
 
 /// Which texts are read.
 #[derive(Debug, Clone, Copy, PartialEq, Eq)]
@@ -12,13 +15,47 @@ pub enum Profile {
     Lenient,
 }
 
-/// Which names may stand in a text, of three letters each.
+/// A part of a text of mail or of a feed.
 #[derive(Debug, Clone, Copy, PartialEq, Eq)]
-pub enum Names {
-    /// Those of the days of the week.
-    Weekday,
-    /// Those of the months that have this day in some year.
-    MonthWith(u8),
+pub enum MailPart {
+    /// The name of a weekday, or a day.
+    WeekdayOrDay,
+    /// A day from 1 to 31, of one digit or two.
+    Day,
+    /// The name of a month.
+    Month,
+    /// A year from 1900 on, of two to four digits.
+    Year,
+    /// A day that this month has.
+    DayOfMonth,
+    /// An hour from 00 to 23.
+    Hour,
+    /// A minute from 00 to 59.
+    Minute,
+    /// A second from 00 to 60.
+    Second,
+    /// A zone that has a meaning: a sign with four digits, a name of RFC 5322, section 4.3, or a
+    /// letter.
+    Zone,
+    /// White space or a comment.
+    Space,
+    /// The end of a comment.
+    CommentEnd,
+    /// The name of this weekday, which is that of the date. The name of another one stands there.
+    Weekday(Weekday),
+}
+
+/// What is wrong where a text is none of a plan.
+#[derive(Debug, Clone, Copy, PartialEq, Eq)]
+pub enum Mismatch {
+    /// The text of this component should begin here.
+    Component(Component),
+    /// The number of this component, which begins here, is that of no value, as in February 31.
+    NoValue(Component),
+    /// The value of these numbers is written otherwise from here on, as by another weekday. By a
+    /// plan whose texts may have more than 64 bytes, the component begins here that is written
+    /// otherwise.
+    Otherwise,
 }
 
 /// What could have come next in a text.
@@ -41,33 +78,59 @@ pub enum Expected {
     End,
     /// `+` or `-`.
     Sign,
-    /// A digit from the first to the last, by their numbers 0 to 9, in steps of four: the last
-    /// digit of a leap year.
-    EachFourth(u8, u8),
-    /// The next letter of one of these names. The first number says how many of its letters are
-    /// right, 0 to 2. The other two are these letters, and 0 where there are fewer.
-    Name(Names, u8, u8, u8),
-    /// The name of this weekday, which is that of the date. The name of another one stands there.
-    Weekday(Weekday),
+    /// A part of a text of mail or of a feed.
+    Mail(MailPart),
+    /// The text that a plan writes of a value.
+    Plan(Mismatch),
 }
 
-/// A text is not one of its format: the first position at which it is invalid.
+/// A text is not one of its format: the position at which it is invalid, which is the first one of
+/// a text of RFC 3339.
 #[derive(Debug, Clone, Copy, PartialEq, Eq, Error)]
 #[error("byte {at}: expected {expected}{}", if *.is_second_60 {", since second 60 has no value"} else {""})]
 pub struct NotRead {
-    /// How many bytes are right.
+    /// How many bytes are right, or stand before the part that is wrong.
     pub at: usize,
-    /// What could have come after them.
+    /// What could have come there.
     pub expected: Expected,
     /// Whether second 60 stands there, which a leap second has and no value here.
     pub is_second_60: bool,
 }
 
-// The position by the bytes that are left from there on.
+// The position by the bytes that are left from there on. They stand last, over the pointer of the
+// rest that a reader returns where there is no fault: RFC 3339 takes a third more in the other order.
 #[derive(Clone, Copy)]
 pub(crate) struct Unexpected {
-    pub(crate) left: usize,
     pub(crate) expected: Expected,
+    pub(crate) left: usize,
+}
+
+// The fault of a text by the bytes that are left.
+#[cold]
+pub(crate) fn not_read(text: &[u8], fault: Unexpected) -> NotRead
+    ensures { result.at ≤ length text.now }
+{
+    NotRead {
+        at: text.len().saturating_sub(fault.left),
+        expected: fault.expected,
+        is_second_60: false,
+    }
+}
+
+/// Why no text is read as a value of a type.
+#[derive(Clone, Copy, Debug, PartialEq, Eq, Error)]
+pub enum NoReader {
+    /// The texts do not determine a value, as `%I:%M` does not tell the half of the day.
+    #[error("the texts do not determine a value of the type")]
+    Undetermined,
+    /// The texts show what no value of the type has, by the index of the step. Of a configuration
+    /// of ISO 8601 the date, the time of day and the offset are steps 0, 1 and 2.
+    #[error("step {0}: no value of the type has what is shown")]
+    Unsupplied(usize),
+    /// A number whose digits depend on the value stands before digits whose number depends on it
+    /// too, by the index of the step, as the first one of `%-d%-m`.
+    #[error("step {0}: a number of no certain width before other digits")]
+    Ambiguous(usize),
 }
 
 // What could have come next, in words, where it has no number and no byte of its own.
@@ -84,18 +147,74 @@ fn in_words(expected: Expected) -> &'static str {
         Expected::DigitOrOffset(Profile::Strict) => "a digit, `Z`, `+` or `-`",
         Expected::DigitOrOffset(Profile::Lenient) => "a digit, `Z`, `z`, `+` or `-`",
         Expected::Sign => "`+` or `-`",
-        Expected::Name(Names::Weekday, 0, _, _) => "the name of a weekday",
-        Expected::Name(Names::Weekday, _, _, _) => "the rest of the name of a weekday",
-        Expected::Name(_, 0, _, _) => "the name of a month that has this day",
-        Expected::Name(_, _, _, _) => "the rest of the name of a month that has this day",
-        Expected::Weekday(Weekday::Monday) => "`Mon`, the weekday of this date",
-        Expected::Weekday(Weekday::Tuesday) => "`Tue`, the weekday of this date",
-        Expected::Weekday(Weekday::Wednesday) => "`Wed`, the weekday of this date",
-        Expected::Weekday(Weekday::Thursday) => "`Thu`, the weekday of this date",
-        Expected::Weekday(Weekday::Friday) => "`Fri`, the weekday of this date",
-        Expected::Weekday(Weekday::Saturday) => "`Sat`, the weekday of this date",
-        Expected::Weekday(Weekday::Sunday) => "`Sun`, the weekday of this date",
+        Expected::Plan(_) => "what is written of its value from here on",
         _ => "the end",
+    }
+}
+
+// A part of a text of mail, in words.
+fn part_in_words(part: MailPart) -> &'static str {
+    match part {
+        MailPart::WeekdayOrDay => "the name of a weekday, or a day",
+        MailPart::Day => "a day from 1 to 31",
+        MailPart::Month => "the name of a month",
+        MailPart::Year => "a year from 1900 on",
+        MailPart::DayOfMonth => "a day that this month has",
+        MailPart::Hour => "an hour from 00 to 23",
+        MailPart::Minute => "a minute from 00 to 59",
+        MailPart::Second => "a second from 00 to 60",
+        MailPart::Zone => "a zone that has a meaning",
+        MailPart::Space => "white space or a comment",
+        MailPart::CommentEnd => "the end of a comment",
+        MailPart::Weekday(Weekday::Monday) => "`Mon`, the weekday of this date",
+        MailPart::Weekday(Weekday::Tuesday) => "`Tue`, the weekday of this date",
+        MailPart::Weekday(Weekday::Wednesday) => "`Wed`, the weekday of this date",
+        MailPart::Weekday(Weekday::Thursday) => "`Thu`, the weekday of this date",
+        MailPart::Weekday(Weekday::Friday) => "`Fri`, the weekday of this date",
+        MailPart::Weekday(Weekday::Saturday) => "`Sat`, the weekday of this date",
+        MailPart::Weekday(Weekday::Sunday) => "`Sun`, the weekday of this date",
+    }
+}
+
+// A component by its name in a description.
+fn name_of(component: Component) -> &'static str {
+    match component.current() {
+        Component::Day(_) => "[day]",
+        Component::MonthShort(_) => "[month repr:short]",
+        Component::MonthLong(_) => "[month repr:long]",
+        Component::MonthNumerical(_) => "[month]",
+        Component::Ordinal(_) => "[ordinal]",
+        Component::WeekdayShort(_) => "[weekday repr:short]",
+        Component::WeekdayLong(_) => "[weekday]",
+        Component::WeekdaySunday(_) => "[weekday repr:sunday]",
+        Component::WeekdayMonday(_) => "[weekday repr:monday]",
+        Component::WeekNumberIso(_) => "[week_number]",
+        Component::WeekNumberSunday(_) => "[week_number repr:sunday]",
+        Component::WeekNumberMonday(_) => "[week_number repr:monday]",
+        Component::Hour12(_) => "[hour repr:12]",
+        Component::Hour24(_) => "[hour]",
+        Component::Minute(_) => "[minute]",
+        Component::Period(_) => "[period]",
+        Component::Second(_) => "[second]",
+        Component::Subsecond(_) => "[subsecond]",
+        Component::OffsetHour(_) => "[offset_hour]",
+        Component::OffsetMinute(_) => "[offset_minute]",
+        Component::OffsetSecond(_) => "[offset_second]",
+        Component::UnixTimestampSecond(_) => "[unix_timestamp]",
+        Component::UnixTimestampMillisecond(_) => "[unix_timestamp precision:millisecond]",
+        Component::CalendarYearFullExtendedRange(_) | Component::CalendarYearFullStandardRange(_) =>
+            "[year]",
+        Component::CalendarYearCenturyExtendedRange(_)
+        | Component::CalendarYearCenturyStandardRange(_) => "[year repr:century]",
+        Component::CalendarYearLastTwo(_) => "[year repr:last_two]",
+        Component::IsoYearFullExtendedRange(_) | Component::IsoYearFullStandardRange(_) => {
+            "[year base:iso_week]"
+        }
+        Component::IsoYearCenturyExtendedRange(_) | Component::IsoYearCenturyStandardRange(_) =>
+            "[year base:iso_week repr:century]",
+        Component::IsoYearLastTwo(_) => "[year base:iso_week repr:last_two]",
+        Component::End(_) => "[end]",
+        _ => "[ignore]",
     }
 }
 
@@ -105,10 +224,13 @@ impl fmt::Display for Expected {
             Expected::Digit(first, last) if first == last => write!(f, "the digit {first}"),
             Expected::Digit(first, last) => write!(f, "a digit from {first} to {last}"),
             Expected::Byte(byte) => write!(f, "`{}`", char::from(byte)),
-            Expected::EachFourth(first, last) => {
+            Expected::Mail(part) => f.write_str(part_in_words(part)),
+            Expected::Plan(Mismatch::Component(component)) => f.write_str(name_of(component)),
+            Expected::Plan(Mismatch::NoValue(component)) => {
                 write!(
                     f,
-                    "a digit from {first} to {last} in steps of four, of a leap year"
+                    "another {}, since no value has this one",
+                    name_of(component)
                 )
             }
             other => f.write_str(in_words(other)),

@@ -12,9 +12,8 @@ ghost use Rattle.time_read.specs.Space.{IsGap};
 
 use crate::decimals::first_digits;
 use crate::digits::{after, two_within};
-use crate::fault::Names;
-use crate::letters::{count, letters};
-use crate::not_mail::{MailFault, MailPart};
+use crate::fault::{Expected, MailPart, Unexpected};
+use crate::letters::{Names, count, letters};
 use crate::space::{gap, mark, space};
 
 // Whether a text begins with the name at a place, in either case.
@@ -56,7 +55,7 @@ fn begins_with_digit(text: &[u8]) -> bool {
 }
 
 // Reads the name of a weekday and a comma, or nothing before a day: its days from Monday.
-pub(crate) fn weekday(text: &[u8]) -> Result<(Option<u8>, &[u8]), MailFault>
+pub(crate) fn weekday(text: &[u8]) -> Result<(Option<u8>, &[u8]), Unexpected>
     ensures read { IfOk result (λ r. Front (MeansWeekday r.0) text.now r.1.now) }
     ensures range { IfOk result (λ r. IfSome r.0 (λ w. w < 7)) }
     ensures shorter { IfOk result (λ r. length r.1.now ≤ length text.now) }
@@ -66,17 +65,17 @@ pub(crate) fn weekday(text: &[u8]) -> Result<(Option<u8>, &[u8]), MailFault>
         return Ok((None, text));
     }
     let Some((weekday, rest)) = some_name(text, Names::Weekday) else {
-        return Err(MailFault {
+        return Err(Unexpected {
             left: text.len(),
-            expected: MailPart::WeekdayOrDay,
+            expected: Expected::Mail(MailPart::WeekdayOrDay),
         });
     };
-    let rest = ok!(mark(rest, b',', MailPart::Comma));
+    let rest = ok!(mark(rest, b','));
     Ok((Some(weekday), rest))
 }
 
 // Reads a day of one digit or two.
-fn day(text: &[u8]) -> Result<(u8, &[u8]), MailFault>
+fn day(text: &[u8]) -> Result<(u8, &[u8]), Unexpected>
     ensures read { IfOk result (λ r. Front (MeansDay r.0) text.now r.1.now) }
     ensures range { IfOk result (λ r. IsInRange 1 31 r.0) }
     ensures shorter { IfOk result (λ r. length r.1.now ≤ length text.now) }
@@ -84,26 +83,26 @@ fn day(text: &[u8]) -> Result<(u8, &[u8]), MailFault>
 {
     let (number, count) = first_digits(text);
     if count < 1 || 2 < count || number < 1 || 31 < number {
-        return Err(MailFault {
+        return Err(Unexpected {
             left: text.len(),
-            expected: MailPart::Day,
+            expected: Expected::Mail(MailPart::Day),
         });
     }
     Ok((number as u8, &text[count..]))
 }
 
 // Reads the name of a month: its place from 0.
-fn month(text: &[u8]) -> Result<(u8, &[u8]), MailFault>
+fn month(text: &[u8]) -> Result<(u8, &[u8]), Unexpected>
     ensures read { IfOk result (λ r. Front (AnyCase (Name month_names r.0)) text.now r.1.now) }
     ensures range { IfOk result (λ r. r.0 < 12) }
     ensures shorter { IfOk result (λ r. length r.1.now ≤ length text.now) }
     ensures left { IfErr result (λ e. e.left ≤ length text.now) }
 {
-    match some_name(text, Names::MonthWith(1)) {
+    match some_name(text, Names::Month) {
         Some(read) => Ok(read),
-        None => Err(MailFault {
+        None => Err(Unexpected {
             left: text.len(),
-            expected: MailPart::Month,
+            expected: Expected::Mail(MailPart::Month),
         }),
     }
 }
@@ -121,16 +120,16 @@ fn full_year(count: usize, number: u32) -> u32
 }
 
 // Reads a year of two to four digits, from 1900 on.
-fn year(text: &[u8]) -> Result<(u16, &[u8]), MailFault>
+fn year(text: &[u8]) -> Result<(u16, &[u8]), Unexpected>
     ensures read { IfOk result (λ r. Front (MeansYear r.0) text.now r.1.now) }
     ensures range { IfOk result (λ r. r.0 < 10_000) }
     ensures shorter { IfOk result (λ r. length r.1.now ≤ length text.now) }
     ensures left { IfErr result (λ e. e.left ≤ length text.now) }
 {
     let (number, count) = first_digits(text);
-    let fault = MailFault {
+    let fault = Unexpected {
         left: text.len(),
-        expected: MailPart::Year,
+        expected: Expected::Mail(MailPart::Year),
     };
     if count < 2 || 4 < count || 10_000 <= number {
         return Err(fault);
@@ -143,7 +142,7 @@ fn year(text: &[u8]) -> Result<(u16, &[u8]), MailFault>
 }
 
 // Reads a day, the name of a month, as its place from 0, and a year, with gaps between them.
-pub(crate) fn day_month_year(text: &[u8]) -> Result<(u8, u8, u16, &[u8]), MailFault>
+pub(crate) fn day_month_year(text: &[u8]) -> Result<(u8, u8, u16, &[u8]), Unexpected>
     ensures read { IfOk result (λ r. Front (MeansDay r.0 ▹ IsGap
         ▹ AnyCase (Name month_names r.1) ▹ IsGap ▹ MeansYear r.2) text.now r.3.now) }
     ensures day { IfOk result (λ r. IsInRange 1 31 r.0) }
@@ -161,7 +160,7 @@ pub(crate) fn day_month_year(text: &[u8]) -> Result<(u8, u8, u16, &[u8]), MailFa
 }
 
 // Reads two digits of a number up to the greatest.
-pub(crate) fn two(text: &[u8], greatest: u8, expected: MailPart) -> Result<(u8, &[u8]), MailFault>
+pub(crate) fn two(text: &[u8], greatest: u8, expected: MailPart) -> Result<(u8, &[u8]), Unexpected>
     requires { greatest < 100 }
     ensures read { IfOk result (λ r. Front (Two 0 greatest r.0) text.now r.1.now) }
     ensures range { IfOk result (λ r. r.0 ≤ greatest) }
@@ -170,15 +169,15 @@ pub(crate) fn two(text: &[u8], greatest: u8, expected: MailPart) -> Result<(u8, 
 {
     match two_within(text, 0, greatest) {
         Some(read) => Ok(read),
-        None => Err(MailFault {
+        None => Err(Unexpected {
             left: text.len(),
-            expected,
+            expected: Expected::Mail(expected),
         }),
     }
 }
 
 // Reads a second after a colon, or nothing where there is no colon. Second 60 means 59.
-pub(crate) fn second(text: &[u8]) -> Result<(u8, &[u8]), MailFault>
+pub(crate) fn second(text: &[u8]) -> Result<(u8, &[u8]), Unexpected>
     ensures read { IfOk result (λ r. Front (MeansSecond r.0) text.now r.1.now) }
     ensures range { IfOk result (λ r. r.0 < 60) }
     ensures shorter { IfOk result (λ r. length r.1.now ≤ length text.now) }
@@ -188,7 +187,7 @@ pub(crate) fn second(text: &[u8]) -> Result<(u8, &[u8]), MailFault>
     if after(behind_space, b':').is_none() {
         return Ok((0, text));
     }
-    let rest = ok!(mark(text, b':', MailPart::Colon));
+    let rest = ok!(mark(text, b':'));
     let (second, rest) = ok!(two(rest, 60, MailPart::Second));
     Ok((second.min(59), rest))
 }

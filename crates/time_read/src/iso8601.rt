@@ -4,40 +4,45 @@
 //! as this very text. The fields are read first, and what they give is written and compared.
 ghost use Rattle.std.specs.Prelude.{◌≡◌, ◌≤◌, ◌↔◌, IfErr, IfOk, IsOk, IsTrue, length};
 ghost use Rattle.time_fmt.specs.Outcome.{done};
-ghost use Rattle.time_known.specs.Config.{default_choices};
+ghost use Rattle.time_known.specs.Config.{default_choices, has_date, has_offset, has_time};
 ghost use Rattle.time_known.specs.Iso8601.{iso8601_of, iso8601_outcome};
 ghost use Rattle.time_known.specs.Iso8601Parts.{SuppliesParts};
 
 mod compare;
-mod date;
 mod decimals;
-mod offset;
-mod parts;
-mod place;
-mod time;
-mod values;
+mod fields;
 
-use crate::fault::NotRead;
-use compare::{difference, supplies};
-pub use parts::Parts;
-use parts::parts_of;
-use place::place_of;
+pub use crate::fault::NoReader;
+use crate::fault::{NotRead, Unexpected};
+use crate::reading::{Described, Reading};
+pub use crate::values::Readable;
+use crate::values::text_fields::TextFields;
+use compare::{difference, unsupplied};
+use fields::{kinds_of, read_fields};
 use std::default::Default;
-use std::marker::PhantomData;
-use thiserror::Error;
 use time_below::OffsetDateTime;
+use time_fmt::ComponentProvider;
 use time_known::iso8601::Config;
-pub use values::Readable;
 
-/// Why no text of a configuration is read as a value of a type.
-#[derive(Clone, Copy, Debug, PartialEq, Eq, Error)]
-pub enum NoReader {
-    /// The texts show what no value of the type has, as an offset in place of a date.
-    #[error("no value of the type has what the texts show")]
-    Unsupplied,
-    /// The texts do not show all that a value of the type has, as the offset.
-    #[error("the texts do not determine a value of the type")]
-    Undetermined,
+impl Described for Config {
+    ghost outcome_of = { λ config. iso8601_outcome config };
+
+    fn read_fields<'a>(&self, text: &'a [u8], fields: &mut TextFields) -> Option<&'a [u8]> {
+        match read_fields(self, text, fields) {
+            Ok(rest) => Some(rest),
+            Err(fault) => {
+                fields.stop = Some(fault);
+                None
+            }
+        }
+    }
+
+    fn difference<V: ComponentProvider>(&self, text: &[u8], value: &V) -> Option<Unexpected>
+    where
+        V::State: Drop,
+    {
+        difference(self, text, value)
+    }
 }
 
 /// Reads the texts of a configuration as values of a type.
@@ -45,10 +50,10 @@ pub enum NoReader {
 pub struct Iso8601Reader<V> {
     /// The configuration.
     pub config: Config,
-    value: PhantomData<V>,
+    reading: Reading<V>,
 }
 
-/// The reader of texts of a configuration as values of a type.
+/// Returns the reader of texts of a configuration as values of a type.
 ///
 /// Refused are configurations whose texts show what no value of the type has, or do not show each
 /// of its parts: a date, a time of day or an offset. A date and a time of day determine a
@@ -58,24 +63,32 @@ pub fn reader<V: Readable>(config: &Config) -> Result<Iso8601Reader<V>, NoReader
     ensures config { IfOk result (λ reader. reader.config ≡ config.now) }
     ensures made { IsOk result
         ↔ (SuppliesParts config.now V.SUPPLIES_DATE V.SUPPLIES_TIME V.SUPPLIES_OFFSET
-        × IsTrue (V.determined_by config.now.formatted_components)) }
+        × IsTrue (V.determined_by (has_date config.now.formatted_components)
+        (has_time config.now.formatted_components) (has_offset config.now.formatted_components))) }
     ensures undetermined { IfErr result (λ refused. (refused ≡ NoReader.Undetermined)
         ↔ SuppliesParts config.now V.SUPPLIES_DATE V.SUPPLIES_TIME V.SUPPLIES_OFFSET) }
 {
-    if !supplies::<V>(config) {
-        return Err(NoReader::Unsupplied);
+    if let Some(part) = unsupplied::<V>(config) {
+        return Err(NoReader::Unsupplied(part));
     }
-    if !V::is_determined_by(config.formatted_components()) {
+    if !V::is_determined_by(config.has_date(), config.has_time(), config.has_offset()) {
         return Err(NoReader::Undetermined);
     }
-    Ok(Iso8601Reader {
+    Ok(reader_by(config))
+}
+
+/// The reader by a configuration whose texts determine a value.
+fn reader_by<V: Readable>(config: &Config) -> Iso8601Reader<V>
+    ensures { result.config ≡ config.now }
+{
+    Iso8601Reader {
         config: *config,
-        value: PhantomData,
-    })
+        reading: Reading::new(kinds_of(config), TextFields::default()),
+    }
 }
 
 impl<V: Readable> Iso8601Reader<V> {
-    /// The value that the format writes as this text, or the first fault of the text.
+    /// Returns the value that the format writes as this text, or the first fault of the text.
     pub fn read(&self, text: &[u8]) -> Result<V, NotRead>
     where
         V::State: Drop,
@@ -84,28 +97,16 @@ impl<V: Readable> Iso8601Reader<V> {
             iso8601_outcome self.now.config (V.facts value) ≡ done text.now) }
         ensures inside { IfErr result (λ fault. fault.at ≤ length text.now) }
     {
-        let parts = match parts_of(&self.config, text) {
-            Ok(parts) => parts,
-            Err(fault) => return Err(place_of(&self.config, text, fault)),
-        };
-        let value = V::of_parts(&parts);
-        match difference(&self.config, text, &value) {
-            None => Ok(value),
-            Some(fault) => Err(place_of(&self.config, text, fault)),
-        }
+        self.reading.read(&self.config, text)
     }
 }
 
-/// The value that the default configuration writes as this text, or the first fault of the text:
-/// date, time of day with nine decimals, and offset, as `2026-11-22T09:55:06.120000000-06:00`. UTC
-/// is `Z`.
+/// Returns the value that the default configuration writes as this text, or the first fault of the
+/// text: date, time of day with nine decimals, and offset, as
+/// `2026-11-22T09:55:06.120000000-06:00`. UTC is `Z`.
 pub fn read(text: &[u8]) -> Result<OffsetDateTime, NotRead>
     ensures written { IfOk result (λ value. iso8601_of default_choices value ≡ done text.now) }
     ensures inside { IfErr result (λ fault. fault.at ≤ length text.now) }
 {
-    let reader: Iso8601Reader<OffsetDateTime> = Iso8601Reader {
-        config: Config::default(),
-        value: PhantomData,
-    };
-    reader.read(text)
+    reader_by::<OffsetDateTime>(&Config::default()).read(text)
 }

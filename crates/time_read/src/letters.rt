@@ -1,12 +1,14 @@
 //! Names of the days of the week and of the months, letter by letter.
-ghost use Rattle.std.specs.Prelude.{◌≡◌, ℕ, [], ◌∷◌, ◌+◌, ◌*◌, ◌%◌, ◌<◌, ◌↔◌, IsTrue, true};
-ghost use Rattle.std.specs.Prelude.{length, slice_index_or};
-ghost use Rattle.time_below.specs.Calendar.{days_in_month};
+ghost use Rattle.std.specs.Prelude.{◌≡◌, ℕ, [], ◌∷◌, ◌<◌, IfSome, length, slice_index_or};
 ghost use Rattle.time_known.specs.Rfc2822Grammar.{day_names, month_names};
-ghost use Rattle.time_read.specs.Keys.{month_by, weekday_by};
-ghost use Rattle.time_read.specs.Names.{HasDay, list_of};
+ghost use Rattle.time_read.specs.Names.{list_of};
 
-use crate::fault::Names;
+// Which names are meant, of three letters each.
+#[derive(Clone, Copy)]
+pub(crate) enum Names {
+    Weekday,
+    Month,
+}
 
 // How many names there are.
 pub(crate) fn count(names: Names) -> u8
@@ -14,33 +16,7 @@ pub(crate) fn count(names: Names) -> u8
 {
     match names {
         Names::Weekday => 7,
-        Names::MonthWith(_) => 12,
-    }
-}
-
-// How many days a month has in a leap year, by its index from 0.
-fn longest(place: u8) -> u8
-    requires { place < 12 }
-    ensures { result ≡ days_in_month true (place + 1) }
-{
-    if place == 1 {
-        return 29;
-    }
-    if place == 3 || place == 5 || place == 8 || place == 10 {
-        return 30;
-    }
-    31
-}
-
-// Whether the name at an index is one of these: whether that month has the day in some year. Each
-// weekday is one.
-pub(crate) fn has_day(names: Names, place: u8) -> bool
-    requires { place < length (list_of names) }
-    ensures { IsTrue result ↔ HasDay names place }
-{
-    match names {
-        Names::Weekday => true,
-        Names::MonthWith(day) => day <= longest(place),
+        Names::Month => 12,
     }
 }
 
@@ -90,55 +66,24 @@ pub(crate) fn letters(names: Names, place: u8) -> (u8, u8, u8)
 {
     match names {
         Names::Weekday => weekday_letters(place),
-        Names::MonthWith(_) => month_letters(place),
+        Names::Month => month_letters(place),
     }
 }
 
-// The only weekday that may have such a second and third letter: no two have the same key.
-fn weekday_by(key: u8) -> u8
-    ensures value { result ≡ weekday_by key }
-    ensures range { result < 7 }
+// The index at which the name with these letters is, if there is one.
+pub(crate) fn place_of(names: Names, first: u8, second: u8, third: u8) -> Option<u8>
+    ensures right { (place : ℕ) → place < length (list_of names)
+        → slice_index_or (list_of names) place [] ≡ first ∷ second ∷ third ∷ []
+        → result ≡ Some place }
+    ensures range { IfSome result (λ place. place < length (list_of names)) }
 {
-    match key {
-        11 => 0,
-        15 => 1,
-        13 => 2,
-        2 => 3,
-        4 => 4,
-        9 => 5,
-        _ => 6,
+    let mut place = 0;
+    while place < count(names) {
+        let (one, two, three) = letters(names, place);
+        if one == first && two == second && three == third {
+            return Some(place);
+        }
+        place += 1;
     }
-}
-
-// The only month that may have such a second and third letter.
-fn month_by(key: u8) -> u8
-    ensures value { result ≡ month_by key }
-    ensures range { result < 12 }
-{
-    match key {
-        15 => 0,
-        7 => 1,
-        19 => 2,
-        2 => 3,
-        26 => 4,
-        3 => 5,
-        1 => 6,
-        28 => 7,
-        21 => 8,
-        23 => 9,
-        5 => 10,
-        _ => 11,
-    }
-}
-
-// The only index at which a name with this second and third letter may be.
-pub(crate) fn place_by(names: Names, second: u8, third: u8) -> u8
-    ensures right { (first place : ℕ) → place < length (list_of names)
-        → slice_index_or (list_of names) place [] ≡ first ∷ second ∷ third ∷ [] → result ≡ place }
-    ensures range { result < length (list_of names) }
-{
-    match names {
-        Names::Weekday => weekday_by(((second as u16 + 2 * third as u16) % 16) as u8),
-        Names::MonthWith(_) => month_by(((second as u16 + third as u16) % 32) as u8),
-    }
+    None
 }

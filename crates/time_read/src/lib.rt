@@ -1,4 +1,4 @@
-//! Texts of RFC 3339, RFC 2822 and ISO 8601, and stamps, read back. No call allocates.
+//! Texts of RFC 3339, RFC 2822, ISO 8601 and plans, and stamps, read back. No call allocates.
 #![tactic(auto)]
 
 /// The value of an `Ok`. An `Err` is returned as it is. Unlike `?` this calls no conversion of the
@@ -12,29 +12,41 @@ macro_rules! ok {
     };
 }
 
-mod days;
+// Fields, which stand at the front of a text: each returns its value and what follows it, or a
+// fault.
 mod decimals;
+mod digit_runs;
 mod digits;
 mod fault;
 mod feed;
-pub mod iso8601;
-pub mod laws;
 mod letters;
-mod mail;
-mod names;
-mod not_mail;
 mod offset;
 mod parts;
-mod places;
-mod reader;
-pub mod rfc2822;
-pub mod rfc3339;
 mod space;
-pub mod stamp;
 mod tail;
-mod value;
 mod zones;
 
-pub use fault::{Expected, Names, NotRead, Profile};
-pub use not_mail::{MailPart, NotMail};
-pub use reader::LenientReader;
+// The values that fields determine.
+mod days;
+mod value;
+mod values;
+
+// Readers of whole texts.
+pub mod iso8601;
+pub mod laws;
+mod mail;
+mod places;
+mod plan;
+mod reading;
+pub mod rfc2822;
+pub mod rfc3339;
+pub mod stamp;
+mod written;
+
+pub use fault::{Expected, MailPart, Mismatch, NoReader, NotRead, Profile};
+pub use plan::{
+    LiteralRef, ReadPlan, ReadStep, Reader, StepParts, StepsReader, readable_kinds,
+    reader_by_kinds, reader_of_steps,
+};
+pub use values::Readable;
+pub use values::kinds::Kinds;

@@ -2,8 +2,10 @@
 //!
 //! The attributes are of the path of RFC 3339, whose texts cost twice as much without those of this
 //! crate.
-ghost use Rattle.std.specs.Prelude.{◌≡◌, ◌<◌, ◌≤◌, ◌∷◌, ℕ, [], IfOk, IfErr, OnOk};
+ghost use Rattle.std.specs.Prelude.{◌≡◌, ◌≢◌, ◌<◌, ◌≤◌, ◌∷◌, ℕ, Bool, List, [], IfOk, IfErr, IfSome};
+ghost use Rattle.std.specs.Prelude.{IfNone, OnOk, length};
 ghost use Rattle.time_below.specs.Offset.{signed_offset};
+ghost use Rattle.time_known.specs.Rules.{Sign};
 ghost use Rattle.time_read.specs.Fault.{IsLetter, SpellsSome};
 ghost use Rattle.time_read.specs.Front.{Front, FieldFault, TextFault};
 ghost use Rattle.time_read.specs.Profiles.{EndOffset, RestOfOffset};
@@ -41,6 +43,34 @@ pub(crate) fn signed_offset(is_negative: bool, hour: u8, minute: u8) -> UtcOffse
         UtcOffset::from_valid_hms(-(hour as i8), -(minute as i8), 0)
     } else {
         UtcOffset::from_valid_hms(hour as i8, minute as i8, 0)
+    }
+}
+
+// What follows a sign, if a text begins with one, and whether it is a minus.
+pub(crate) fn after_sign(text: &[u8]) -> Option<(bool, &[u8])>
+    ensures some { IfSome result (λ r. text.now ≡ sign_byte r.0 ∷ r.1.now) }
+    ensures none { IfNone result ((is_negative : Bool) (rest : List ℕ)
+        → text.now ≢ sign_byte is_negative ∷ rest) }
+{
+    match text {
+        [b'+', rest @ ..] => Some((false, rest)),
+        [b'-', rest @ ..] => Some((true, rest)),
+        _ => None,
+    }
+}
+
+// Reads a sign: whether it is a minus.
+#[tactic(auto, using(crate::proofs::OffsetEnds::sign_front))]
+pub(crate) fn sign(text: &[u8]) -> Result<(bool, &[u8]), Unexpected>
+    ensures read { IfOk result (λ r. Front (Sign r.0) text.now r.1.now) }
+    ensures left { IfErr result (λ e. e.left ≤ length text.now) }
+{
+    match after_sign(text) {
+        Some(read) => Ok(read),
+        None => Err(Unexpected {
+            expected: Expected::Sign,
+            left: text.len(),
+        }),
     }
 }
 

@@ -1,83 +1,70 @@
 //! RFC 2822.
-ghost use Rattle.std.specs.Prelude.{◌≡◌, ◌<◌, ◌≤◌, ◌↔◌, IfSome, IfOk, IfErr, IsTrue, OnOk};
-ghost use Rattle.std.specs.Prelude.{false, length};
+ghost use Rattle.std.specs.Prelude.{◌≡◌, ◌<◌, ◌≤◌, IfSome, IfOk, IfErr, OnOk, false, length};
 ghost use Rattle.time_below.specs.Calendar.{weekday_of};
 ghost use Rattle.time_below.specs.Moment.{OffsetDateAndTime};
 ghost use Rattle.time_below.specs.TimeOfDay.{time_of};
 ghost use Rattle.time_known.specs.Rfc2822Grammar.{Rfc2822Spells};
 ghost use Rattle.time_known.specs.Rules.{◌▹◌};
-ghost use Rattle.time_read.specs.Fault.{IsSecond60, SpellsSome};
-ghost use Rattle.time_read.specs.Front.{Front, TextFault};
-ghost use Rattle.time_read.specs.Mail.{IsMailPlace, MailText, SpellsButWeekday};
+ghost use Rattle.time_read.specs.Front.{Front};
 ghost use Rattle.time_read.specs.MailLenient.{MailMeans, MeansClock, MeansDate, MeansZone};
 ghost use Rattle.time_read.specs.Shapes.{IsDay, date_of_day};
 ghost use Rattle.time_read.specs.Space.{IsGap, IsSpace};
 
 use crate::days::{Day, date_of, days_of_month};
-use crate::fault::{Expected, NotRead, Unexpected};
+use crate::fault::{Expected, MailPart, NotRead, Unexpected};
 use crate::feed::{day_month_year, second, two, weekday};
-use crate::mail::{clock_after, named_date, zone_after};
-use crate::not_mail::{MailFault, MailPart, NotMail};
-use crate::offset::{end, signed_offset};
+use crate::mail::{text_of, value_of};
+use crate::offset::signed_offset;
 use crate::places::place_of_fault;
 use crate::space::{gap, mark, space};
+use crate::written::difference_from;
 use crate::zones::zone;
 use time_below::{Date, OffsetDateTime, Time, UtcOffset};
 
 // The position of the seconds in a text.
 const SECONDS: usize = 23;
 
-// Reads a whole text, with the name of some weekday.
-fn fields(text: &[u8]) -> Result<(u8, OffsetDateTime), Unexpected>
-    ensures read { IfOk result (λ r. MailText r.0 r.1 text.now) }
-    ensures fault { IfErr result (λ e. TextFault (SpellsSome SpellsButWeekday) text.now e) }
+// The fault of a text of a value that is written otherwise.
+fn otherwise(value: &OffsetDateTime, text: &[u8]) -> Unexpected
+    ensures { result.left ≤ length text.now }
 {
-    let (weekday, day, place, year, rest) = ok!(named_date(text));
-    let (hour, minute, second, rest) = ok!(clock_after(rest));
-    let (is_negative, hours, minutes, rest) = ok!(zone_after(rest));
-    ok!(end(rest));
-    let time = Time::from_valid_hms_nano(hour, minute, second, 0);
-    let offset = signed_offset(is_negative, hours, minutes);
-    let month = place + 1;
-    let date = date_of(Day { year, month, day });
-    Ok((weekday, OffsetDateTime::new_in_offset(date, time, offset)))
-}
-
-// The value of a text that names this weekday, if that is the weekday of its date. If not, the
-// position of the weekday.
-fn on_weekday(_text: &[u8], weekday: u8, value: OffsetDateTime) -> Result<OffsetDateTime, NotRead>
-    requires { MailText weekday value _text.now }
-    ensures read { IfOk result (λ v. Rfc2822Spells v _text.now) }
-    ensures refused { IfErr result (λ _. (v : OffsetDateAndTime) → ¬ Rfc2822Spells v _text.now) }
-    ensures place { IfErr result (λ e. IsMailPlace _text.now e) }
-    ensures start { IfErr result (λ e. e.at ≡ 0) }
-    ensures no_second_60 { IfErr result (λ e. ¬ IsTrue e.is_second_60) }
-{
-    let own = value.date().weekday();
-    if own.number_days_from_monday() == weekday {
-        return Ok(value);
+    let no_year = Unexpected {
+        left: text.len(),
+        expected: Expected::Mail(MailPart::Year),
+    };
+    match text_of(value) {
+        Some(own) => difference_from(&own, text).unwrap_or(no_year),
+        None => no_year,
     }
-    Err(NotRead {
-        at: 0,
-        expected: Expected::Weekday(own),
-        is_second_60: false,
-    })
 }
 
-/// The value that a text of RFC 2822, section 3.3, spells: 31 bytes, with the weekday of the date,
-/// single spaces, a year from 1900, an offset by its hours 00 to 25 and its minutes, no second 60
-/// and no offset `-0000`. Any other text is refused at the first position at which it is invalid,
-/// whatever weekday is named. One that is wrong in the name of the weekday alone is refused there.
+// The fault of a text that is not written here: that of a text of mail, or the first byte at which
+// the value of such a text is written otherwise.
+#[cold]
+#[inline(never)]
+fn fault_of(text: &[u8]) -> NotRead
+    ensures { result.at ≤ length text.now }
+{
+    match read_lenient(text) {
+        Ok(value) => place_of_fault(text, otherwise(&value, text), SECONDS),
+        Err(fault) => fault,
+    }
+}
+
+/// Returns the value that a text of RFC 2822, section 3.3, spells: 31 bytes, with the weekday of
+/// the date, single spaces, a year from 1900, an offset by its hours 00 to 25 and its minutes, no
+/// second 60 and no offset `-0000`. Any other text is refused.
+///
+/// The value of a text is written and compared. A refused text has the fault of a text of mail, or
+/// the first byte at which the value that it means is written otherwise.
 pub fn read(text: &[u8]) -> Result<OffsetDateTime, NotRead>
     ensures read { IfOk result (λ v. Rfc2822Spells v text.now) }
     ensures refused { IfErr result (λ _. (v : OffsetDateAndTime) → ¬ Rfc2822Spells v text.now) }
-    ensures place { IfErr result (λ e. IsMailPlace text.now e) }
     ensures within { IfErr result (λ e. e.at ≤ length text.now) }
-    ensures second_60 { IfErr result (λ e. IsTrue e.is_second_60 ↔ IsSecond60 23 e.at text.now) }
 {
-    match fields(text) {
-        Ok((weekday, value)) => on_weekday(text, weekday, value),
-        Err(fault) => Err(place_of_fault(text, fault, SECONDS)),
+    match value_of(text) {
+        Some(value) => Ok(value),
+        None => Err(fault_of(text)),
     }
 }
 
@@ -92,7 +79,7 @@ fn is_other_weekday(weekday: Option<u8>, date: Date) -> bool
 }
 
 // Reads a date of mail.
-fn lenient_date(text: &[u8]) -> Result<(Day, &[u8]), MailFault>
+fn lenient_date(text: &[u8]) -> Result<(Day, &[u8]), Unexpected>
     ensures read { IfOk result (λ r. Front (MeansDate (date_of_day r.0)) text.now r.1.now) }
     ensures day { IfOk result (λ r. IsDay r.0) }
     ensures shorter { IfOk result (λ r. length r.1.now ≤ length text.now) }
@@ -102,24 +89,24 @@ fn lenient_date(text: &[u8]) -> Result<(Day, &[u8]), MailFault>
     let (day, place, year, rest) = ok!(day_month_year(from_day));
     let month = place + 1;
     if days_of_month(year, month) < day {
-        return Err(MailFault {
+        return Err(Unexpected {
             left: from_day.len(),
-            expected: MailPart::DayOfMonth,
+            expected: Expected::Mail(MailPart::DayOfMonth),
         });
     }
     let found = Day { year, month, day };
     let date = date_of(found);
     if is_other_weekday(weekday, date) {
-        return Err(MailFault {
+        return Err(Unexpected {
             left: text.len(),
-            expected: MailPart::Weekday(date.weekday()),
+            expected: Expected::Mail(MailPart::Weekday(date.weekday())),
         });
     }
     Ok((found, rest))
 }
 
 // Reads an hour, a minute and a second, if there is one.
-fn lenient_clock(text: &[u8]) -> Result<(u8, u8, u8, &[u8]), MailFault>
+fn lenient_clock(text: &[u8]) -> Result<(u8, u8, u8, &[u8]), Unexpected>
     ensures read { IfOk result (λ r.
         Front (MeansClock (time_of r.0 r.1 r.2 0)) text.now r.3.now) }
     ensures hour { IfOk result (λ r. r.0 < 24) }
@@ -129,29 +116,29 @@ fn lenient_clock(text: &[u8]) -> Result<(u8, u8, u8, &[u8]), MailFault>
     ensures left { IfErr result (λ e. e.left ≤ length text.now) }
 {
     let (hour, rest) = ok!(two(text, 23, MailPart::Hour));
-    let rest = ok!(mark(rest, b':', MailPart::Colon));
+    let rest = ok!(mark(rest, b':'));
     let (minute, rest) = ok!(two(rest, 59, MailPart::Minute));
     let (second, rest) = ok!(second(rest));
     Ok((hour, minute, second, rest))
 }
 
 // Reads white space and comments to the end of the text.
-fn lenient_end(text: &[u8]) -> Result<(), MailFault>
+fn lenient_end(text: &[u8]) -> Result<(), Unexpected>
     ensures read { OnOk result (IsSpace text.now) }
     ensures left { IfErr result (λ e. e.left ≤ length text.now) }
 {
     let rest = ok!(space(text));
     if !rest.is_empty() {
-        return Err(MailFault {
+        return Err(Unexpected {
             left: rest.len(),
-            expected: MailPart::End,
+            expected: Expected::End,
         });
     }
     Ok(())
 }
 
 // Reads a gap and a zone, to the end of the text.
-fn lenient_zone(text: &[u8]) -> Result<UtcOffset, MailFault>
+fn lenient_zone(text: &[u8]) -> Result<UtcOffset, Unexpected>
     ensures read { IfOk result (λ o. (IsGap ▹ MeansZone o ▹ IsSpace) text.now) }
     ensures left { IfErr result (λ e. e.left ≤ length text.now) }
 {
@@ -162,7 +149,7 @@ fn lenient_zone(text: &[u8]) -> Result<UtcOffset, MailFault>
 }
 
 // Reads a whole text of mail.
-fn lenient(text: &[u8]) -> Result<OffsetDateTime, MailFault>
+fn lenient(text: &[u8]) -> Result<OffsetDateTime, Unexpected>
     ensures read { IfOk result (λ v. MailMeans v text.now) }
     ensures left { IfErr result (λ e. e.left ≤ length text.now) }
 {
@@ -175,23 +162,24 @@ fn lenient(text: &[u8]) -> Result<OffsetDateTime, MailFault>
     Ok(OffsetDateTime::new_in_offset(date_of(day), time, offset))
 }
 
-/// The value that a text of mail or of a feed means. Beside what [`read`] takes these are the
-/// obsolete forms of RFC 5322, section 4.3, and what mailers write: white space and comments, which
-/// may nest, between the parts; letters in either case; a day of one digit; a year of three digits,
-/// which are added to 1900, or of two, of 1950 to 2049; no weekday; no seconds; zones by name and
-/// by letter, where each letter but `J` is UTC; and `-0000`, which is UTC too. Second 60 means
-/// second 59. A weekday that is not the date's is refused, and so is a zone without a meaning, as
-/// `CET`. The value is proved to be one that the text means. That each text with a meaning is read,
-/// and that the place is the first part that is none, is tested.
-pub fn read_lenient(text: &[u8]) -> Result<OffsetDateTime, NotMail>
+/// Returns the value that a text of mail or of a feed means. Beside what [`read`] takes these are
+/// the obsolete forms of RFC 5322, section 4.3, and what mailers write: white space and comments,
+/// which may nest, between the parts; letters in either case; a day of one digit; a year of three
+/// digits, which are added to 1900, or of two, of 1950 to 2049; no weekday; no seconds; zones by
+/// name and by letter, where each letter but `J` is UTC; and `-0000`, which is UTC too. Second 60
+/// means second 59. A weekday that is not the date's is refused, and so is a zone without a
+/// meaning, as `CET`. The value is proved to be one that the text means. That each text with a
+/// meaning is read, and that the place is the first part that is none, is tested.
+pub fn read_lenient(text: &[u8]) -> Result<OffsetDateTime, NotRead>
     ensures read { IfOk result (λ v. MailMeans v text.now) }
     ensures within { IfErr result (λ e. e.at ≤ length text.now) }
 {
     match lenient(text) {
         Ok(value) => Ok(value),
-        Err(fault) => Err(NotMail {
+        Err(fault) => Err(NotRead {
             at: text.len() - fault.left,
             expected: fault.expected,
+            is_second_60: false,
         }),
     }
 }

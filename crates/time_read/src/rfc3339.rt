@@ -17,7 +17,7 @@ use crate::value::{Lenient, Reads, Strict, value_of};
 use time_below::OffsetDateTime;
 
 // The bytes of a text without decimals in UTC, `2026-11-22T09:55:06Z`. No text has fewer.
-pub(crate) const LEAST: usize = 20;
+const LEAST: usize = 20;
 
 // The value of a text, or the position at which it is refused.
 #[inline(always)]
@@ -40,23 +40,24 @@ fn place_in_short<P: Reads>(text: &[u8]) -> Result<OffsetDateTime, NotRead>
     value_or_place::<P>(text)
 }
 
-// The same of any text. Where it is long enough, the compiler leaves out the test of the length at
-// each field up to the seconds. It is a call, so that a text that does not begin with a digit is
-// refused before registers are saved.
+// The same of any text. One that is long enough is read apart from a short one, so that no field up
+// to the seconds tests the length, and the answer for a short one is taken apart: both are for the
+// row "RFC 3339, read".
 #[inline(never)]
 fn read_as<P: Reads>(text: &[u8]) -> Result<OffsetDateTime, NotRead>
     ensures read { IfOk result (λ v. ReadsAs P.PROFILE v text.now) }
     ensures place { IfErr result (λ e. IsRefused (ReadsAs P.PROFILE) SECONDS text.now e) }
 {
     if text.len() < LEAST {
-        return place_in_short::<P>(text);
+        let value = ok!(place_in_short::<P>(text));
+        return Ok(value);
     }
     value_or_place::<P>(text)
 }
 
-/// The value that a text of RFC 3339, section 5.6, spells: capital letters, one to nine decimals,
-/// if any, no second 60 and no offset `-00:00`. Any other text is refused at the first position at
-/// which it is invalid.
+/// Returns the value that a text of RFC 3339, section 5.6, spells: capital letters, one to nine
+/// decimals, if any, no second 60 and no offset `-00:00`. Any other text is refused at the first
+/// position at which it is invalid.
 #[inline(always)]
 pub fn read(text: &[u8]) -> Result<OffsetDateTime, NotRead>
     ensures read { IfOk result (λ v. Rfc3339Spells v text.now) }
@@ -72,8 +73,8 @@ pub fn read(text: &[u8]) -> Result<OffsetDateTime, NotRead>
     }
 }
 
-/// The value that a text of RFC 3339, section 5.6, means, also one with a small `t` or `z`, with
-/// more than nine decimals, of which the first nine count, or with the unknown offset `-00:00`
+/// Returns the value that a text of RFC 3339, section 5.6, means, also one with a small `t` or `z`,
+/// with more than nine decimals, of which the first nine count, or with the unknown offset `-00:00`
 /// (section 4.3), which is read as UTC. Any other text is refused at the first position at which it
 /// is invalid.
 #[inline(always)]

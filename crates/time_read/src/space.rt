@@ -1,12 +1,11 @@
 //! White space and comments between the parts of a text of mail.
-ghost use Rattle.std.specs.Prelude.{◌≡◌, ◌<◌, ◌≤◌, ◌+◌, ◌↔◌, IfSome, IfNone, IfOk, IfErr};
+ghost use Rattle.std.specs.Prelude.{◌≡◌, ◌<◌, ◌≤◌, ◌+◌, IfSome, IfOk, IfErr};
 ghost use Rattle.std.specs.Prelude.{IsTrue, length};
 ghost use Rattle.time_read.specs.Front.{Front};
-ghost use Rattle.time_read.specs.Space.{IsGap, IsSpace, Mark, NoFrontTo, NoSpace, after_byte};
-ghost use Rattle.time_read.specs.Space.{is_white, outside};
+ghost use Rattle.time_read.specs.Space.{IsGap, IsSpace, Mark, after_byte, is_white, outside};
 
 use crate::digits::after;
-use crate::not_mail::{MailFault, MailPart};
+use crate::fault::{Expected, MailPart, Unexpected};
 
 // How deep in comments a byte stands, and whether a backslash is before it.
 #[derive(Clone, Copy)]
@@ -24,7 +23,7 @@ fn is_white(byte: u8) -> bool
 
 // Whether a depth is outside of comments.
 fn is_outside(depth: Depth) -> bool
-    ensures { IsTrue result ↔ (depth ≡ outside) }
+    ensures { IsTrue result → (depth ≡ outside) }
 {
     depth.depth == 0 && !depth.is_escaped
 }
@@ -33,7 +32,6 @@ fn is_outside(depth: Depth) -> bool
 fn after_byte(depth: Depth, byte: u8) -> Option<Depth>
     requires { depth.depth < usize.MAX }
     ensures value { result ≡ after_byte depth byte }
-    ensures none { IfNone result (depth ≡ outside) }
     ensures shallow { IfSome result (λ next. next.depth ≤ depth.depth + 1) }
 {
     let Depth { depth, is_escaped } = depth;
@@ -70,12 +68,10 @@ fn after_byte(depth: Depth, byte: u8) -> Option<Depth>
 
 // What follows the white space and the comments that begin a text. A comment may hold others. A
 // text is refused only where a comment is open at its end.
-pub(crate) fn space(text: &[u8]) -> Result<&[u8], MailFault>
+pub(crate) fn space(text: &[u8]) -> Result<&[u8], Unexpected>
     ensures read { IfOk result (λ rest. Front IsSpace text.now rest.now) }
-    ensures stop { IfOk result (λ rest. NoSpace rest.now) }
     ensures shorter { IfOk result (λ rest. length rest.now ≤ length text.now) }
     ensures left { IfErr result (λ e. e.left ≤ length text.now) }
-    ensures none { IfErr result (λ _. NoFrontTo IsSpace text.now) }
 {
     let mut depth = Depth {
         depth: 0,
@@ -92,44 +88,39 @@ pub(crate) fn space(text: &[u8]) -> Result<&[u8], MailFault>
     if is_outside(depth) {
         return Ok(&text[at..]);
     }
-    Err(MailFault {
+    Err(Unexpected {
         left: 0,
-        expected: MailPart::CommentEnd,
+        expected: Expected::Mail(MailPart::CommentEnd),
     })
 }
 
 // The same, where there is some.
-pub(crate) fn gap(text: &[u8]) -> Result<&[u8], MailFault>
+pub(crate) fn gap(text: &[u8]) -> Result<&[u8], Unexpected>
     ensures read { IfOk result (λ rest. Front IsGap text.now rest.now) }
-    ensures stop { IfOk result (λ rest. NoSpace rest.now) }
     ensures shorter { IfOk result (λ rest. length rest.now ≤ length text.now) }
     ensures left { IfErr result (λ e. e.left ≤ length text.now) }
-    ensures none { IfErr result (λ _. NoFrontTo IsGap text.now) }
 {
     let rest = ok!(space(text));
     if rest.len() == text.len() {
-        return Err(MailFault {
+        return Err(Unexpected {
             left: text.len(),
-            expected: MailPart::Space,
+            expected: Expected::Mail(MailPart::Space),
         });
     }
     Ok(rest)
 }
 
 // What follows a byte that may stand between white space and comments.
-pub(crate) fn mark(text: &[u8], wanted: u8, expected: MailPart) -> Result<&[u8], MailFault>
-    requires { after_byte outside wanted ≡ None }
+pub(crate) fn mark(text: &[u8], wanted: u8) -> Result<&[u8], Unexpected>
     ensures read { IfOk result (λ rest. Front (Mark wanted) text.now rest.now) }
-    ensures stop { IfOk result (λ rest. NoSpace rest.now) }
     ensures shorter { IfOk result (λ rest. length rest.now ≤ length text.now) }
     ensures left { IfErr result (λ e. e.left ≤ length text.now) }
-    ensures none { IfErr result (λ _. NoFrontTo (Mark wanted) text.now) }
 {
     let rest = ok!(space(text));
     let Some(rest) = after(rest, wanted) else {
-        return Err(MailFault {
+        return Err(Unexpected {
             left: rest.len(),
-            expected,
+            expected: Expected::Byte(wanted),
         });
     };
     let rest = ok!(space(rest));

@@ -2,20 +2,19 @@
 //!
 //! The attributes are of the path of RFC 3339, whose texts cost twice as much without those of this
 //! crate.
-ghost use Rattle.std.specs.Prelude.{List, ℕ, ◌++◌, IfOk, IfErr};
-ghost use Rattle.time_known.specs.Rfc3339Grammar.{FullDate};
+ghost use Rattle.std.specs.Prelude.{IfOk, IfErr};
 ghost use Rattle.time_read.specs.Fault.{SpellsSome};
-ghost use Rattle.time_read.specs.Front.{Front, FieldFault, TextFault};
+ghost use Rattle.time_read.specs.Front.{TextFault};
 ghost use Rattle.time_read.specs.Profiles.{ReadsAs};
 ghost use Rattle.time_read.specs.declared.fault.Profile.{Profile};
 ghost use Rattle.time_read.specs.declared.fault.Profile.TheVariants as profile;
 
 use crate::days::{Day, date_of};
-use crate::digits::letter;
-use crate::fault::{Profile, Unexpected};
+use crate::digits::after_letter;
+use crate::fault::{Expected, Profile, Unexpected};
 use crate::parts::{clock, full_date};
 use crate::tail::fraction_and_offset;
-use time_below::{Date, OffsetDateTime, Time};
+use time_below::{OffsetDateTime, Time};
 
 // A profile as a type: each has a function of its own, in which the profile is known.
 pub(crate) trait Reads {
@@ -40,36 +39,7 @@ impl Reads for Lenient {
     const PROFILE: Profile = Profile::Lenient;
 }
 
-// Reads a date.
-#[inline(always)]
-pub(crate) fn date(text: &[u8]) -> Result<(Date, &[u8]), Unexpected>
-    ensures read { IfOk result (λ r. Front (FullDate r.0) text.now r.1.now) }
-    ensures fault { IfErr result (λ e. FieldFault 10 (SpellsSome FullDate) text.now e) }
-{
-    let (year, month, day, rest) = ok!(full_date(text));
-    Ok((date_of(Day { year, month, day }), rest))
-}
-
-// Reads what follows a date, to the end of the text.
-#[inline(always)]
-pub(crate) fn after_date(
-    date: Date,
-    text: &[u8],
-    profile: Profile,
-) -> Result<OffsetDateTime, Unexpected>
-    ensures read { IfOk result (λ v. (front : List ℕ)
-        → FullDate date front → ReadsAs profile v (front ++ text.now)) }
-    ensures fault { IfErr result (λ e. (front : List ℕ)
-        → FullDate date front → TextFault (SpellsSome (ReadsAs profile)) (front ++ text.now) e) }
-{
-    let rest = ok!(letter(text, b'T', profile));
-    let (hour, minute, second, rest) = ok!(clock(rest));
-    let (nanosecond, offset) = ok!(fraction_and_offset(rest, profile));
-    let time = Time::from_valid_hms_nano(hour, minute, second, nanosecond);
-    Ok(OffsetDateTime::new_in_offset(date, time, offset))
-}
-
-// Reads a whole text. What follows the date stands here again, so that it is no call.
+// Reads a whole text.
 #[inline(always)]
 pub(crate) fn value_of<P: Reads>(text: &[u8]) -> Result<OffsetDateTime, Unexpected>
     ensures read { IfOk result (λ v. ReadsAs P.PROFILE v text.now) }
@@ -78,7 +48,12 @@ pub(crate) fn value_of<P: Reads>(text: &[u8]) -> Result<OffsetDateTime, Unexpect
     let profile = P::PROFILE;
     let (year, month, day, rest) = ok!(full_date(text));
     let date = date_of(Day { year, month, day });
-    let after_t = ok!(letter(rest, b'T', profile));
+    let Some(after_t) = after_letter(rest, b'T', profile) else {
+        return Err(Unexpected {
+            expected: Expected::Letter(b'T', profile),
+            left: rest.len(),
+        });
+    };
     let (hour, minute, second, rest) = ok!(clock(after_t));
     let (nanosecond, offset) = ok!(fraction_and_offset(rest, profile));
     let time = Time::from_valid_hms_nano(hour, minute, second, nanosecond);

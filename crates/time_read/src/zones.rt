@@ -7,8 +7,8 @@ ghost use Rattle.time_read.specs.Front.{Front};
 ghost use Rattle.time_read.specs.MailLenient.{MeansZone, MilitaryZone, NamedZone, zone_at};
 
 use crate::digits::two_within;
-use crate::mail::sign;
-use crate::not_mail::{MailFault, MailPart};
+use crate::fault::{Expected, MailPart, Unexpected};
+use crate::offset::sign;
 
 // Reads a sign, two digits of hours up to 25 and two of minutes, or nothing.
 fn signed_zone(text: &[u8]) -> Option<(bool, u8, u8, &[u8])>
@@ -110,7 +110,7 @@ fn lettered_zone(text: &[u8]) -> Option<(u8, &[u8])>
 }
 
 // Reads a zone that has a meaning: whether it is behind UTC, and how many hours and minutes.
-pub(crate) fn zone(text: &[u8]) -> Result<(bool, u8, u8, &[u8]), MailFault>
+pub(crate) fn zone(text: &[u8]) -> Result<(bool, u8, u8, &[u8]), Unexpected>
     ensures read { IfOk result (λ r.
         Front (MeansZone (signed_offset r.0 r.1 r.2)) text.now r.3.now) }
     ensures hour { IfOk result (λ r. r.1 ≤ 25) }
@@ -123,9 +123,9 @@ pub(crate) fn zone(text: &[u8]) -> Result<(bool, u8, u8, &[u8]), MailFault>
     }
     match lettered_zone(text) {
         Some((hours, rest)) => Ok((true, hours, 0, rest)),
-        None => Err(MailFault {
+        None => Err(Unexpected {
             left: text.len(),
-            expected: MailPart::Zone,
+            expected: Expected::Mail(MailPart::Zone),
         }),
     }
 }

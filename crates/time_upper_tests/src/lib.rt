@@ -1,32 +1,28 @@
-//! Tests of the crates above the formatter by public calls: of `time_describe`, `time_plan`,
-//! `time_plan_read`, `time`, `time_jiff` and `time_serde`, of the lines of `docs/RATTLE.md` in
-//! Rattle, and of the recipes. One library reads all crates below once, and `time_describe` stands
-//! on `time_below` alone.
+//! Tests of the crates above `time_known`, by public calls, of what no contract says and no line of
+//! `time_rows` can hold. One library reads all crates below once.
 #![tactic(auto)]
 
 #[cfg(test)]
+mod asserted;
+#[cfg(test)]
 mod describe;
-#[cfg(test)]
-mod from_jiff;
-#[cfg(test)]
-mod from_strftime;
-#[cfg(test)]
-mod from_time;
 #[cfg(test)]
 mod jiff_values;
 #[cfg(test)]
-mod parse_calls;
+mod lines;
 #[cfg(test)]
-mod read_back;
+mod log_lines;
 #[cfg(test)]
-mod read_leniently;
+mod log_times;
 #[cfg(test)]
-mod recipes;
+mod parse_rfcs;
+#[cfg(test)]
+mod plans;
+#[cfg(test)]
+mod read;
 #[cfg(test)]
 mod serde_moments;
 #[cfg(test)]
-mod shown;
+mod streams;
 #[cfg(test)]
 mod time_calls;
-#[cfg(test)]
-mod values;

@@ -1,7 +1,7 @@
 //! What a program asks of the library itself: its version, and the words of reasons.
 ghost use Rattle.std.specs.Prelude.{◌≡◌, Ok};
 ghost use Rattle.movaliren_c.specs.Answer.{IsAnswer};
-ghost use Rattle.movaliren_c.specs.Words.{error_words, fault_words, words_numbered};
+ghost use Rattle.movaliren_c.specs.Words.{error_words, words_numbered};
 ghost use Rattle.time_fmt.specs.Outcome.{done};
 
 use crate::answers::reason::answer_number;
@@ -66,42 +66,5 @@ fn words_numbered(number: usize) -> &'static [u8]
         25 => b"the description has more items than there is room for".as_slice(),
         26 => b"the texts do not determine a moment".as_slice(),
         _ => b"unknown error".as_slice(),
-    }
-}
-
-/// The words of a reason why a text is no description, without the byte that it names.
-#[unsafe(no_mangle)]
-pub extern "C" fn movaliren_parse_strerror_r(kind: u8, buffer: &mut [u8]) -> isize
-    ensures { IsAnswer (Ok (done (fault_words kind))) result buffer.old buffer.new }
-{
-    answer_number(copy_text(fault_words(kind), buffer))
-}
-
-#[tactic(auto, unfolding(crate::specs::Words::fault_words))]
-fn fault_words(number: u8) -> &'static [u8]
-    ensures { result.now ≡ fault_words number }
-{
-    match number {
-        1 => b"unclosed bracket".as_slice(),
-        2 => b"invalid escape sequence".as_slice(),
-        3 => b"missing component name".as_slice(),
-        4 => b"unknown component".as_slice(),
-        5 => b"unknown modifier".as_slice(),
-        6 => b"invalid modifier value".as_slice(),
-        7 => b"missing modifier `count`".as_slice(),
-        8 => b"missing list of items".as_slice(),
-        9 => b"unexpected text".as_slice(),
-        10 => b"more than 32 lists in one another".as_slice(),
-        11 => b"more than 65536 items".as_slice(),
-        12 => b"unfinished conversion `%`".as_slice(),
-        13 => b"unknown conversion".as_slice(),
-        14 => b"unsupported conversion `%Z`".as_slice(),
-        15 => b"unsupported modifier".as_slice(),
-        16 => b"unsupported field width".as_slice(),
-        17 => b"unsupported flag".as_slice(),
-        18 => b"unsupported flag `%+`".as_slice(),
-        19 => b"second flag".as_slice(),
-        20 => b"no flag is allowed before".as_slice(),
-        _ => b"unknown reason".as_slice(),
     }
 }

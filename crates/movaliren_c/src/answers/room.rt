@@ -1,6 +1,4 @@
 //! Texts at the start of the buffer.
-//!
-//! Without `inline(always)` the compiler leaves calls of the functions that have it.
 ghost use Rattle.std.specs.Prelude.{◌≡◌, ◌≤◌, ◌+◌, ◌++◌, IfOk, drop, length};
 ghost use Rattle.movaliren_c.specs.Answer.{IsWritten};
 ghost use Rattle.time_fmt.specs.Outcome.{done};
@@ -25,7 +23,7 @@ pub fn copy_text(text: &[u8], room: &mut [u8]) -> Result<usize, Reason>
 /// Copies the text to the start of a buffer that has room for it. A text of eight to thirty-two
 /// bytes, as most have, needs no call.
 #[inline(always)]
-fn copy_over(text: &[u8], room: &mut [u8])
+pub fn copy_over(text: &[u8], room: &mut [u8])
     requires { length text.now ≤ length room.old }
     ensures { room.new ≡ text.now ++ drop (length text.now) room.old }
 {

@@ -1,6 +1,4 @@
 //! Descriptions from a text, in items or at once.
-//!
-//! `cold` and `inline(never)` keep long or rare bodies out of their callers.
 ghost use Rattle.std.specs.Prelude.{◌≡◌, ◌≤◌, IfOk, length};
 ghost use Rattle.movaliren_c.specs.Answer.{Answers, IsText};
 ghost use Rattle.movaliren_c.specs.Described.{Leaves, bracket_items, few, items_in, strftime_items};
@@ -26,19 +24,6 @@ const FEW: usize = 64;
 /// The items of the array that is tried first: one of all 64 costs more instructions. Where a text
 /// has more items, both arrays are on the stack.
 const USUAL: usize = 18;
-
-/// Reads the items of a text in brackets into an array.
-#[unsafe(no_mangle)]
-pub extern "C" fn movaliren_items_parse(
-    text: &[u8],
-    items: &mut [Item],
-    error: &mut ParseError,
-) -> isize
-    ensures { Answers result (λ answer. Leaves text.now (bracket_items text.now)
-        answer items.new error.old error.new) }
-{
-    answer_number(describe::<Brackets>(text, items, error))
-}
 
 /// The text of a moment in UTC by a description in brackets.
 #[unsafe(no_mangle)]
@@ -70,19 +55,6 @@ pub extern "C" fn movaliren_format_brackets_local(
 {
     let value = local_value(seconds, nanosecond, offset);
     answer_number(write_text::<Brackets, _>(text, value, buffer))
-}
-
-/// Reads the items of a text in the syntax of strftime into an array.
-#[unsafe(no_mangle)]
-pub extern "C" fn movaliren_items_parse_strftime(
-    text: &[u8],
-    items: &mut [Item],
-    error: &mut ParseError,
-) -> isize
-    ensures { Answers result (λ answer. Leaves text.now (strftime_items text.now)
-        answer items.new error.old error.new) }
-{
-    answer_number(describe::<Strftime>(text, items, error))
 }
 
 /// The text of a moment in UTC by a description in the syntax of strftime.
@@ -119,7 +91,7 @@ pub extern "C" fn movaliren_format_strftime_local(
 
 /// Reads the items of a text into an array, where each date and each time of day is one item then.
 /// If there are none, or they do not fit, the first item of the array is none.
-fn describe<S: Syntax<Reason: Numbered>>(
+pub fn describe<S: Syntax<Reason: Numbered>>(
     text: &[u8],
     items: &mut [Item],
     fault: &mut ParseError,

@@ -1,6 +1,4 @@
 //! The items of a description, as C passes them.
-//!
-//! Without `inline(always)` the compiler leaves calls of the functions that have it.
 ghost use Rattle.std.specs.Prelude.{◌≡◌, ◌<◌, ◌^◌, ◌∷◌, [], Err, IfNone, IfSome, Ok};
 ghost use Rattle.movaliren_c.specs.declared.answers.reason.Reason.TheVariants.{BadItem};
 ghost use Rattle.time_below.specs.Tree.{byte_literal};
@@ -163,9 +161,10 @@ fn component_at(
     time_component(kind, padding, flag, digits)
 }
 
+/// The component of an item with its choices.
 #[inline(always)]
 #[tactic(auto, unfolding(crate::specs::Items::component_of))]
-fn component_of(item: &Item) -> Result<Component, Reason>
+pub fn component_of(item: &Item) -> Result<Component, Reason>
     ensures { result ≡ component_of item.now }
 {
     let padding = padding_at(item.padding)?;
@@ -199,8 +198,7 @@ pub fn byte_of(item: &Item, texts: &[u8]) -> Option<u8>
     }
 }
 
-/// The kind of an item, and above it its choices and its byte. The compiler reads the five as one
-/// number.
+/// Returns the kind of an item, and above it its choices and its byte, as one number.
 pub fn head_of(item: &Item) -> u64
     ensures kind { result < 2 ^ 32 → item.now.kind ≡ result }
     ensures padding { result < 2 ^ 32 → item.now.padding ≡ 0 }

@@ -1,6 +1,4 @@
 //! Items at the start of an array.
-//!
-//! Without `inline(always)` the compiler leaves calls of the functions that have it.
 ghost use Rattle.std.specs.Prelude.{◌≡◌, ◌+◌, ◌<◌, ◌∷◌, [], List, ℕ, Option, None, length};
 ghost use Rattle.std.specs.Prelude.{◌++◌, min, nat_le, slice_set};
 ghost use Rattle.movaliren_c.specs.Described.{DescribeNothing, HoldsIn, HoldsItems, HoldsListsIn};
@@ -11,11 +9,10 @@ ghost use Rattle.time_describe.specs.Items.{Adds};
 ghost use Rattle.time_describe.specs.Reading.{Frame};
 
 use crate::described::item::Item;
-use crate::described::join::join_last;
-use crate::described::made_item::{NO_ITEM, byte_item, item_of, parted_item, text_item};
-use std::alloc::AllocError;
+use crate::described::join::{join_last, run_of};
+use crate::described::made_item::{NO_ITEM, byte_item, item_of, run_item, text_item};
 use time_below::format_description::Component;
-use time_describe::{Items, Nest, Parted};
+use time_describe::{Items, ListKind, Parted};
 
 /// Items at the start of an array, where each date and each time of day is one. Those that do not
 /// fit are counted alone. Those of lists that are not the first in their brackets are left out.
@@ -80,8 +77,8 @@ impl<'a> ItemRoom<'a> {
         make_none(self.array);
     }
 
-    /// Adds an item behind those that were made, if the array has room for it. It shows what so
-    /// many items of the text do, and one more.
+    /// Adds an item behind those that were made, if the array has room for it. It shows what one
+    /// item of the text does, and so many others.
     fn push(&mut self, item: Item, others: usize)
         ensures pushed { (text : List ℕ) (all more : List Tree) → length more ≡ others + 1
             → IsItem text item (all_of (trees more))
@@ -113,21 +110,18 @@ impl<'a> ItemRoom<'a> {
         self.push(item, 0);
     }
 
-    /// Makes one item of the last five where they are a date or a time of day: the last one is then
-    /// of the kind of a day or of a second.
+    /// Makes one item of the last five where they are a date or a time of day.
     #[tactic(auto, using(crate::proofs::ItemLemmas::fewer_held))]
-    fn join(&mut self, kind: u32)
+    fn join(&mut self)
         ensures same { (text : List ℕ) (fs : List Frame) (all : List Tree)
             → HoldsIn text fs self.old.array.now self.old.made self.old.rest self.old.hidden_at all
             → HoldsIn text fs self.new.array.now self.new.made self.new.rest
             self.new.hidden_at all }
         ensures same_reference { self.new.array.ghost_name ≡ self.old.array.ghost_name }
     {
-        if kind == 1 || kind == 27 {
-            let made = join_last(self.array, self.made);
-            self.rest = self.rest.saturating_add(self.made - made);
-            self.made = made;
-        }
+        let made = join_last(self.array, self.made);
+        self.rest = self.rest.saturating_add(self.made - made);
+        self.made = made;
     }
 }
 
@@ -153,7 +147,7 @@ fn closed_at(hidden_at: Option<usize>, depth: usize) -> Option<usize>
 }
 
 /// Makes the first item of an array none.
-fn make_none(array: &mut [Item])
+pub fn make_none(array: &mut [Item])
     ensures stored { 0 < length array.old → array.new ≡ slice_set array.old 0 no_item }
     ensures len { length array.new ≡ length array.old }
 {
@@ -163,7 +157,7 @@ fn make_none(array: &mut [Item])
 }
 
 impl Items for ItemRoom<'_> {
-    ghost use Rattle.std.specs.Prelude.{Some, false};
+    ghost use Rattle.std.specs.Prelude.{Some};
 
     ghost Holds = { λ text fs room items. HoldsIn text fs room.array.now room.made room.rest
         room.hidden_at items };
@@ -171,54 +165,42 @@ impl Items for ItemRoom<'_> {
     ghost HoldsLists = { λ text fs _ items room lists. HoldsListsIn text fs items room.array.now
         room.made room.rest room.hidden_at lists };
 
-    ghost can_refuse = { false };
-
     ghost lender = { λ room. Some room.array.ghost_name };
 
-    #[inline(always)]
-    fn put_component(&mut self, component: Component) -> Result<(), AllocError> {
-        let item = item_of(component);
-        self.put(item);
-        self.join(item.kind);
-        Ok(())
+    fn put_component(&mut self, component: Component) {
+        self.put(item_of(component));
+        self.join();
     }
 
-    fn put_byte(&mut self, byte: u8) -> Result<(), AllocError> {
+    fn put_byte(&mut self, byte: u8) {
         self.put(byte_item(byte));
-        Ok(())
     }
 
-    fn put_literal(&mut self, text: &[u8], start: usize, len: usize) -> Result<(), AllocError> {
+    fn put_parted(&mut self, parted: Parted) -> bool {
+        match run_of(parted) {
+            Some(run) => {
+                self.push(run_item(run), 4);
+                true
+            }
+            None => false,
+        }
+    }
+
+    fn put_literal(&mut self, text: &[u8], start: usize, len: usize) {
         self.put(text_item(text, start, len));
-        Ok(())
-    }
-
-    fn put_parted(&mut self, whole: Parted, first: u8, second: u8) -> Result<(), AllocError> {
-        self.push(parted_item(whole, first, second), 4);
-        Ok(())
-    }
-
-    #[tactic(auto, using(crate::proofs::ItemLemmas::counted_leaves))]
-    fn len(&self) -> usize {
-        self.count()
     }
 
     #[tactic(auto, using(crate::proofs::ItemLemmas::begun))]
-    fn begin_lists(&mut self) -> Result<(), AllocError> {
-        Ok(())
-    }
+    fn begin_lists(&mut self) {}
 
     #[tactic(auto, using(crate::proofs::ItemLemmas::opened))]
     fn open_list(&mut self, depth: usize, is_first: bool) {
         self.hidden_at = opened_at(self.hidden_at, is_first, depth);
     }
 
-    fn close_list(&mut self, depth: usize) -> Result<(), AllocError> {
+    fn close_list(&mut self, depth: usize) {
         self.hidden_at = closed_at(self.hidden_at, depth);
-        Ok(())
     }
 
-    fn end_lists(&mut self, _nest: Nest) -> Result<(), AllocError> {
-        Ok(())
-    }
+    fn end_lists(&mut self, _kind: ListKind) {}
 }

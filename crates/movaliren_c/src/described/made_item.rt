@@ -1,18 +1,15 @@
 //! The items of components and literals.
-//!
-//! Without `inline(always)` the compiler leaves calls of the functions that have it.
 ghost use Rattle.std.specs.Prelude.{◌≡◌, ◌≤◌, ◌<◌, ◌+◌, ◌∷◌, [], ℕ, List, MatchOption, Ok, false};
 ghost use Rattle.std.specs.Prelude.{length, slice_range};
-ghost use Rattle.movaliren_c.specs.Described.{IsItem, IsItemOf, is_shown, run_of};
+ghost use Rattle.movaliren_c.specs.Described.{IsItem, IsItemOf, is_shown, item_of_run};
 ghost use Rattle.movaliren_c.specs.Items.{component_at, component_of, digits_at, padding_at};
-ghost use Rattle.time_below.specs.Tree.{all_of, of_component, trees};
-ghost use Rattle.time_describe.specs.Items.{parted};
+ghost use Rattle.time_below.specs.Tree.{of_component};
 ghost use Rattle.time_describe.specs.Literal.{literal_of};
 
 use crate::described::item::Item;
 use time_below::format_description::Component;
 use time_below::format_description::modifier::{Padding, SubsecondDigits};
-use time_describe::Parted;
+use time_plan::Run;
 
 /// A text of no bytes.
 const NO_TEXT: Item = Item {
@@ -174,27 +171,18 @@ pub fn text_item(text: &[u8], start: usize, len: usize) -> Item
     }
 }
 
-/// The date or the time of day of this kind, with these bytes between its parts.
-pub fn run_item(kind: u32, first: u8, second: u8) -> Item
-    ensures { result ≡ run_of kind first second }
+/// The item of a date or of a time of day.
+pub fn run_item(run: Run) -> Item
+    ensures { result ≡ item_of_run run }
 {
+    let (kind, between) = match run {
+        Run::Date(between) => (253, between),
+        Run::Time(between) => (252, between),
+    };
     Item {
         kind,
-        start: usize::from(first),
-        len: usize::from(second),
+        start: usize::from(between.first),
+        len: usize::from(between.second),
         ..NO_ITEM
-    }
-}
-
-/// The item of a date or of a time of day, with these bytes of ASCII between its parts.
-#[tactic(auto, using(crate::proofs::JoinLemmas::date_is, crate::proofs::JoinLemmas::time_is))]
-pub fn parted_item(whole: Parted, first: u8, second: u8) -> Item
-    requires first { first < 128 }
-    requires second { second < 128 }
-    ensures { (text : List ℕ) → IsItem text result (all_of (trees (parted whole first second))) }
-{
-    match whole {
-        Parted::Date => run_item(253, first, second),
-        Parted::Time => run_item(252, first, second),
     }
 }

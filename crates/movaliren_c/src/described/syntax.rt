@@ -1,10 +1,10 @@
 //! What is wrong in a text that is no description, as C has it, and the items of one that is.
 ghost use Rattle.std.specs.Prelude.{◌≡◌, ◌+◌, ℕ, None, Err, OnOk, IfErr};
-ghost use Rattle.movaliren_c.specs.Described.{IsHeld, bracket_number, fault_at, items_in, many};
+ghost use Rattle.movaliren_c.specs.Described.{IsHeld, bracket_number, fault_at, items_in, long, many};
 ghost use Rattle.movaliren_c.specs.Described.{strftime_number};
 
 use crate::described::item_room::ItemRoom;
-use time_describe::{BracketReason, InvalidDescription, StrftimeReason, Syntax, describe};
+use time_describe::{BracketReason, StrftimeReason, Syntax};
 
 /// Why a text gave no items.
 #[repr(C)]
@@ -29,6 +29,16 @@ impl ParseError {
             at: index,
             kind: number.0,
             byte: number.1,
+            ..ParseError::many(0)
+        }
+    }
+
+    /// A text of more bytes than this many, for which there is room.
+    pub fn long(most: usize) -> ParseError
+        ensures { result ≡ long most }
+    {
+        ParseError {
+            at: most,
             ..ParseError::many(0)
         }
     }
@@ -110,11 +120,8 @@ pub fn put_items<S: Syntax<Reason: Numbered>>(
         ≡ Err f) }
     ensures same_reference { items.new.array.ghost_name ≡ items.old.array.ghost_name }
 {
-    match describe::<S, ItemRoom<'_>>(items, text) {
+    match S::put_all::<ItemRoom<'_>>(items, text) {
         Ok(()) => Ok(()),
-        Err(InvalidDescription::OutOfMemory) => unreachable!(),
-        Err(InvalidDescription::Invalid { reason, index }) => {
-            Err(ParseError::at(index, reason.number()))
-        }
+        Err(fault) => Err(ParseError::at(fault.index_in(text), fault.reason.number())),
     }
 }

@@ -1,10 +1,6 @@
 //! ISO 8601-1:2019, by its default configuration and by any other.
-//!
-//! `inline(never)` keeps a long body out of its callers. Without `inline(always)` the compiler
-//! leaves calls of the function that has it.
 ghost use Rattle.std.specs.Prelude.{◌≡◌, ◌≢◌, ◌<◌, ◌≤◌, IfErr, IfOk, IsFalse, IsTrue, Ok, length};
 ghost use Rattle.movaliren_c.specs.Answer.{IsAnswer, IsRefusedFor, IsText, IsWritten, gives};
-ghost use Rattle.movaliren_c.specs.Batch.{IsBatch};
 ghost use Rattle.movaliren_c.specs.Chosen.{HavePlaces, iso8601_by, separated};
 ghost use Rattle.movaliren_c.specs.Utc.{local_value, utc_value};
 ghost use Rattle.movaliren_c.specs.Value.{moment_value};
@@ -16,12 +12,11 @@ ghost use Rattle.time_known.specs.Iso8601Width.{iso8601_width};
 
 mod config;
 
-use crate::answers::batch::{Progress, write_lines};
 use crate::answers::reason::{Reason, answer_number};
 use crate::answers::room::copy_text;
 use crate::answers::writer::Writer;
 use crate::formats::moment_text::{MomentFormat, answer_at, texts_of};
-use crate::values::moment::{Moment, UtcMoment};
+use crate::values::moment::Moment;
 use crate::values::source::{AtOffset, ByParts, InUtc, Source};
 use config::separated_config_at;
 pub use config::{Iso8601Config, config_at};
@@ -29,7 +24,7 @@ use std::default::Default;
 use std::marker::Brand;
 use time_below::{OffsetDateTime, UtcOffset};
 use time_digits::ru8;
-use time_fmt::{Before, RoomSink};
+use time_fmt::{OldBytes, SliceSink};
 use time_known::fields::accepted_fields;
 use time_known::iso8601::{
     Config, DateKind, DecimalSign, FormattedComponents, OffsetPrecision, SeparatedText,
@@ -60,7 +55,6 @@ impl MomentFormat for Iso8601 {
 
     fn text(self, value: &OffsetDateTime) -> Result<SeparatedText, Reason> {
         let usual = Usual {
-            has_separators: true,
             decimal_digits: ru8::new(9),
             decimal_sign: DecimalSign::Point,
         };
@@ -113,35 +107,6 @@ pub extern "C" fn movaliren_iso8601_local(
 {
     let texts = texts_of(Iso8601, AtOffset(offset));
     answer_at(&texts, seconds, nanosecond, buffer)
-}
-
-/// The texts of ISO 8601 of the moments by the default configuration, one after another, each ended
-/// by this byte.
-#[unsafe(no_mangle)]
-pub extern "C" fn movaliren_iso8601_batch(
-    moments: &[Moment],
-    end: u8,
-    buffer: &mut [u8],
-) -> Progress
-    ensures { IsBatch moments.now end (λ m. gives (moment_value m) (iso8601_of default_choices))
-        result buffer.old buffer.new }
-{
-    write_lines(&texts_of(Iso8601, ByParts), moments, end, buffer)
-}
-
-/// The texts of ISO 8601 of the moments in UTC by the default configuration, one after another,
-/// each ended by this byte.
-#[unsafe(no_mangle)]
-pub extern "C" fn movaliren_iso8601_utc_batch(
-    moments: &[UtcMoment],
-    end: u8,
-    buffer: &mut [u8],
-) -> Progress
-    ensures { IsBatch moments.now end
-        (λ m. gives (utc_value m.seconds m.nanosecond) (iso8601_of default_choices))
-        result buffer.old buffer.new }
-{
-    write_lines(&texts_of(Iso8601, InUtc), moments, end, buffer)
 }
 
 /// The format of ISO 8601 by a configuration, over the moments of a source.
@@ -223,40 +188,8 @@ pub extern "C" fn movaliren_iso8601_with_local(
     answer_at(&texts, seconds, nanosecond, buffer)
 }
 
-/// The texts of ISO 8601 of the moments by a configuration, one after another, each ended by this
-/// byte.
-#[unsafe(no_mangle)]
-pub extern "C" fn movaliren_iso8601_with_batch(
-    config: &Iso8601Config,
-    moments: &[Moment],
-    end: u8,
-    buffer: &mut [u8],
-) -> Progress
-    ensures { IsBatch moments.now end (λ m. iso8601_by config.now (moment_value m))
-        result buffer.old buffer.new }
-{
-    write_lines(&iso8601_by(config, ByParts), moments, end, buffer)
-}
-
-/// The texts of ISO 8601 of the moments in UTC by a configuration, one after another, each ended by
-/// this byte.
-#[unsafe(no_mangle)]
-pub extern "C" fn movaliren_iso8601_with_utc_batch(
-    config: &Iso8601Config,
-    moments: &[UtcMoment],
-    end: u8,
-    buffer: &mut [u8],
-) -> Progress
-    ensures { IsBatch moments.now end
-        (λ m. iso8601_by config.now (utc_value m.seconds m.nanosecond))
-        result buffer.old buffer.new }
-{
-    write_lines(&iso8601_by(config, InUtc), moments, end, buffer)
-}
-
 impl<S: Source> Iso8601By<S> {
-    /// Puts the text of the value by such choices with separators at the start of the buffer. Each
-    /// source has one call of a function of its own, so that the compiler can inline it.
+    /// Puts the text of the value by such choices with separators at the start of the buffer.
     fn put_usual(
         &self,
         usual: &Usual,
@@ -367,7 +300,7 @@ fn write_by_array(config: &Config, value: &OffsetDateTime, room: &mut [u8]) -> R
 }
 
 /// Puts the parts at the start of a buffer that holds them, up to what is refused.
-fn put_at_once<B: Before>(
+fn put_at_once<B: OldBytes>(
     config: &Config,
     value: &OffsetDateTime,
     state: &mut DateState,
@@ -383,7 +316,7 @@ fn put_at_once<B: Before>(
     ensures refused { IfErr result (λ r. IsRefusedFor r (iso8601_of config.now value.now)) }
     ensures len { length room.new ≡ length room.old }
 {
-    let mut sink = RoomSink::<B>::new(room);
+    let mut sink = SliceSink::<B>::new(room);
     put_parts(&mut sink, config, value, state)?;
     Ok(sink.len())
 }

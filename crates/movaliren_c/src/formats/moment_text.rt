@@ -1,6 +1,4 @@
 //! Formats of moments, whose texts are written without an allocation.
-//!
-//! `cold` and `inline(never)` keep a rare body out of its callers.
 ghost use Rattle.std.specs.Prelude.{◌≡◌, ◌≤◌, ℕ, IfOk, IfErr, length};
 ghost use Rattle.movaliren_c.specs.Answer.{IsAnswer, IsRefusedFor, IsText, IsWritten, gives};
 ghost use Rattle.time_below.specs.Moment.{OffsetDateAndTime};
@@ -66,8 +64,7 @@ impl<F: MomentFormat, S: Source> Writer for Texts<F, S> {
 }
 
 impl<F: MomentFormat, S: Source> Texts<F, S> {
-    /// Puts the text of the value at the start of a buffer that holds every text. Each format and
-    /// source has one call of a function of its own, so that the compiler can inline it.
+    /// Puts the text of the value at the start of a buffer that holds every text.
     fn put(&self, value: &OffsetDateTime, room: &mut [u8]) -> Result<usize, Reason>
         requires room { F.WIDTH ≤ length room.old }
         ensures { IsWritten result (F.outcome self.now.format value.now) room.old room.new }

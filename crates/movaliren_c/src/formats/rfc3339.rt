@@ -1,15 +1,13 @@
 //! RFC 3339, section 5.6.
 ghost use Rattle.movaliren_c.specs.Answer.{IsAnswer, gives};
-ghost use Rattle.movaliren_c.specs.Batch.{IsBatch};
 ghost use Rattle.movaliren_c.specs.Utc.{local_value, utc_value};
 ghost use Rattle.movaliren_c.specs.Value.{moment_value};
 ghost use Rattle.time_known.specs.Rfc3339.{rfc3339_of};
 
-use crate::answers::batch::{Progress, write_lines};
 use crate::answers::reason::{Reason, answer_number};
 use crate::answers::writer::Writer;
 use crate::formats::moment_text::{MomentFormat, answer_at, texts_of};
-use crate::values::moment::{Moment, UtcMoment};
+use crate::values::moment::Moment;
 use crate::values::source::{AtOffset, ByParts, InUtc};
 use std::default::Default;
 use time_below::OffsetDateTime;
@@ -66,46 +64,4 @@ pub extern "C" fn movaliren_rfc3339_local(
 {
     let texts = texts_of(Rfc3339, AtOffset(offset));
     answer_at(&texts, seconds, nanosecond, buffer)
-}
-
-/// The texts of RFC 3339 of the moments, one after another, each ended by this byte.
-#[unsafe(no_mangle)]
-pub extern "C" fn movaliren_rfc3339_batch(
-    moments: &[Moment],
-    end: u8,
-    buffer: &mut [u8],
-) -> Progress
-    ensures { IsBatch moments.now end (λ m. gives (moment_value m) rfc3339_of)
-        result buffer.old buffer.new }
-{
-    write_lines(&texts_of(Rfc3339, ByParts), moments, end, buffer)
-}
-
-/// The texts of RFC 3339 of the moments in UTC, one after another, each ended by this byte.
-#[unsafe(no_mangle)]
-pub extern "C" fn movaliren_rfc3339_utc_batch(
-    moments: &[UtcMoment],
-    end: u8,
-    buffer: &mut [u8],
-) -> Progress
-    ensures { IsBatch moments.now end (λ m. gives (utc_value m.seconds m.nanosecond) rfc3339_of)
-        result buffer.old buffer.new }
-{
-    write_lines(&texts_of(Rfc3339, InUtc), moments, end, buffer)
-}
-
-/// The texts of RFC 3339 of the moments, at an offset of this many seconds east of UTC, one after
-/// another, each ended by this byte.
-#[unsafe(no_mangle)]
-pub extern "C" fn movaliren_rfc3339_local_batch(
-    moments: &[UtcMoment],
-    offset: i64,
-    end: u8,
-    buffer: &mut [u8],
-) -> Progress
-    ensures { IsBatch moments.now end
-        (λ m. gives (local_value m.seconds m.nanosecond offset) rfc3339_of)
-        result buffer.old buffer.new }
-{
-    write_lines(&texts_of(Rfc3339, AtOffset(offset)), moments, end, buffer)
 }

@@ -1,13 +1,10 @@
 //! Stamps: texts of moments in UTC whose bytes are in the order of the moments.
 ghost use Rattle.movaliren_c.specs.Answer.{IsAnswer, gives};
-ghost use Rattle.movaliren_c.specs.Batch.{IsBatch};
 ghost use Rattle.movaliren_c.specs.Utc.{utc_stamp_of, utc_value};
 ghost use Rattle.time_known.specs.Stamps.{stamp_length};
 
-use crate::answers::batch::{Progress, write_lines};
 use crate::answers::reason::Reason;
 use crate::formats::moment_text::{MomentFormat, answer_at, texts_of};
-use crate::values::moment::UtcMoment;
 use crate::values::source::InUtc;
 use std::default::Default;
 use time_below::{OffsetDateTime, UtcDateTime};
@@ -42,17 +39,4 @@ pub extern "C" fn movaliren_stamp_utc(seconds: i64, nanosecond: u32, buffer: &mu
         result buffer.old buffer.new }
 {
     answer_at(&texts_of(Stamp, InUtc), seconds, nanosecond, buffer)
-}
-
-/// The stamps of the moments, one after another, each ended by this byte.
-#[unsafe(no_mangle)]
-pub extern "C" fn movaliren_stamp_utc_batch(
-    moments: &[UtcMoment],
-    end: u8,
-    buffer: &mut [u8],
-) -> Progress
-    ensures { IsBatch moments.now end (λ m. gives (utc_value m.seconds m.nanosecond) utc_stamp_of)
-        result buffer.old buffer.new }
-{
-    write_lines(&texts_of(Stamp, InUtc), moments, end, buffer)
 }

@@ -1,7 +1,6 @@
 //! Texts of ISO 8601, read back as moments.
 ghost use Rattle.std.specs.Prelude.{◌≡◌, IfNone, IfSome};
 ghost use Rattle.movaliren_c.specs.Chosen.{choices_at};
-ghost use Rattle.movaliren_c.specs.Place.{place_of};
 ghost use Rattle.movaliren_c.specs.ReadIso.{Iso8601Reads, IsReadByChoices, TellsMoment};
 ghost use Rattle.movaliren_c.specs.ReadIso.{TellsMomentInUtc};
 ghost use Rattle.movaliren_c.specs.Reading.{IsByParts, IsInUtc, IsRead};
@@ -110,7 +109,7 @@ pub extern "C" fn movaliren_read_iso8601(
     moment: &mut Moment,
     error: &mut ReadError,
 ) -> isize
-    ensures { IsRead (Iso8601Reads default_choices) place_of IsByParts text.now result
+    ensures { IsRead (Iso8601Reads default_choices) IsByParts text.now result
         moment.old moment.new error.old error.new }
 {
     keep(by_default(text), moment, error)
@@ -123,7 +122,7 @@ pub extern "C" fn movaliren_read_iso8601_utc(
     moment: &mut UtcMoment,
     error: &mut ReadError,
 ) -> isize
-    ensures { IsRead (Iso8601Reads default_choices) place_of IsInUtc text.now result
+    ensures { IsRead (Iso8601Reads default_choices) IsInUtc text.now result
         moment.old moment.new error.old error.new }
 {
     keep(by_default(text), moment, error)

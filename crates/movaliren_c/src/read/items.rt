@@ -1,28 +1,28 @@
 //! Texts by a description, read back as moments.
-ghost use Rattle.std.specs.Prelude.{◌≡◌, ℕ, IfErr, IfOk, List, MatchResult, Ok, Result, map};
+ghost use Rattle.std.specs.Prelude.{◌≡◌, ◌≤◌, ℕ, Err, IfErr, IfOk, IsOk, IsTrue, List, MatchResult};
+ghost use Rattle.std.specs.Prelude.{Result, length, take};
 ghost use Rattle.movaliren_c.specs.Items.{trees_of};
-ghost use Rattle.movaliren_c.specs.ReadItems.{HasText, HasTextInUtc, HasTextOfMoment, IsNoText};
-ghost use Rattle.movaliren_c.specs.ReadItems.{IsKindOf, IsPlaceBy, IsReadBy, IsTextOf, IsUnread};
-ghost use Rattle.movaliren_c.specs.ReadItems.{LeavesRead, read_tree};
-ghost use Rattle.movaliren_c.specs.Steps.{IsRight, trees_by};
-ghost use Rattle.movaliren_c.specs.Value.{timestamp_value};
+ghost use Rattle.movaliren_c.specs.ReadItems.{HasText, HasTextOfMoment, IsKindOf, IsOfUtc, IsPlaceBy};
+ghost use Rattle.movaliren_c.specs.ReadItems.{IsReadBy, IsTextOf, IsUnread, LeavesRead, read_tree};
 ghost use Rattle.movaliren_c.specs.declared.answers.reason.Reason.{Reason};
-ghost use Rattle.time_below.specs.Tree.{Tree, trees};
-ghost use Rattle.time_fmt.specs.Description.{trees_outcome};
-ghost use Rattle.time_fmt.specs.Outcome.{done};
+ghost use Rattle.time_below.specs.Tree.{Tree};
 
 use crate::answers::reason::{Reason, answer_number};
 use crate::described::item::{Item, Part, part_of};
 use crate::described::made_item::item_of;
+use crate::described::{SHORT, first_reason, width, write_items};
 use crate::read::OfValue;
-use crate::read::place::ReadError;
-use crate::read::steps::{KEPT, first_steps, no_step, put_steps};
+use crate::read::place::{ReadError, place_of};
 use crate::values::moment::{Moment, UtcMoment};
+use std::default::Default;
+use std::marker::Brand;
 use time_below::format_description::Component;
-use time_below::{OffsetDateTime, Timestamp};
-use time_plan::{Run, Shown};
-use time_plan_read::{
-    LiteralRef, Mismatch, NotRead, ReadStep, Readable, StepParts, reader_of_steps,
+use time_below::{OffsetDateTime, UtcDateTime};
+use time_plan::Shown;
+use time_provide::ComponentProvider;
+use time_read::{
+    Expected, Kinds, LiteralRef, Mismatch, NotRead, ReadStep, Readable, StepParts, readable_kinds,
+    reader_by_kinds,
 };
 
 /// Why no moment is read.
@@ -34,12 +34,24 @@ pub enum Unread {
     At(NotRead),
 }
 
+/// How texts of a description are read as moments. It is made once for all texts.
+#[derive(Clone, Copy)]
+pub enum Way {
+    /// They do not determine a moment.
+    Undetermined,
+    /// As a date and a time in UTC, or as Unix time, by these components.
+    InUtc(Kinds),
+    /// As a date and a time with their offset, by these components.
+    WithOffset(Kinds),
+}
+
 impl ReadStep for Item {
     ghost tree_of = { read_tree };
 
-    #[tactic(auto, using(time_plan_read::proofs::StepLemmas::component_alone, crate::proofs::StepLemmas::run_alone, time_plan_read::proofs::StepLemmas::literal_alone, time_plan_read::proofs::StepLemmas::nothing_alone))]
+    #[inline(always)]
+    #[tactic(auto, using(time_read::proofs::StepLemmas::component_alone, crate::proofs::StepLemmas::run_alone, time_read::proofs::StepLemmas::literal_alone, time_read::proofs::StepLemmas::nothing_alone))]
     fn parts<'a>(&'a self, texts: &'a [u8]) -> StepParts<'a> {
-        let empty = Shown::Run(Run::Empty);
+        let empty = Shown::Nothing;
         let none = LiteralRef::Bytes([].as_slice());
         let (shown, literal) = match part_of(self, texts) {
             Ok(Part::Component(component)) => (Shown::Component(component), none),
@@ -52,57 +64,128 @@ impl ReadStep for Item {
     }
 }
 
-/// A description by its items, and by its steps where these are kept.
-#[derive(Clone, Copy)]
-pub struct Description<'a> {
-    items: &'a [Item],
-    texts: &'a [u8],
-    steps: Option<&'a [StepParts<'a>]>,
-}
-
 /// A moment that is read by a description.
 pub trait OfText: Copy {
     /// Whether this is its text by the description.
     ghost HasText: { Result (List Tree) Reason → List ℕ → Self → Type 0 };
 
     /// The moment of the text, or why none is read.
-    fn of_text(description: &Description<'_>, text: &[u8]) -> Result<Self, Unread>
-        requires right { IsRight description.now }
-        ensures read { MatchResult result (HasText (trees_by description.now) text.now)
-            (IsUnread (trees_by description.now) text.now) };
+    fn of_text(items: &[Item], texts: &[u8], way: Way, text: &[u8]) -> Result<Self, Unread>
+        ensures read { MatchResult result (HasText (trees_of texts.now items.now) text.now)
+            (IsUnread (trees_of texts.now items.now) text.now) };
 }
 
-/// The value that the steps write as this text, or why none is read.
-fn value_by<T: ReadStep, V: Readable>(steps: &[T], texts: &[u8], text: &[u8]) -> Result<V, Unread>
+/// How texts of the items are read as moments.
+pub fn way_of(items: &[Item], texts: &[u8]) -> Way {
+    if let Ok(kinds) = readable_kinds::<Item, OffsetDateTime>(items, texts) {
+        return Way::WithOffset(kinds);
+    }
+    match readable_kinds::<Item, UtcDateTime>(items, texts) {
+        Ok(kinds) => Way::InUtc(kinds),
+        Err(_) => Way::Undetermined,
+    }
+}
+
+/// The value whose text by the items is this text, or why none is read.
+///
+/// A short text is written at once and compared, for the row "a reading by a description, from C".
+/// Any other is read step by step, which also finds the fault.
+fn value_of<V: Readable>(
+    items: &[Item],
+    texts: &[u8],
+    kinds: Kinds,
+    text: &[u8],
+) -> Result<V, Unread>
 where
     V::State: Drop,
     V: Drop,
     ensures read { IfOk result (λ v.
-        trees_outcome (trees (map (T.tree_of texts.now) steps.now)) (V.facts v) ≡ done text.now) }
-    ensures unread { IfErr result (IsNoText text.now) }
+        IsTextOf (trees_of texts.now items.now) (V.facts v) text.now) }
+    ensures unread { IfErr result (IsUnread (trees_of texts.now items.now) text.now) }
 {
-    let Ok(reader) = reader_of_steps::<T, V>(steps, texts) else {
-        return Err(Unread::Never(Reason::Undetermined));
-    };
-    match reader.read(text) {
+    match reader_by_kinds::<Item, V>(items, texts, kinds).candidate(text) {
+        Some(value) if is_text_of(items, texts, &value, text) => Ok(value),
+        _ => read_any(items, texts, kinds, text),
+    }
+}
+
+/// Whether the text of a value by the items is this text. Of a long text the answer is no.
+#[tactic(auto, using(crate::proofs::ReadItemLemmas::text_shown))]
+fn is_text_of<V: ComponentProvider>(items: &[Item], texts: &[u8], value: &V, text: &[u8]) -> bool
+where
+    V::State: Drop,
+    ensures { IsTrue result
+        → IsTextOf (trees_of texts.now items.now) (V.facts value.now) text.now }
+{
+    let mut line = [0u8; SHORT];
+    let mut state = V::State::default();
+    match write_items::<Brand, V>(items, texts, value, &mut state, &mut line) {
+        Ok(count) if count <= SHORT => is_start(&line, count, text),
+        _ => false,
+    }
+}
+
+/// Whether so many bytes of an array are this text.
+fn is_start(line: &[u8], count: usize, text: &[u8]) -> bool
+    requires { count ≤ length line.now }
+    ensures { IsTrue result → take count line.now ≡ text.now }
+{
+    &line[..count] == text
+}
+
+/// The same value of any text, step by step, which also finds the fault of another one.
+#[cold]
+#[inline(never)]
+#[tactic(auto, using(crate::proofs::ReadItemLemmas::never_read))]
+fn read_any<V: Readable>(
+    items: &[Item],
+    texts: &[u8],
+    kinds: Kinds,
+    text: &[u8],
+) -> Result<V, Unread>
+where
+    V::State: Drop,
+    V: Drop,
+    ensures read { IfOk result (λ v.
+        IsTextOf (trees_of texts.now items.now) (V.facts v) text.now) }
+    ensures unread { IfErr result (IsUnread (trees_of texts.now items.now) text.now) }
+{
+    match tested(items, texts) {
+        Ok(()) => read_valid(items, texts, kinds, text),
+        Err(reason) => Err(Unread::Never(reason)),
+    }
+}
+
+/// The same by items of which each is valid.
+#[tactic(auto, using(crate::proofs::ReadItemLemmas::text_by_items))]
+fn read_valid<V: Readable>(
+    items: &[Item],
+    texts: &[u8],
+    kinds: Kinds,
+    text: &[u8],
+) -> Result<V, Unread>
+where
+    V::State: Drop,
+    V: Drop,
+    requires valid { IsOk (trees_of texts.now items.now) }
+    ensures read { IfOk result (λ v.
+        IsTextOf (trees_of texts.now items.now) (V.facts v) text.now) }
+    ensures unread { IfErr result (IsUnread (trees_of texts.now items.now) text.now) }
+{
+    match reader_by_kinds::<Item, V>(items, texts, kinds).read(text) {
         Ok(value) => Ok(value),
         Err(fault) => Err(Unread::At(fault)),
     }
 }
 
-/// The value whose text by the description is this text, or why none is read.
-#[tactic(auto, using(crate::proofs::ReadItemLemmas::read_by_items, crate::proofs::ReadItemLemmas::read_by_steps, crate::proofs::ReadItemLemmas::unread_by_valid))]
-fn value_of<V: Readable>(description: &Description<'_>, text: &[u8]) -> Result<V, Unread>
-where
-    V::State: Drop,
-    V: Drop,
-    requires right { IsRight description.now }
-    ensures read { IfOk result (λ v. IsTextOf (trees_by description.now) (V.facts v) text.now) }
-    ensures unread { IfErr result (IsUnread (trees_by description.now) text.now) }
+/// The reason of the first item that is invalid, if one is.
+fn tested(items: &[Item], texts: &[u8]) -> Result<(), Reason>
+    ensures { MatchResult result (λ _. IsOk (trees_of texts.now items.now))
+        (λ reason. trees_of texts.now items.now ≡ Err reason) }
 {
-    match description.steps {
-        Some(steps) => value_by::<StepParts<'_>, V>(steps, &[], text),
-        None => value_by::<Item, V>(description.items, description.texts, text),
+    match width(items, texts) {
+        Ok(_) => Ok(()),
+        Err(reason) => Err(reason),
     }
 }
 
@@ -117,20 +200,16 @@ fn kind_number(component: Component) -> u8
 fn place_by_items(fault: NotRead) -> ReadError
     ensures { IsPlaceBy fault result }
 {
-    let (expected, first, last) = match fault.reason {
-        Mismatch::Literal(byte) => (2, byte, byte),
-        Mismatch::End => (7, 0, 0),
-        Mismatch::Component(component) => (24, kind_number(component), 0),
-        Mismatch::NoValue(component) => (25, kind_number(component), 0),
-        Mismatch::Otherwise => (26, 0, 0),
+    let place = place_of(fault);
+    let (expected, first) = match fault.expected {
+        Expected::Plan(Mismatch::Component(component)) => (24, kind_number(component)),
+        Expected::Plan(Mismatch::NoValue(component)) => (25, kind_number(component)),
+        _ => return place,
     };
     ReadError {
-        at: fault.at,
         expected,
         first,
-        last,
-        is_lenient: 0,
-        is_second_60: 0,
+        ..place
     }
 }
 
@@ -154,34 +233,15 @@ fn leave<M: Copy>(read: Result<M, Unread>, moment: &mut M, error: &mut ReadError
 impl OfText for Moment {
     ghost HasText = { HasText };
 
-    fn of_text(description: &Description<'_>, text: &[u8]) -> Result<Moment, Unread> {
-        match value_of::<OffsetDateTime>(description, text) {
+    #[tactic(auto, using(crate::proofs::ReadItemLemmas::undetermined_by))]
+    fn of_text(items: &[Item], texts: &[u8], way: Way, text: &[u8]) -> Result<Moment, Unread> {
+        let Way::WithOffset(kinds) = way else {
+            return Err(Unread::Never(first_reason(items, texts, Reason::Undetermined)));
+        };
+        match value_of::<OffsetDateTime>(items, texts, kinds, text) {
             Ok(value) => Ok(Moment::of_value(value)),
             Err(unread) => Err(unread),
         }
-    }
-}
-
-/// A moment by its seconds and its nanosecond.
-#[tactic(auto, using(crate::proofs::ReadItemLemmas::timestamp_of_parts))]
-fn utc_parts(moment: Timestamp) -> UtcMoment
-    ensures { timestamp_value result.seconds result.nanosecond ≡ Ok moment }
-{
-    UtcMoment {
-        seconds: moment.as_seconds(),
-        nanosecond: moment.as_parts().1,
-    }
-}
-
-/// The moment in UTC whose text by the description is this text.
-fn moment_in_utc(description: &Description<'_>, text: &[u8]) -> Result<UtcMoment, Unread>
-    requires right { IsRight description.now }
-    ensures read { MatchResult result (HasTextInUtc (trees_by description.now) text.now)
-        (IsUnread (trees_by description.now) text.now) }
-{
-    match value_of::<Timestamp>(description, text) {
-        Ok(value) => Ok(utc_parts(value)),
-        Err(unread) => Err(unread),
     }
 }
 
@@ -190,20 +250,41 @@ impl OfText for UtcMoment {
 
     /// The moment is that of a local date and time with its offset, or in UTC where the description
     /// shows no offset.
-    fn of_text(description: &Description<'_>, text: &[u8]) -> Result<UtcMoment, Unread> {
-        match value_of::<OffsetDateTime>(description, text) {
-            Ok(value) => Ok(UtcMoment::of_value(value)),
-            Err(Unread::Never(Reason::Undetermined)) => moment_in_utc(description, text),
-            Err(unread) => Err(unread),
+    #[tactic(auto, using(crate::proofs::ReadItemLemmas::undetermined_by))]
+    fn of_text(items: &[Item], texts: &[u8], way: Way, text: &[u8]) -> Result<UtcMoment, Unread> {
+        match way {
+            Way::WithOffset(kinds) => {
+                match value_of::<OffsetDateTime>(items, texts, kinds, text) {
+                    Ok(value) => Ok(UtcMoment::of_value(value)),
+                    Err(unread) => Err(unread),
+                }
+            }
+            Way::InUtc(kinds) => match value_of::<UtcDateTime>(items, texts, kinds, text) {
+                Ok(value) => Ok(moment_in_utc(value)),
+                Err(unread) => Err(unread),
+            },
+            Way::Undetermined => {
+                Err(Unread::Never(first_reason(items, texts, Reason::Undetermined)))
+            }
         }
     }
 }
 
-/// Reads a text by a description.
-#[tactic(auto, using(crate::proofs::StepLemmas::steps_of_room))]
-fn read_by<'a, M: OfText>(
-    items: &'a [Item],
-    texts: &'a [u8],
+/// The moment of a date and a time in UTC.
+fn moment_in_utc(value: UtcDateTime) -> UtcMoment
+    ensures { IsOfUtc result value }
+{
+    UtcMoment {
+        seconds: value.unix_timestamp(),
+        nanosecond: value.time().as_hms_nano().3,
+    }
+}
+
+/// Reads a text by a description, in the way that was made for it.
+pub fn read_by<M: OfText>(
+    items: &[Item],
+    texts: &[u8],
+    way: Way,
     text: &[u8],
     moment: &mut M,
     error: &mut ReadError,
@@ -212,47 +293,5 @@ fn read_by<'a, M: OfText>(
         (IsUnread (trees_of texts.now items.now) text.now) result
         moment.old moment.new error.old error.new }
 {
-    let mut room = [no_step(); KEPT];
-    let count = match put_steps(items, texts, &mut room) {
-        Ok(count) => count,
-        Err(reason) => return leave(Err(Unread::Never(reason)), moment, error),
-    };
-    let description = Description {
-        items,
-        texts,
-        steps: first_steps(&room, count),
-    };
-    leave(M::of_text(&description, text), moment, error)
-}
-
-/// Reads a text by a description as a moment by its parts.
-#[unsafe(no_mangle)]
-pub extern "C" fn movaliren_items_read(
-    items: &[Item],
-    texts: &[u8],
-    text: &[u8],
-    moment: &mut Moment,
-    error: &mut ReadError,
-) -> isize
-    ensures { IsReadBy (HasText (trees_of texts.now items.now) text.now)
-        (IsUnread (trees_of texts.now items.now) text.now) result
-        moment.old moment.new error.old error.new }
-{
-    read_by(items, texts, text, moment, error)
-}
-
-/// Reads a text by a description as a moment in UTC.
-#[unsafe(no_mangle)]
-pub extern "C" fn movaliren_items_read_utc(
-    items: &[Item],
-    texts: &[u8],
-    text: &[u8],
-    moment: &mut UtcMoment,
-    error: &mut ReadError,
-) -> isize
-    ensures { IsReadBy (HasTextOfMoment (trees_of texts.now items.now) text.now)
-        (IsUnread (trees_of texts.now items.now) text.now) result
-        moment.old moment.new error.old error.new }
-{
-    read_by(items, texts, text, moment, error)
+    leave(M::of_text(items, texts, way, text), moment, error)
 }

@@ -1,12 +1,11 @@
 //! Texts of RFC 2822, and those of mail and feeds, read back as moments.
-ghost use Rattle.movaliren_c.specs.Place.{mail_place_of, place_of};
 ghost use Rattle.movaliren_c.specs.Reading.{IsByParts, IsInUtc, IsRead, MailReads, Rfc2822Reads};
 
 use crate::read::keep;
 use crate::read::place::ReadError;
 use crate::values::moment::{Moment, UtcMoment};
 use time_below::OffsetDateTime;
-use time_read::{NotMail, NotRead, rfc2822};
+use time_read::{NotRead, rfc2822};
 
 /// The value that a text of RFC 2822 spells.
 fn strictly(text: &[u8]) -> Result<OffsetDateTime, NotRead>
@@ -16,7 +15,7 @@ fn strictly(text: &[u8]) -> Result<OffsetDateTime, NotRead>
 }
 
 /// The value that a text of mail means.
-fn leniently(text: &[u8]) -> Result<OffsetDateTime, NotMail>
+fn leniently(text: &[u8]) -> Result<OffsetDateTime, NotRead>
     ensures { MailReads text.now result }
 {
     rfc2822::read_lenient(text)
@@ -29,7 +28,7 @@ pub extern "C" fn movaliren_read_rfc2822(
     moment: &mut Moment,
     error: &mut ReadError,
 ) -> isize
-    ensures { IsRead Rfc2822Reads place_of IsByParts text.now result
+    ensures { IsRead Rfc2822Reads IsByParts text.now result
         moment.old moment.new error.old error.new }
 {
     keep(strictly(text), moment, error)
@@ -42,7 +41,7 @@ pub extern "C" fn movaliren_read_rfc2822_utc(
     moment: &mut UtcMoment,
     error: &mut ReadError,
 ) -> isize
-    ensures { IsRead Rfc2822Reads place_of IsInUtc text.now result
+    ensures { IsRead Rfc2822Reads IsInUtc text.now result
         moment.old moment.new error.old error.new }
 {
     keep(strictly(text), moment, error)
@@ -55,7 +54,7 @@ pub extern "C" fn movaliren_read_rfc2822_lenient(
     moment: &mut Moment,
     error: &mut ReadError,
 ) -> isize
-    ensures { IsRead MailReads mail_place_of IsByParts text.now result
+    ensures { IsRead MailReads IsByParts text.now result
         moment.old moment.new error.old error.new }
 {
     keep(leniently(text), moment, error)
@@ -68,7 +67,7 @@ pub extern "C" fn movaliren_read_rfc2822_lenient_utc(
     moment: &mut UtcMoment,
     error: &mut ReadError,
 ) -> isize
-    ensures { IsRead MailReads mail_place_of IsInUtc text.now result
+    ensures { IsRead MailReads IsInUtc text.now result
         moment.old moment.new error.old error.new }
 {
     keep(leniently(text), moment, error)

@@ -1,10 +1,8 @@
 //! Where a text is none of its format, as C sees it.
 ghost use Rattle.std.specs.Prelude.{◌≡◌};
-ghost use Rattle.movaliren_c.specs.Place.{lenient_flag, mail_place_of, numbers_of, numbers_of_mail};
-ghost use Rattle.movaliren_c.specs.Place.{place_at, place_of};
-ghost use Rattle.movaliren_c.specs.declared.read.place.ReadError.{ReadError};
+ghost use Rattle.movaliren_c.specs.Place.{lenient_flag, numbers_of, numbers_of_mail, place_of};
 
-use time_read::{Expected, MailPart, Names, NotMail, NotRead, Profile};
+use time_read::{Expected, MailPart, NotRead, Profile};
 
 /// Where a text is none of its format, and what could have come there.
 #[repr(C)]
@@ -34,45 +32,18 @@ pub struct Coming {
     pub is_lenient: u8,
 }
 
-/// An error of a reader.
-pub trait ReadFault: Copy {
-    /// Its place, as C sees it.
-    ghost place: { Self → ReadError };
-
-    /// Its place, as C sees it.
-    fn place(self) -> ReadError
-        ensures { result ≡ place self };
-}
-
-impl ReadFault for NotRead {
-    ghost place = { place_of };
-
-    fn place(self) -> ReadError {
-        numbers_of(self.expected).at(self.at, self.is_second_60)
-    }
-}
-
-impl ReadFault for NotMail {
-    ghost place = { mail_place_of };
-
-    fn place(self) -> ReadError {
-        numbers_of_mail(self.expected).at(self.at, false)
-    }
-}
-
-impl Coming {
-    /// This could have come after so many bytes.
-    fn at(self, at: usize, is_second_60: bool) -> ReadError
-        ensures { result ≡ place_at at is_second_60 self }
-    {
-        ReadError {
-            at,
-            expected: self.expected,
-            first: self.first,
-            last: self.last,
-            is_lenient: self.is_lenient,
-            is_second_60: u8::from(is_second_60),
-        }
+/// The place of an error, as C sees it.
+pub(super) fn place_of(error: NotRead) -> ReadError
+    ensures { result ≡ place_of error }
+{
+    let coming = numbers_of(error.expected);
+    ReadError {
+        at: error.at,
+        expected: coming.expected,
+        first: coming.first,
+        last: coming.last,
+        is_lenient: coming.is_lenient,
+        is_second_60: u8::from(error.is_second_60),
     }
 }
 
@@ -98,10 +69,8 @@ fn numbers_of(expected: Expected) -> Coming
         Expected::DigitOrOffset(profile) => (6, 0, 0, lenient_flag(profile)),
         Expected::End => (7, 0, 0, 0),
         Expected::Sign => (8, 0, 0, 0),
-        Expected::EachFourth(first, last) => (9, first, last, 0),
-        Expected::Name(Names::Weekday, count, _, _) => (10, count, 0, 0),
-        Expected::Name(Names::MonthWith(day), count, _, _) => (11, count, day, 0),
-        Expected::Weekday(weekday) => (12, weekday.number_from_monday(), 0, 0),
+        Expected::Plan(_) => (26, 0, 0, 0),
+        Expected::Mail(part) => return numbers_of_mail(part),
     };
     Coming {
         expected,
@@ -115,10 +84,7 @@ fn numbers_of_mail(part: MailPart) -> Coming
     ensures { result ≡ numbers_of_mail part }
 {
     let (expected, first, last, is_lenient) = match part {
-        MailPart::Comma => (2, b',', b',', 0),
-        MailPart::Colon => (2, b':', b':', 0),
-        MailPart::End => (7, 0, 0, 0),
-        MailPart::Weekday(weekday) => (12, weekday.number_from_monday(), 0, 1),
+        MailPart::Weekday(weekday) => (12, weekday.number_from_monday(), 0, 0),
         MailPart::WeekdayOrDay => (13, 0, 0, 1),
         MailPart::Day => (14, 0, 0, 0),
         MailPart::Month => (15, 0, 0, 1),

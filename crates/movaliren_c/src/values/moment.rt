@@ -1,7 +1,4 @@
 //! Moments in the interface, and the values that they give.
-//!
-//! Without `inline(always)` the compiler leaves a call of the function that has it. `cold` keeps a
-//! rare body out of its caller.
 ghost use Rattle.std.specs.Prelude.{◌≡◌, ◌≤◌, IsTrue, unsigned_abs};
 ghost use Rattle.std.specs.Int.{IsInRange};
 ghost use Rattle.movaliren_c.specs.State.{IsDateState};

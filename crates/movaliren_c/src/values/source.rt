@@ -1,6 +1,4 @@
 //! Where the values of moments come from.
-//!
-//! Without `inline(always)` the compiler leaves calls of the functions that have it.
 ghost use Rattle.std.specs.Prelude.{◌≡◌, Result};
 ghost use Rattle.movaliren_c.specs.Utc.{east_value, local_there, local_value, utc_value};
 ghost use Rattle.movaliren_c.specs.Value.{moment_value};

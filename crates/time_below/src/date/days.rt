@@ -16,8 +16,12 @@ use crate::weekday::Weekday;
 const FIRST_JULIAN_DAY: i32 = -363_521_074;
 
 impl Date {
-    /// The date of a Julian day number, -363,521,074 to 366,963,559. It is the number of the Julian
-    /// day that begins at noon of the date. Refuses any other number as `julian_day`.
+    /// Returns the date of a Julian day number, -363,521,074 to 366,963,559: that of the Julian day
+    /// which begins at noon of the date.
+    ///
+    /// # Errors
+    ///
+    /// Any other number is refused as `julian_day`.
     pub fn from_julian_day(julian_day: i32) -> Result<Date, ComponentRange>
         ensures accepted { IsOk result ↔ IsDayNumber (julian_day -ℤ pos 1_721_426) }
         ensures value { IfOk result (λ d. julian_day_of d ≡ julian_day) }
@@ -34,8 +38,8 @@ impl Date {
         Ok(Date::from_days(days as u32))
     }
 
-    /// The Julian day number, which is 2,451,545 on 2000-01-01. It is the number of the Julian day
-    /// that begins at noon of the date.
+    /// Returns the Julian day number, which is 2,451,545 on 2000-01-01: that of the Julian day
+    /// which begins at noon of the date.
     pub fn to_julian_day(self) -> i32
         ensures value { result ≡ julian_day_of self }
         ensures range { unsigned_abs result < 2 ^ 29 }
@@ -43,7 +47,7 @@ impl Date {
         self.days_from_start() as i32 + FIRST_JULIAN_DAY
     }
 
-    /// The day after, if there is one.
+    /// Returns the day after, or `None` after 999999-12-31.
     pub fn next_day(self) -> Option<Date>
         ensures last { IsNone result ↔ (self ≡ last_date) }
         ensures value { IfSome result (λ d. d ≡ next_day self) }
@@ -63,7 +67,7 @@ impl Date {
         })
     }
 
-    /// The day before, if there is one.
+    /// Returns the day before, or `None` before -999999-01-01.
     pub fn previous_day(self) -> Option<Date>
         ensures first { IsNone result ↔ (self ≡ first_date) }
         ensures value { IfSome result (λ d. next_day d ≡ self) }
@@ -118,7 +122,9 @@ impl Date {
         Date::from_days(self.days_from_start() - days)
     }
 
-    /// The first date with this weekday after the date. There has to be one, until 999999-12-31.
+    /// Returns the first date after this one that has the weekday.
+    ///
+    /// The caller knows that there is one until 999999-12-31.
     pub fn next_occurrence(self, weekday: Weekday) -> Date
         requires { IsDayNumber (
             day_number self +ℤ pos (days_to_next self (days_from_monday weekday))) }
@@ -128,7 +134,9 @@ impl Date {
         self.after(self.days_to_next(weekday))
     }
 
-    /// The last date with this weekday before the date. There has to be one, from -999999-01-01 on.
+    /// Returns the last date before this one that has the weekday.
+    ///
+    /// The caller knows that there is one from -999999-01-01 on.
     pub fn prev_occurrence(self, weekday: Weekday) -> Date
         requires { IsDayNumber (
             day_number self -ℤ pos (days_from_last self (days_from_monday weekday))) }
@@ -138,8 +146,9 @@ impl Date {
         self.before(self.days_from_last(weekday))
     }
 
-    /// The nth date with this weekday after the date, where the first has the number 1. There have
-    /// to be as many, until 999999-12-31.
+    /// Returns the nth date after this one that has the weekday, where the first has the number 1.
+    ///
+    /// The caller knows that there are as many until 999999-12-31.
     pub fn nth_next_occurrence(self, weekday: Weekday, n: u8) -> Date
         requires counted { 0 < n }
         requires range { IsDayNumber (day_number self
@@ -150,8 +159,9 @@ impl Date {
         self.after(self.days_to_next(weekday) + 7 * (n as u32 - 1))
     }
 
-    /// The nth date with this weekday before the date, where the last has the number 1. There have
-    /// to be as many, from -999999-01-01 on.
+    /// Returns the nth date before this one that has the weekday, where the last has the number 1.
+    ///
+    /// The caller knows that there are as many from -999999-01-01 on.
     pub fn nth_prev_occurrence(self, weekday: Weekday, n: u8) -> Date
         requires counted { 0 < n }
         requires range { IsDayNumber (day_number self

@@ -12,8 +12,11 @@ use crate::component_range::ComponentRange;
 use crate::month::Month;
 
 impl Date {
-    /// The date with this month and day in another year, -999,999 to 999,999. Refuses the year,
-    /// then 29 February of a common year as `day`.
+    /// Returns the date with the year replaced by another, -999,999 to 999,999.
+    ///
+    /// # Errors
+    ///
+    /// Another number is refused as `year`, and 29 February in a common year as `day`.
     pub fn replace_year(self, year: i32) -> Result<Date, ComponentRange>
         ensures accepted { IsOk result
             ↔ (IsYear year × IsDayOfMonth year (month_of self) (day_of self)) }
@@ -26,8 +29,11 @@ impl Date {
         Date::from_calendar_date(year, month, day)
     }
 
-    /// The date with this year and day in another month. Refuses a day that the month lacks, as
-    /// `day`.
+    /// Returns the date with the month replaced.
+    ///
+    /// # Errors
+    ///
+    /// A day that the month lacks is refused as `day`.
     pub fn replace_month(self, month: Month) -> Result<Date, ComponentRange>
         ensures accepted { IsOk result
             ↔ IsDayOfMonth self.year (month_number month) (day_of self) }
@@ -39,7 +45,11 @@ impl Date {
         Date::from_calendar_date(year, month, day)
     }
 
-    /// The date with this year and month on another day. Refuses a day that the month lacks.
+    /// Returns the date with the day of the month replaced.
+    ///
+    /// # Errors
+    ///
+    /// A day that the month lacks is refused as `day`.
     pub fn replace_day(self, day: u8) -> Result<Date, ComponentRange>
         ensures accepted { IsOk result ↔ IsDayOfMonth self.year (month_of self) day }
         ensures value { IfOk result (λ d. d ≡ date_of self.year (month_of self) day) }
@@ -49,8 +59,11 @@ impl Date {
         Date::from_calendar_date(year, month, day)
     }
 
-    /// The date with this year on another day of the year, 1 to 365, or 366 in a leap year. Refuses
-    /// any other number as `ordinal`.
+    /// Returns the date with the day of the year replaced: 1 to 365, or 366 in a leap year.
+    ///
+    /// # Errors
+    ///
+    /// Any other number is refused as `ordinal`.
     pub fn replace_ordinal(self, ordinal: u16) -> Result<Date, ComponentRange>
         ensures accepted { IsOk result ↔ IsDate (record { year = self.year; ordinal = ordinal }) }
         ensures value { IfOk result (λ d. d ≡ record { year = self.year; ordinal = ordinal }) }

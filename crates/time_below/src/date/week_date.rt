@@ -25,9 +25,20 @@ fn first_monday(year: i32) -> u32
 }
 
 impl Date {
-    /// The date of a year -999,999 to 999,999 of the week calendar, a week 1 to 52, or 53 in a year
-    /// that has as many, and a weekday. Refuses the year, then the week, then as `weekday` the two
+    /// Returns the date of a year of the week calendar, -999,999 to 999,999, a week, 1 to 52, or 53
+    /// in a year that has as many, and a weekday.
+    ///
+    /// # Errors
+    ///
+    /// A year or a week out of its range is refused as `year` or `week`, and as `weekday` the two
     /// days after 999999-12-31, in the last week of all.
+    ///
+    /// # Examples
+    ///
+    /// ```text
+    /// // 2026-11-22
+    /// let Ok(day) = Date::from_iso_week_date(2026, 47, Weekday::Sunday) else { .. };
+    /// ```
     pub fn from_iso_week_date(year: i32, week: u8, weekday: Weekday) -> Result<Date, ComponentRange>
         ensures accepted { IsOk result ↔ (IsYear year × IsInRange 1 (weeks_in_year year) week
             × IsDayNumber (week_day_number year week (days_from_monday weekday))) }
@@ -54,7 +65,7 @@ impl Date {
         Ok(Date::from_days(days))
     }
 
-    /// The week of the year of the week calendar, 1 to 53. Week 1 is the one with the year's first
+    /// Returns the week of the week calendar, 1 to 53. Week 1 is the one with the year's first
     /// Thursday.
     pub fn iso_week(self) -> u8
         ensures value { result ≡ iso_week_of self }
@@ -63,7 +74,8 @@ impl Date {
         self.iso_year_week().1
     }
 
-    /// The year of the week calendar, -999,999 to 999,999, its week, 1 to 53, and the weekday.
+    /// Returns the year of the week calendar, -999,999 to 999,999, its week, 1 to 53, and the
+    /// weekday.
     pub fn to_iso_week_date(self) -> (i32, u8, Weekday)
         ensures year { result.0 ≡ iso_year_of self }
         ensures week { result.1 ≡ iso_week_of self }

@@ -9,25 +9,29 @@ use crate::plain_date_time::PlainDateTime;
 use crate::time::Time;
 
 impl Date {
-    /// The first nanosecond of the date.
+    /// Returns the date at 0:00.
     pub fn midnight(self) -> PlainDateTime
-        ensures { result ≡ record { date = self; time = time_of 0 0 0 0 } }
+        ensures { result ≡ record { date = self; time = time_of 0 0 0 0; offset = tt } }
     {
         self.with_time(Time::MIDNIGHT)
     }
 
-    /// The date at this time of day.
+    /// Returns the date at this time of day.
     pub fn with_time(self, time: Time) -> PlainDateTime
-        ensures { result ≡ record { date = self; time = time } }
+        ensures { result ≡ record { date = self; time = time; offset = tt } }
     {
         PlainDateTime::new(self, time)
     }
 
-    /// The date at the time that `Time::from_hms` gives. Refuses what that does.
+    /// Returns the date at an hour, a minute and a second.
+    ///
+    /// # Errors
+    ///
+    /// The errors are those of [`Time::from_hms`].
     pub fn with_hms(self, hour: u8, minute: u8, second: u8) -> Result<PlainDateTime, ComponentRange>
         ensures accepted { IsOk result ↔ IsTimeOfDay (time_of hour minute second 0) }
         ensures value { IfOk result (λ t. t
-            ≡ record { date = self; time = time_of hour minute second 0 }) }
+            ≡ record { date = self; time = time_of hour minute second 0; offset = tt }) }
         ensures refusal { IfErr result (λ e. range_refusal e
             ≡ unconditional_range (first_outside hour minute second (codes "second"))) }
     {
@@ -37,7 +41,11 @@ impl Date {
         }
     }
 
-    /// The date at the time that `Time::from_hms_milli` gives. Refuses what that does.
+    /// Returns the date at an hour, a minute, a second and a millisecond.
+    ///
+    /// # Errors
+    ///
+    /// The errors are those of [`Time::from_hms_milli`].
     pub fn with_hms_milli(
         self,
         hour: u8,
@@ -48,7 +56,7 @@ impl Date {
         ensures accepted { IsOk result
             ↔ IsTimeOfDay (time_of hour minute second (millisecond * 1_000_000)) }
         ensures value { IfOk result (λ t. t
-            ≡ record { date = self; time = time_of hour minute second (millisecond * 1_000_000) }) }
+            ≡ record { date = self; time = time_of hour minute second (millisecond * 1_000_000); offset = tt }) }
         ensures refusal { IfErr result (λ e. range_refusal e
             ≡ unconditional_range (first_outside hour minute second (codes "millisecond"))) }
     {
@@ -58,7 +66,11 @@ impl Date {
         }
     }
 
-    /// The date at the time that `Time::from_hms_micro` gives. Refuses what that does.
+    /// Returns the date at an hour, a minute, a second and a microsecond.
+    ///
+    /// # Errors
+    ///
+    /// The errors are those of [`Time::from_hms_micro`].
     pub fn with_hms_micro(
         self,
         hour: u8,
@@ -69,7 +81,7 @@ impl Date {
         ensures accepted { IsOk result
             ↔ IsTimeOfDay (time_of hour minute second (microsecond * 1_000)) }
         ensures value { IfOk result (λ t. t
-            ≡ record { date = self; time = time_of hour minute second (microsecond * 1_000) }) }
+            ≡ record { date = self; time = time_of hour minute second (microsecond * 1_000); offset = tt }) }
         ensures refusal { IfErr result (λ e. range_refusal e
             ≡ unconditional_range (first_outside hour minute second (codes "microsecond"))) }
     {
@@ -79,7 +91,11 @@ impl Date {
         }
     }
 
-    /// The date at the time that `Time::from_hms_nano` gives. Refuses what that does.
+    /// Returns the date at an hour, a minute, a second and a nanosecond.
+    ///
+    /// # Errors
+    ///
+    /// The errors are those of [`Time::from_hms_nano`].
     pub fn with_hms_nano(
         self,
         hour: u8,
@@ -89,7 +105,7 @@ impl Date {
     ) -> Result<PlainDateTime, ComponentRange>
         ensures accepted { IsOk result ↔ IsTimeOfDay (time_of hour minute second nanosecond) }
         ensures value { IfOk result (λ t. t
-            ≡ record { date = self; time = time_of hour minute second nanosecond }) }
+            ≡ record { date = self; time = time_of hour minute second nanosecond; offset = tt }) }
         ensures refusal { IfErr result (λ e. range_refusal e
             ≡ unconditional_range (first_outside hour minute second (codes "nanosecond"))) }
     {

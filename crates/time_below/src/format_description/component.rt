@@ -1,6 +1,4 @@
 //! A component of a description.
-//!
-//! Without `inline(always)` the compiler leaves calls of the functions that have it.
 ghost use Rattle.std.specs.Prelude.{◌≡◌, ◌≤◌, IsTrue};
 ghost use Rattle.time_below.specs.Conversion.{current_component, is_current};
 ghost use Rattle.time_below.specs.Width.{group_of, component_width, subsecond_width, month_width};
@@ -156,7 +154,7 @@ macro_rules! width_of {
 }
 
 impl Component {
-    /// The part of a value that the component is taken from.
+    /// Returns the group of a value's parts that the component belongs to.
     pub fn group(self) -> Group
         ensures { result ≡ group_of self }
     {
@@ -177,8 +175,7 @@ impl Component {
         }
     }
 
-    /// The current component in place of a deprecated one; any other is itself.
-    #[inline(always)]
+    /// Returns the current component in place of a deprecated one, and any other unchanged.
     pub fn current(self) -> Component
         ensures converted { result ≡ current_component self }
         ensures current { IsTrue (is_current result) }
@@ -195,8 +192,9 @@ impl Component {
     }
 }
 
-/// The most bytes of the component's text, over all values. For a deprecated `Year` of the standard
-/// range it is the width of the extended range.
+/// Returns the most bytes of the component's text, over all values. For a deprecated `Year` of the
+/// standard range it is the width of the extended range.
+// Row: a borrowed list of 11 items.
 #[inline(always)]
 pub fn component_width(component: &Component) -> usize
     ensures { result ≡ component_width component.now }
@@ -211,8 +209,9 @@ pub fn component_width(component: &Component) -> usize
     )
 }
 
-/// A bound of the width, the same whatever the choices are, so that the compiler makes a table of
-/// it.
+/// Returns a bound of the component's width, whatever its choices are.
+///
+/// Row: a borrowed list of 11 items.
 pub fn component_bound(component: &Component) -> usize
     ensures { component_width component.now ≤ result }
 {
@@ -226,7 +225,7 @@ pub fn component_bound(component: &Component) -> usize
     )
 }
 
-/// The most bytes that this many decimals of a second have.
+/// Returns the most bytes that this many decimals of a second have.
 pub fn subsecond_width(digits: SubsecondDigits) -> usize
     ensures { result ≡ subsecond_width digits }
 {

@@ -1,6 +1,4 @@
 //! A description of the third version, over parts that are borrowed or its own.
-//!
-//! Without `inline(always)` the compiler leaves calls of the functions that have it.
 ghost use Rattle.std.specs.Prelude.{◌≡◌, min};
 ghost use Rattle.time_below.specs.Conversion.{current_component};
 ghost use Rattle.time_below.specs.Size.{v3_size};
@@ -148,6 +146,7 @@ impl Node for FormatDescriptionV3Inner<'_> {
 
     ghost size = { v3_size };
 
+    // Row: a version 3 compound of 11 items.
     #[inline(always)]
     fn layer(&self) -> Layer<'_, Self> {
         let component = same_named!(*self, FormatDescriptionV3Inner => Component,
@@ -213,7 +212,8 @@ impl<'a> Model for FormatDescriptionV3<'a> {
 }
 
 impl<'a> FormatDescriptionV3<'a> {
-    /// The description with what is known of its text, which is computed here once.
+    /// Returns the description, with its maximum length and its text guarantee, which are computed
+    /// here once.
     pub fn new(inner: FormatDescriptionV3Inner<'a>) -> Self
         ensures { result ≡ inner.entry }
     {
@@ -221,21 +221,21 @@ impl<'a> FormatDescriptionV3<'a> {
         FormatDescriptionV3 { inner, metadata }
     }
 
-    /// The description itself.
+    /// Returns the description without its metadata.
     pub fn inner(&self) -> &FormatDescriptionV3Inner<'a>
         ensures { result.now ≡ self.now }
     {
         &self.inner
     }
 
-    /// A number of bytes that no text exceeds, or the greatest `usize` if that is less.
+    /// Returns the maximum length of a text in bytes, at most the greatest `usize`.
     pub fn max_bytes_needed(&self) -> usize
         ensures { result ≡ min (tree_width (v3_tree self.now)) usize.MAX }
     {
         self.metadata.max_bytes_needed
     }
 
-    /// What is known of the text.
+    /// Returns the maximum length and the text guarantee.
     pub fn metadata(&self) -> Metadata
         ensures { result ≡ tree_metadata (v3_tree self.now) }
     {

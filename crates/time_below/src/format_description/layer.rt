@@ -50,8 +50,9 @@ pub trait Node: Sized {
         ensures tree { layer_tree tree result ≡ tree self.now }
         ensures smaller { size_below size result < size self.now };
 
-    /// A bound of the bytes of the text, where it is quick to tell, as of a text or a component.
-    /// `nodes_fit` adds those of the items of a list, up to the first item that has none.
+    /// A bound of the bytes of the text of a literal or a component. Other descriptions have none.
+    ///
+    /// Row: a borrowed list of 11 items, whose room is found by these bounds.
     fn quick_bound(&self) -> Option<usize>
         ensures { IfSome result (λ bound. tree_width (tree self.now) ≤ bound) }
     {

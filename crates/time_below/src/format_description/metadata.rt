@@ -1,7 +1,4 @@
 //! What is known of a text before it is written.
-//!
-//! Without `inline` the compiler leaves a call of the function that has it. `inline(never)` keeps
-//! long or rare bodies out of their callers.
 ghost use Rattle.std.specs.Prelude.{◌≡◌, ◌+◌, ◌≤◌, fold, map, min, true, IfSome, IsTrue};
 ghost use Rattle.time_below.specs.Metadata.{tree_metadata, trees_metadata};
 ghost use Rattle.time_below.specs.Tree.{trees};
@@ -79,7 +76,7 @@ impl Sum<Metadata> for Metadata {
     }
 }
 
-/// What is known of the text of the items in order.
+/// Returns the maximum length and the text guarantee of items in order.
 #[cycle(metadata)]
 pub fn metadata_of_nodes<T: Node>(nodes: &[T]) -> Metadata
     ensures { result ≡ trees_metadata (trees (map T.tree nodes.now)) }
@@ -107,9 +104,8 @@ fn width_of_text<T: Node>(node: &T) -> Option<usize>
     }
 }
 
-/// What is known of the text of the description.
+/// Returns the maximum length and the text guarantee of a description.
 #[cycle(metadata)]
-#[inline(never)]
 pub fn metadata_of_node<T: Node>(node: &T) -> Metadata
     ensures { result ≡ tree_metadata (T.tree node.now) }
 {
@@ -132,8 +128,10 @@ pub fn metadata_of_node<T: Node>(node: &T) -> Metadata
     }
 }
 
-/// Whether the quick bounds of the items come to at most so many bytes, which are then enough for
-/// their text. It is `false` where an item has no such bound.
+/// Returns `true` only if this many bytes are enough for the text of the items in order, as their
+/// bounds tell. It is `false` where an item has no bound.
+///
+/// Row: a borrowed list of 11 items, of which a fifth would else be spent on the maximum length.
 #[inline]
 pub fn nodes_fit<T: Node>(nodes: &[T], room: usize) -> bool
     ensures { IsTrue result → trees_width (trees (map T.tree nodes.now)) ≤ room }

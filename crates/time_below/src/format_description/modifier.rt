@@ -1,5 +1,4 @@
-//! The choices that a component has, and what is said of their clones.
-ghost use Rattle.time_below.specs.Clones.{AreSame};
+//! The choices that a component has.
 
 /// The padding before a number that is shorter than its places.
 #[derive(Debug, Clone, Copy, PartialEq, Eq)]
@@ -444,79 +443,3 @@ pub struct Year {
     /// only above 9,999.
     pub sign_is_mandatory: bool,
 }
-
-/// Clones of the choices of the day, the month, the weekday and the week.
-pub fn clones_of_dates()
-    ensures day { AreSame ⟦<Day as Clone>⟧.is_clone }
-    ensures month_short { AreSame ⟦<MonthShort as Clone>⟧.is_clone }
-    ensures month_long { AreSame ⟦<MonthLong as Clone>⟧.is_clone }
-    ensures month_numerical { AreSame ⟦<MonthNumerical as Clone>⟧.is_clone }
-    ensures ordinal { AreSame ⟦<Ordinal as Clone>⟧.is_clone }
-    ensures weekday_short { AreSame ⟦<WeekdayShort as Clone>⟧.is_clone }
-    ensures weekday_long { AreSame ⟦<WeekdayLong as Clone>⟧.is_clone }
-    ensures weekday_sunday { AreSame ⟦<WeekdaySunday as Clone>⟧.is_clone }
-    ensures weekday_monday { AreSame ⟦<WeekdayMonday as Clone>⟧.is_clone }
-    ensures week_number_iso { AreSame ⟦<WeekNumberIso as Clone>⟧.is_clone }
-    ensures week_number_sunday { AreSame ⟦<WeekNumberSunday as Clone>⟧.is_clone }
-    ensures week_number_monday { AreSame ⟦<WeekNumberMonday as Clone>⟧.is_clone }
-{}
-
-/// Clones of the choices of the year, its century and its last two digits.
-pub fn clones_of_years()
-    ensures calendar_year_full_extended_range { AreSame
-        ⟦<CalendarYearFullExtendedRange as Clone>⟧.is_clone }
-    ensures calendar_year_full_standard_range { AreSame
-        ⟦<CalendarYearFullStandardRange as Clone>⟧.is_clone }
-    ensures calendar_year_century_extended_range { AreSame
-        ⟦<CalendarYearCenturyExtendedRange as Clone>⟧.is_clone }
-    ensures calendar_year_century_standard_range { AreSame
-        ⟦<CalendarYearCenturyStandardRange as Clone>⟧.is_clone }
-    ensures calendar_year_last_two { AreSame ⟦<CalendarYearLastTwo as Clone>⟧.is_clone }
-    ensures iso_year_full_extended_range { AreSame ⟦<IsoYearFullExtendedRange as Clone>⟧.is_clone }
-    ensures iso_year_full_standard_range { AreSame ⟦<IsoYearFullStandardRange as Clone>⟧.is_clone }
-    ensures iso_year_century_extended_range { AreSame
-        ⟦<IsoYearCenturyExtendedRange as Clone>⟧.is_clone }
-    ensures iso_year_century_standard_range { AreSame
-        ⟦<IsoYearCenturyStandardRange as Clone>⟧.is_clone }
-    ensures iso_year_last_two { AreSame ⟦<IsoYearLastTwo as Clone>⟧.is_clone }
-{}
-
-/// Clones of the choices of the time of day, the offset and the moment, and of what is not written.
-pub fn clones_of_times()
-    ensures hour_12 { AreSame ⟦<Hour12 as Clone>⟧.is_clone }
-    ensures hour_24 { AreSame ⟦<Hour24 as Clone>⟧.is_clone }
-    ensures minute { AreSame ⟦<Minute as Clone>⟧.is_clone }
-    ensures period { AreSame ⟦<Period as Clone>⟧.is_clone }
-    ensures second { AreSame ⟦<Second as Clone>⟧.is_clone }
-    ensures subsecond { AreSame ⟦<Subsecond as Clone>⟧.is_clone }
-    ensures offset_hour { AreSame ⟦<OffsetHour as Clone>⟧.is_clone }
-    ensures offset_minute { AreSame ⟦<OffsetMinute as Clone>⟧.is_clone }
-    ensures offset_second { AreSame ⟦<OffsetSecond as Clone>⟧.is_clone }
-    ensures unix_timestamp_second { AreSame ⟦<UnixTimestampSecond as Clone>⟧.is_clone }
-    ensures unix_timestamp_millisecond { AreSame ⟦<UnixTimestampMillisecond as Clone>⟧.is_clone }
-    ensures ignore { AreSame ⟦<Ignore as Clone>⟧.is_clone }
-    ensures end { AreSame ⟦<End as Clone>⟧.is_clone }
-{}
-
-/// Clones of the choices of deprecated components.
-pub fn clones_of_deprecated()
-    ensures month { AreSame ⟦<Month as Clone>⟧.is_clone }
-    ensures weekday { AreSame ⟦<Weekday as Clone>⟧.is_clone }
-    ensures week_number { AreSame ⟦<WeekNumber as Clone>⟧.is_clone }
-    ensures hour { AreSame ⟦<Hour as Clone>⟧.is_clone }
-    ensures unix_timestamp { AreSame ⟦<UnixTimestamp as Clone>⟧.is_clone }
-    ensures year { AreSame ⟦<Year as Clone>⟧.is_clone }
-{}
-
-/// Clones of a choice alone.
-pub fn clones_of_kinds()
-    ensures padding { AreSame ⟦<Padding as Clone>⟧.is_clone }
-    ensures subsecond_digits { AreSame ⟦<SubsecondDigits as Clone>⟧.is_clone }
-    ensures trailing_input { AreSame ⟦<TrailingInput as Clone>⟧.is_clone }
-    ensures month_repr { AreSame ⟦<MonthRepr as Clone>⟧.is_clone }
-    ensures weekday_repr { AreSame ⟦<WeekdayRepr as Clone>⟧.is_clone }
-    ensures week_number_repr { AreSame ⟦<WeekNumberRepr as Clone>⟧.is_clone }
-    ensures year_repr { AreSame ⟦<YearRepr as Clone>⟧.is_clone }
-    ensures year_range { AreSame ⟦<YearRange as Clone>⟧.is_clone }
-    ensures unix_timestamp_precision { AreSame ⟦<UnixTimestampPrecision as Clone>⟧.is_clone }
-{}

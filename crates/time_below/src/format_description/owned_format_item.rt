@@ -40,7 +40,7 @@ impl Node for OwnedFormatItem {
         }
     }
 
-    // Two tests, since a `match` becomes a jump through a table.
+    // Row: a borrowed list of 11 items. A `match` takes longer than two tests.
     fn quick_bound(&self) -> Option<usize> {
         if let OwnedFormatItem::Component(component) = self {
             return Some(component_bound(component));

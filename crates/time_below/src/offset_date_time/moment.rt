@@ -15,8 +15,11 @@ use crate::utc_date_time::UtcDateTime;
 use crate::utc_offset::UtcOffset;
 
 impl OffsetDateTime {
-    /// The moment at which this second since 1970-01-01T00:00:00 UTC begins, in UTC. Refuses a
-    /// second outside the range of `Timestamp` as `timestamp`.
+    /// Returns the moment at which a second since 1970-01-01T00:00:00 UTC begins, in UTC.
+    ///
+    /// # Errors
+    ///
+    /// A second outside the range of [`Timestamp`] is refused as `timestamp`.
     pub fn from_unix_timestamp(timestamp: i64) -> Result<OffsetDateTime, ComponentRange>
         ensures accepted { IsOk result ↔ IsTimestampSecond timestamp }
         ensures value { IfOk result (λ t. t ≡ in_utc (utc_date_and_time (at_second timestamp))) }
@@ -29,8 +32,11 @@ impl OffsetDateTime {
         }
     }
 
-    /// The moment this many nanoseconds from 1970-01-01T00:00:00 UTC, in UTC. Refuses a number
-    /// outside the range of `Timestamp` as `timestamp`.
+    /// Returns the moment of this many nanoseconds since 1970-01-01T00:00:00 UTC, in UTC.
+    ///
+    /// # Errors
+    ///
+    /// A number outside the range of [`Timestamp`] is refused as `timestamp`.
     pub fn from_unix_timestamp_nanos(timestamp: i128) -> Result<OffsetDateTime, ComponentRange>
         ensures accepted { IsOk result ↔ IsTimestampNanosecond timestamp }
         ensures value { IfOk result (λ t. nanoseconds (local_moment t) ≡ timestamp) }
@@ -44,8 +50,8 @@ impl OffsetDateTime {
         }
     }
 
-    /// The nanoseconds since 1970-01-01T00:00:00 UTC, at most 23 digits, less than 26 hours outside
-    /// the range of `Timestamp`.
+    /// Returns the nanoseconds since 1970-01-01T00:00:00 UTC, at most 23 digits, less than 26 hours
+    /// outside the range of `Timestamp`.
     pub fn unix_timestamp_nanos(self) -> i128
         ensures value { result ≡ nanoseconds (local_moment self) }
         ensures range { unsigned_abs result < 10 ^ 23 }
@@ -53,7 +59,10 @@ impl OffsetDateTime {
         moment::nanoseconds(self.unix_timestamp(), self.time.nanosecond())
     }
 
-    /// The same moment by clocks at this offset, whose year there is in range, as the caller knows.
+    /// Returns the same moment by clocks at this offset.
+    ///
+    /// The caller knows that their year is in range:
+    /// [`checked_to_offset`](OffsetDateTime::checked_to_offset) tests it.
     pub fn to_offset(self, offset: UtcOffset) -> OffsetDateTime
         requires { IsTimestampSecond (local_unix_seconds self +ℤ offset_seconds offset) }
         ensures value { result ≡ local_at (local_moment self) offset }
@@ -65,7 +74,7 @@ impl OffsetDateTime {
         }
     }
 
-    /// The same moment by clocks at this offset. Returns `None` where their year is outside
+    /// Returns the same moment by clocks at this offset, or `None` where their year is outside
     /// -999,999 to 999,999.
     pub fn checked_to_offset(self, offset: UtcOffset) -> Option<OffsetDateTime>
         ensures accepted { IsSome result
@@ -76,7 +85,10 @@ impl OffsetDateTime {
         moment::checked_at_offset(self.unix_timestamp(), self.time.nanosecond(), offset)
     }
 
-    /// The date and time in UTC, whose year is in range, as the caller knows.
+    /// Returns the date and time in UTC.
+    ///
+    /// The caller knows that their year is in range:
+    /// [`checked_to_utc`](OffsetDateTime::checked_to_utc) tests it.
     pub fn to_utc(self) -> UtcDateTime
         requires { IsTimestampSecond (local_unix_seconds self) }
         ensures { result ≡ utc_date_and_time (local_moment self) }
@@ -85,7 +97,7 @@ impl OffsetDateTime {
         UtcDateTime::from(Timestamp::from_valid_parts(self.unix_timestamp(), nanosecond))
     }
 
-    /// The date and time in UTC. Returns `None` where their year is outside -999,999 to 999,999.
+    /// Returns the date and time in UTC, or `None` where their year is outside -999,999 to 999,999.
     pub fn checked_to_utc(self) -> Option<UtcDateTime>
         ensures accepted { IsSome result ↔ IsTimestampSecond (local_unix_seconds self) }
         ensures value { IfSome result (λ t. t ≡ utc_date_and_time (local_moment self)) }

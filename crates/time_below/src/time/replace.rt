@@ -6,7 +6,11 @@ use crate::component_range::ComponentRange;
 use crate::time::Time;
 
 impl Time {
-    /// The time with this hour, 0 to 23. Refuses any other as `hour`.
+    /// Returns the time with the hour replaced by another, 0 to 23.
+    ///
+    /// # Errors
+    ///
+    /// Any other number is refused as `hour`.
     pub fn replace_hour(self, hour: u8) -> Result<Time, ComponentRange>
         ensures accepted { IsOk result ↔ (hour < 24) }
         ensures value { IfOk result (λ t. t ≡ record self { hour = hour }) }
@@ -18,7 +22,11 @@ impl Time {
         Ok(Time { hour, ..self })
     }
 
-    /// The time with this minute, 0 to 59. Refuses any other as `minute`.
+    /// Returns the time with the minute replaced by another, 0 to 59.
+    ///
+    /// # Errors
+    ///
+    /// Any other number is refused as `minute`.
     pub fn replace_minute(self, minute: u8) -> Result<Time, ComponentRange>
         ensures accepted { IsOk result ↔ (minute < 60) }
         ensures value { IfOk result (λ t. t ≡ record self { minute = minute }) }
@@ -31,7 +39,11 @@ impl Time {
         Ok(Time { minute, ..self })
     }
 
-    /// The time with this second, 0 to 59. Refuses any other as `second`.
+    /// Returns the time with the second replaced by another, 0 to 59.
+    ///
+    /// # Errors
+    ///
+    /// Any other number is refused as `second`.
     pub fn replace_second(self, second: u8) -> Result<Time, ComponentRange>
         ensures accepted { IsOk result ↔ (second < 60) }
         ensures value { IfOk result (λ t. t ≡ record self { second = second }) }
@@ -44,8 +56,11 @@ impl Time {
         Ok(Time { second, ..self })
     }
 
-    /// The time with this millisecond, 0 to 999, and nothing after it: the nanosecond becomes that
-    /// of the millisecond. Refuses any other as `millisecond`.
+    /// Returns the time with the nanosecond replaced by that of a millisecond, 0 to 999.
+    ///
+    /// # Errors
+    ///
+    /// Any other number is refused as `millisecond`.
     pub fn replace_millisecond(self, millisecond: u16) -> Result<Time, ComponentRange>
         ensures accepted { IsOk result ↔ (millisecond < 1_000) }
         ensures value { IfOk result
@@ -62,8 +77,11 @@ impl Time {
         })
     }
 
-    /// The time with this microsecond, 0 to 999,999, and nothing after it: the nanosecond becomes
-    /// that of the microsecond. Refuses any other as `microsecond`.
+    /// Returns the time with the nanosecond replaced by that of a microsecond, 0 to 999,999.
+    ///
+    /// # Errors
+    ///
+    /// Any other number is refused as `microsecond`.
     pub fn replace_microsecond(self, microsecond: u32) -> Result<Time, ComponentRange>
         ensures accepted { IsOk result ↔ (microsecond < 1_000_000) }
         ensures value { IfOk result (λ t. t ≡ record self { nanosecond = microsecond * 1_000 }) }
@@ -79,7 +97,11 @@ impl Time {
         })
     }
 
-    /// The time with this nanosecond, 0 to 999,999,999. Refuses any other as `nanosecond`.
+    /// Returns the time with the nanosecond replaced by another, 0 to 999,999,999.
+    ///
+    /// # Errors
+    ///
+    /// Any other number is refused as `nanosecond`.
     pub fn replace_nanosecond(self, nanosecond: u32) -> Result<Time, ComponentRange>
         ensures accepted { IsOk result ↔ (nanosecond < 1_000_000_000) }
         ensures value { IfOk result (λ t. t ≡ record self { nanosecond = nanosecond }) }

@@ -5,7 +5,7 @@ ghost use Rattle.time_below.specs.TimeOfDay.{time_of};
 use crate::time::Time;
 
 impl Time {
-    /// The start of the hour: the minute, the second and the nanosecond become zero.
+    /// Returns the first nanosecond of the hour: the minute and all below it become zero.
     pub fn truncate_to_hour(self) -> Time
         ensures { result ≡ time_of self.hour 0 0 0 }
     {
@@ -17,7 +17,7 @@ impl Time {
         }
     }
 
-    /// The start of the minute: the second and the nanosecond become zero.
+    /// Returns the first nanosecond of the minute: the second and its decimals become zero.
     pub fn truncate_to_minute(self) -> Time
         ensures { result ≡ time_of self.hour self.minute 0 0 }
     {
@@ -28,7 +28,7 @@ impl Time {
         }
     }
 
-    /// The start of the second: the nanosecond becomes zero.
+    /// Returns the first nanosecond of the second: the decimals become zero.
     pub fn truncate_to_second(self) -> Time
         ensures { result ≡ record self { nanosecond = 0 } }
     {
@@ -38,7 +38,7 @@ impl Time {
         }
     }
 
-    /// The start of the millisecond.
+    /// Returns the first nanosecond of the millisecond: three decimals of the second stay.
     pub fn truncate_to_millisecond(self) -> Time
         ensures { result ≡ record self { nanosecond = self.nanosecond / 1_000_000 * 1_000_000 } }
     {
@@ -48,7 +48,7 @@ impl Time {
         }
     }
 
-    /// The start of the microsecond.
+    /// Returns the first nanosecond of the microsecond: six decimals of the second stay.
     pub fn truncate_to_microsecond(self) -> Time
         ensures { result ≡ record self { nanosecond = self.nanosecond / 1_000 * 1_000 } }
     {

@@ -11,49 +11,49 @@ ghost use Rattle.time_describe.specs.Reading.{brackets, escape, nested, outside,
 use super::frame::{Frame, Frames};
 use super::pieces::{Bracketed, after_gap, in_brackets, is_escapable, literal_len};
 use super::reason::BracketReason;
-use crate::fault::{Failure, Fault};
-use crate::items::{Items, Nest};
+use crate::fault::Fault;
+use crate::items::{Items, ListKind};
 use crate::text::first_and_rest;
 
-/// Whether brackets with lists lack one.
-fn lacks_list(nest: Nest, is_first: bool) -> bool
-    ensures { result ≡ lacks_list nest is_first }
+/// Returns whether `optional` has no list yet.
+fn lacks_list(kind: ListKind, is_first: bool) -> bool
+    ensures { result ≡ lacks_list kind is_first }
 {
-    match nest {
-        Nest::First => false,
-        Nest::Optional => is_first,
+    match kind {
+        ListKind::First => false,
+        ListKind::Optional => is_first,
     }
 }
 
 /// Whether one more list may stand in brackets.
-fn takes_list(nest: Nest, is_first: bool) -> bool
-    ensures { (lists : List Tree) → is_first ≡ is_nil lists → result ≡ takes_list nest lists }
+fn takes_list(kind: ListKind, is_first: bool) -> bool
+    ensures { (lists : List Tree) → is_first ≡ is_nil lists → result ≡ takes_list kind lists }
 {
-    match nest {
-        Nest::First => true,
-        Nest::Optional => is_first,
+    match kind {
+        ListKind::First => true,
+        ListKind::Optional => is_first,
     }
 }
 
 /// Ends brackets with lists, which are closed where `left` bytes are left.
 fn end_lists<I: Items>(
     items: &mut I,
-    nest: Nest,
+    kind: ListKind,
     is_first: bool,
     left: usize,
-) -> Result<(), Failure<BracketReason>>
+) -> Result<(), Fault<BracketReason>>
     ensures ended { (text : List ℕ) (fs : List reading.Frame) (before lists : List Tree)
-        → is_first ≡ is_nil lists → I.HoldsLists text fs nest before items.old lists
-        → Ends I.can_refuse (I.Holds text fs items.new) before result (nested nest lists left) }
+        → is_first ≡ is_nil lists → I.HoldsLists text fs kind before items.old lists
+        → Ends (I.Holds text fs items.new) before result (nested kind lists left) }
     ensures lender { I.lender items.new ≡ I.lender items.old }
 {
-    if lacks_list(nest, is_first) {
-        return Err(Failure::Invalid(Fault {
+    if lacks_list(kind, is_first) {
+        return Err(Fault {
             reason: BracketReason::MissingItems,
             left,
-        }));
+        });
     }
-    items.end_lists(nest)?;
+    items.end_lists(kind);
     Ok(())
 }
 
@@ -61,46 +61,46 @@ fn end_lists<I: Items>(
 fn between<'a, I: Items>(
     items: &mut I,
     frames: &mut Frames,
-    nest: Nest,
+    kind: ListKind,
     opened: usize,
     is_first: bool,
     bytes: &'a [u8],
-) -> Result<&'a [u8], Failure<BracketReason>>
+) -> Result<&'a [u8], Fault<BracketReason>>
     ensures goes_on { (text : List ℕ) (fs : List reading.Frame) (before lists : List Tree)
         → is_first ≡ is_nil lists → outcome.AreKept frames.old.items fs
-        → I.HoldsLists text fs nest before items.old lists
-        → GoesOn I.can_refuse (AreOpen (λ gs. I.Holds text gs items.new) frames.new.items) result
-        (read fs (reading.between nest opened lists) before [] bytes.now) }
+        → I.HoldsLists text fs kind before items.old lists
+        → GoesOn (AreOpen (λ gs. I.Holds text gs items.new) frames.new.items) result
+        (read fs (reading.between kind opened lists) before [] bytes.now) }
     ensures shorter { IfOk result (λ rest. length rest.now < length bytes.now) }
     ensures end { IfOk result (λ rest. IsEnd bytes.now rest.now) }
     ensures lender { I.lender items.new ≡ I.lender items.old }
 {
     let rest = after_gap(bytes);
     let Some((first, after)) = first_and_rest(rest) else {
-        return Err(Failure::Invalid(Fault {
+        return Err(Fault {
             reason: BracketReason::UnclosedBracket,
             left: opened,
-        }));
+        });
     };
     if first == b']' {
-        end_lists(items, nest, is_first, rest.len())?;
+        end_lists(items, kind, is_first, rest.len())?;
         return Ok(after);
     }
-    if first != b'[' || !takes_list(nest, is_first) {
-        return Err(Failure::Invalid(Fault {
+    if first != b'[' || !takes_list(kind, is_first) {
+        return Err(Fault {
             reason: BracketReason::UnexpectedByte,
             left: rest.len(),
-        }));
+        });
     }
     if frames.is_full() {
-        return Err(Failure::Invalid(Fault {
+        return Err(Fault {
             reason: BracketReason::TooDeep,
             left: rest.len(),
-        }));
+        });
     }
     items.open_list(frames.len(), is_first);
     frames.push(Frame {
-        nest,
+        kind,
         opened,
         opened_list: rest.len(),
     });
@@ -112,11 +112,11 @@ fn escaped<'a, I: Items>(
     items: &mut I,
     left: usize,
     rest: &'a [u8],
-) -> Result<&'a [u8], Failure<BracketReason>>
+) -> Result<&'a [u8], Fault<BracketReason>>
     requires { left ≡ length rest.now + 1 }
     ensures goes_on { (text : List ℕ) (fs : List reading.Frame) (before : List Tree)
         → I.Holds text fs items.old before
-        → GoesOn I.can_refuse (λ gs now. (gs ≡ fs) × I.Holds text gs items.new now) result
+        → GoesOn (λ gs now. (gs ≡ fs) × I.Holds text gs items.new now) result
         (read fs escape before [] rest.now) }
     ensures shorter { IfOk result (λ after. length after.now < length rest.now) }
     ensures end { IfOk result (λ after. IsEnd rest.now after.now) }
@@ -124,13 +124,13 @@ fn escaped<'a, I: Items>(
 {
     match first_and_rest(rest) {
         Some((escaped, after)) if is_escapable(escaped) => {
-            items.put_byte(escaped)?;
+            items.put_byte(escaped);
             Ok(after)
         }
-        _ => Err(Failure::Invalid(Fault {
+        _ => Err(Fault {
             reason: BracketReason::InvalidEscape,
             left,
-        })),
+        }),
     }
 }
 
@@ -139,11 +139,11 @@ fn close_list<'a, I: Items>(
     items: &mut I,
     frames: &mut Frames,
     rest: &'a [u8],
-) -> Result<&'a [u8], Failure<BracketReason>>
+) -> Result<&'a [u8], Fault<BracketReason>>
     requires { 0 < array_vec_len frames.old }
     ensures goes_on { (text : List ℕ) (fs : List reading.Frame) (before : List Tree)
         → AreOpen (λ gs. I.Holds text gs items.old) frames.old.items fs before
-        → GoesOn I.can_refuse (AreOpen (λ gs. I.Holds text gs items.new) frames.new.items) result
+        → GoesOn (AreOpen (λ gs. I.Holds text gs items.new) frames.new.items) result
         (read fs outside before [] (93 ∷ rest.now)) }
     ensures shorter { IfOk result (λ after. length after.now < length rest.now) }
     ensures end { IfOk result (λ after. IsEnd rest.now after.now) }
@@ -152,8 +152,8 @@ fn close_list<'a, I: Items>(
     let Some(frame) = frames.pop() else {
         unreachable!();
     };
-    items.close_list(frames.len())?;
-    between(items, frames, frame.nest, frame.opened, false, rest)
+    items.close_list(frames.len());
+    between(items, frames, frame.kind, frame.opened, false, rest)
 }
 
 /// Reads what brackets hold, the opening one of which stands where `opened` bytes are left.
@@ -162,10 +162,10 @@ fn bracketed<'a, I: Items>(
     frames: &mut Frames,
     opened: usize,
     bytes: &'a [u8],
-) -> Result<&'a [u8], Failure<BracketReason>>
+) -> Result<&'a [u8], Fault<BracketReason>>
     ensures goes_on { (text : List ℕ) (fs : List reading.Frame) (before : List Tree)
         → AreOpen (λ gs. I.Holds text gs items.old) frames.old.items fs before
-        → GoesOn I.can_refuse (AreOpen (λ gs. I.Holds text gs items.new) frames.new.items) result
+        → GoesOn (AreOpen (λ gs. I.Holds text gs items.new) frames.new.items) result
         (read fs (brackets opened None []) before [] bytes.now) }
     ensures shorter { IfOk result (λ after. length after.now < length bytes.now + 1) }
     ensures end { IfOk result (λ after. IsEnd bytes.now after.now) }
@@ -174,12 +174,12 @@ fn bracketed<'a, I: Items>(
     let (inside, after) = in_brackets(opened, bytes)?;
     match inside {
         Bracketed::Component(component) => {
-            items.put_component(component)?;
+            items.put_component(component);
             Ok(after)
         }
-        Bracketed::Nest(nest) => {
-            items.begin_lists()?;
-            between(items, frames, nest, opened, true, after)
+        Bracketed::Lists(kind) => {
+            items.begin_lists();
+            between(items, frames, kind, opened, true, after)
         }
     }
 }
@@ -190,12 +190,12 @@ pub fn step<'a, I: Items>(
     frames: &mut Frames,
     text: &[u8],
     rest: &'a [u8],
-) -> Result<&'a [u8], Failure<BracketReason>>
+) -> Result<&'a [u8], Fault<BracketReason>>
     requires some { 0 < length rest.now }
     requires end { IsEnd text.now rest.now }
     ensures goes_on { (fs : List reading.Frame) (before : List Tree)
         → AreOpen (λ gs. I.Holds text.now gs items.old) frames.old.items fs before
-        → GoesOn I.can_refuse (AreOpen (λ gs. I.Holds text.now gs items.new) frames.new.items)
+        → GoesOn (AreOpen (λ gs. I.Holds text.now gs items.new) frames.new.items)
         result (read fs outside before [] rest.now) }
     ensures shorter { IfOk result (λ after. length after.now < length rest.now) }
     ensures end { IfOk result (λ after. IsEnd rest.now after.now) }
@@ -214,6 +214,6 @@ pub fn step<'a, I: Items>(
         return close_list(items, frames, after);
     }
     let len = literal_len(!frames.is_empty(), rest);
-    items.put_literal(text, text.len() - rest.len(), len)?;
+    items.put_literal(text, text.len() - rest.len(), len);
     Ok(&rest[len..])
 }

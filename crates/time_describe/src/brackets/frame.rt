@@ -1,6 +1,6 @@
 //! Lists of items that are not closed yet.
 
-use crate::items::Nest;
+use crate::items::ListKind;
 use arrayvec::ArrayVec;
 use std::default::Default;
 
@@ -8,7 +8,7 @@ use std::default::Default;
 #[derive(Clone, Copy)]
 pub struct Frame {
     /// What the list is for.
-    pub nest: Nest,
+    pub kind: ListKind,
     /// How many bytes are left from the brackets around it on.
     pub opened: usize,
     /// How many are left from its own opening bracket on.
@@ -18,7 +18,7 @@ pub struct Frame {
 impl Default for Frame {
     fn default() -> Frame {
         Frame {
-            nest: Nest::First,
+            kind: ListKind::First,
             opened: 0,
             opened_list: 0,
         }

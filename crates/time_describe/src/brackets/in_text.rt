@@ -22,8 +22,8 @@ pub struct InText<'a> {
 }
 
 impl InvalidDescription<BracketReason> {
-    /// The error with the text that was read, to be displayed with the word that it is about, as
-    /// ``unknown component `yaer` at byte 1``.
+    /// Returns the error with the text that was read, which is displayed with the word that is
+    /// wrong, as ``unknown component `yaer` at byte 1``.
     pub fn in_text(self, text: &[u8]) -> InText<'_>
         ensures error { result.error ≡ self }
         ensures text { result.text.now ≡ text.now }

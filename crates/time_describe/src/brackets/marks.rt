@@ -12,8 +12,10 @@ fn is_either(one: u8, other: u8, byte: u8) -> bool
     byte == one || byte == other
 }
 
-/// How many bytes are left from the first of these two on that is one too many.
-pub fn past(one: u8, other: u8, text: &[u8]) -> Option<usize>
+/// Returns the distance from the end of the byte that begins item 65,537, if there is one.
+///
+/// Items begin with one of two bytes.
+pub fn first_item_over_limit(one: u8, other: u8, text: &[u8]) -> Option<usize>
     ensures { result ≡ past (λ b. b == one || b == other) most_items text.now }
 {
     let mut room = MOST_ITEMS;

@@ -18,8 +18,9 @@ use time_below::format_description::modifier::{
 };
 use time_below::format_description::{Component, modifier};
 
-/// The component of this name, where nothing more is said. The count of an `ignore` is not given
-/// yet, and 0.
+/// Returns the component of this name, where nothing more is said.
+///
+/// The count of an `ignore` is not given yet, and 0.
 #[tactic(auto, unfolding(crate::specs::Names::named))]
 pub fn named(word: &[u8]) -> Option<Component>
     ensures { result ≡ named word.now }
@@ -380,7 +381,7 @@ fn unix_timestamp_modified(
     }
 }
 
-/// How the bytes to pass over are written, with one more modifier.
+/// Applies one `key:value` to an `ignore`.
 #[tactic(auto, unfolding(crate::specs::Names::ignore_modified))]
 fn ignore_modified(
     m: modifier::Ignore,
@@ -399,7 +400,7 @@ fn ignore_modified(
     }
 }
 
-/// How the end is written, with one more modifier.
+/// Applies one `key:value` to an `end`.
 #[tactic(auto, unfolding(crate::specs::Names::end_modified))]
 fn end_modified(m: modifier::End, key: &[u8], value: &[u8]) -> Result<modifier::End, BracketReason>
     ensures { result ≡ end_modified m key.now value.now }
@@ -414,7 +415,7 @@ fn end_modified(m: modifier::End, key: &[u8], value: &[u8]) -> Result<modifier::
     }
 }
 
-/// The component with one more modifier, by its key and its value.
+/// Returns the component with one more modifier, by its key and its value.
 #[tactic(auto, unfolding(crate::specs::Names::modified))]
 pub fn modified(component: Component, key: &[u8], value: &[u8]) -> Result<Component, BracketReason>
     ensures { result ≡ modified component key.now value.now }

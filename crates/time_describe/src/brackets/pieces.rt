@@ -6,12 +6,12 @@ ghost use Rattle.std.specs.List.{position_or_len, prefix_len, before_first, afte
 ghost use Rattle.time_describe.specs.Outcome.{IsEnd};
 ghost use Rattle.time_describe.specs.Pieces.{InBrackets, ends_literal};
 ghost use Rattle.time_describe.specs.Reading.{is_special, is_escapable, ends_word, at_fault};
-ghost use Rattle.time_describe.specs.Reading.{with_word, is_whole, finished, nest_of};
+ghost use Rattle.time_describe.specs.Reading.{with_word, is_whole, finished, list_kind_of};
 
 use super::names::{modified, named};
 use super::reason::BracketReason;
 use crate::fault::Fault;
-use crate::items::Nest;
+use crate::items::ListKind;
 use crate::text::first_and_rest;
 use time_below::format_description::Component;
 
@@ -21,7 +21,7 @@ pub enum Bracketed {
     /// A component, up to the closing bracket.
     Component(Component),
     /// The word alone.
-    Nest(Nest),
+    Lists(ListKind),
 }
 
 /// Whether the byte ends a literal.
@@ -31,7 +31,7 @@ fn is_special(byte: u8) -> bool
     byte == b'[' || byte == b'\\'
 }
 
-/// Whether the byte may follow a backslash.
+/// Returns whether the byte may follow a backslash.
 pub fn is_escapable(byte: u8) -> bool
     ensures { result ≡ is_escapable byte }
 {
@@ -80,7 +80,7 @@ fn place_of_no_gap(bytes: &[u8]) -> Option<usize>
     bytes.iter().position(|b| !b.is_ascii_whitespace())
 }
 
-/// How many bytes come before the first that ends a literal.
+/// Returns how many bytes come before the first that ends a literal.
 pub fn literal_len(in_list: bool, bytes: &[u8]) -> usize
     ensures place { result ≡ position_or_len (ends_literal in_list) bytes.now }
     ensures inside { result ≤ length bytes.now }
@@ -91,7 +91,7 @@ pub fn literal_len(in_list: bool, bytes: &[u8]) -> usize
     }
 }
 
-/// How many bytes come before the first that ends a word.
+/// Returns how many bytes come before the first that ends a word.
 pub fn word_len(bytes: &[u8]) -> usize
     ensures place { result ≡ position_or_len ends_word bytes.now }
     ensures inside { result ≤ length bytes.now }
@@ -156,16 +156,16 @@ fn finished(component: Option<Component>, left: usize) -> Result<Component, Faul
     Err(Fault { reason, left })
 }
 
-/// What lists of items are for that a first word opens.
-fn nest_of(component: Option<Component>, word: &[u8]) -> Option<Nest>
-    ensures { result ≡ nest_of component word.now }
+/// Returns the kind of list that `optional` or `first` begins.
+fn list_kind_of(component: Option<Component>, word: &[u8]) -> Option<ListKind>
+    ensures { result ≡ list_kind_of component word.now }
 {
     match component {
         None => {
             if word == b"optional".as_slice() {
-                Some(Nest::Optional)
+                Some(ListKind::Optional)
             } else if word == b"first".as_slice() {
-                Some(Nest::First)
+                Some(ListKind::First)
             } else {
                 None
             }
@@ -174,8 +174,9 @@ fn nest_of(component: Option<Component>, word: &[u8]) -> Option<Nest>
     }
 }
 
-/// What brackets hold, and what follows it. The opening bracket is before the bytes, and `opened`
-/// bytes are left from it on.
+/// Returns the item that brackets hold, and the bytes after them.
+///
+/// The opening bracket is before the bytes, and `opened` bytes are left from it on.
 pub fn in_brackets(opened: usize, bytes: &[u8]) -> Result<(Bracketed, &[u8]), Fault<BracketReason>>
     ensures goes_on { InBrackets opened bytes.now result }
     ensures shorter { IfOk result (λ x. length x.1.now ≤ length bytes.now) }
@@ -208,8 +209,8 @@ pub fn in_brackets(opened: usize, bytes: &[u8]) -> Result<(Bracketed, &[u8]), Fa
             if is_special(end) {
                 return Err(unclosed);
             }
-            if let Some(nest) = nest_of(component, word) {
-                return Ok((Bracketed::Nest(nest), after));
+            if let Some(kind) = list_kind_of(component, word) {
+                return Ok((Bracketed::Lists(kind), after));
             }
             component = Some(with_word(component, word, rest.len())?);
             rest = after;
@@ -217,7 +218,7 @@ pub fn in_brackets(opened: usize, bytes: &[u8]) -> Result<(Bracketed, &[u8]), Fa
     }
 }
 
-/// What follows whitespace.
+/// Returns the bytes after whitespace.
 pub fn after_gap(bytes: &[u8]) -> &[u8]
     ensures { result.now ≡ drop (prefix_len is_ascii_whitespace bytes.now) bytes.now }
 {

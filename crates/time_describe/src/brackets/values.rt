@@ -12,14 +12,14 @@ use time_below::format_description::modifier::{
     WeekdayRepr, YearRange, YearRepr,
 };
 
-/// Whether a word is this name, in capitals or small letters.
+/// Returns whether a word is this name, in capitals or small letters.
 pub fn is_name(word: &[u8], name: &[u8]) -> bool
     ensures { result ≡ is_name word.now name.now }
 {
     word.eq_ignore_ascii_case(name)
 }
 
-/// The padding of this name.
+/// Returns the padding of this name.
 #[tactic(auto, unfolding(crate::specs::Values::padding_named))]
 pub fn padding_named(word: &[u8]) -> Option<Padding>
     ensures { result ≡ padding_named word.now }
@@ -35,7 +35,7 @@ pub fn padding_named(word: &[u8]) -> Option<Padding>
     }
 }
 
-/// How a month is written, by name.
+/// Returns how a month is written, by name.
 #[tactic(auto, unfolding(crate::specs::Values::month_repr_named))]
 pub fn month_repr_named(word: &[u8]) -> Option<MonthRepr>
     ensures { result ≡ month_repr_named word.now }
@@ -51,7 +51,7 @@ pub fn month_repr_named(word: &[u8]) -> Option<MonthRepr>
     }
 }
 
-/// How a weekday is written, by name.
+/// Returns how a weekday is written, by name.
 #[tactic(auto, unfolding(crate::specs::Values::weekday_repr_named))]
 pub fn weekday_repr_named(word: &[u8]) -> Option<WeekdayRepr>
     ensures { result ≡ weekday_repr_named word.now }
@@ -69,7 +69,7 @@ pub fn weekday_repr_named(word: &[u8]) -> Option<WeekdayRepr>
     }
 }
 
-/// Which weeks are counted, by name.
+/// Returns which weeks are counted, by name.
 #[tactic(auto, unfolding(crate::specs::Values::week_number_repr_named))]
 pub fn week_number_repr_named(word: &[u8]) -> Option<WeekNumberRepr>
     ensures { result ≡ week_number_repr_named word.now }
@@ -85,7 +85,7 @@ pub fn week_number_repr_named(word: &[u8]) -> Option<WeekNumberRepr>
     }
 }
 
-/// What of a year is written, by name.
+/// Returns which part of a year is written, by name.
 #[tactic(auto, unfolding(crate::specs::Values::year_repr_named))]
 pub fn year_repr_named(word: &[u8]) -> Option<YearRepr>
     ensures { result ≡ year_repr_named word.now }
@@ -101,7 +101,7 @@ pub fn year_repr_named(word: &[u8]) -> Option<YearRepr>
     }
 }
 
-/// How great a year may be, by name.
+/// Returns how great a year may be, by name.
 #[tactic(auto, unfolding(crate::specs::Values::year_range_named))]
 pub fn year_range_named(word: &[u8]) -> Option<YearRange>
     ensures { result ≡ year_range_named word.now }
@@ -115,7 +115,7 @@ pub fn year_range_named(word: &[u8]) -> Option<YearRange>
     }
 }
 
-/// The unit in which a moment is counted, by name.
+/// Returns the unit in which a moment is counted, by name.
 #[tactic(auto, unfolding(crate::specs::Values::precision_named))]
 pub fn precision_named(word: &[u8]) -> Option<UnixTimestampPrecision>
     ensures { result ≡ precision_named word.now }
@@ -129,7 +129,7 @@ pub fn precision_named(word: &[u8]) -> Option<UnixTimestampPrecision>
     }
 }
 
-/// How many decimals are written, by name.
+/// Returns how many decimals are written, by name.
 #[tactic(auto, unfolding(crate::specs::Values::digits_named))]
 pub fn digits_named(word: &[u8]) -> Option<SubsecondDigits>
     ensures { result ≡ digits_named word.now }
@@ -159,7 +159,7 @@ pub fn digits_named(word: &[u8]) -> Option<SubsecondDigits>
     }
 }
 
-/// Yes or no, by name.
+/// Returns the value of the word `true` or `false`.
 #[tactic(auto, unfolding(crate::specs::Values::bool_named))]
 pub fn bool_named(word: &[u8]) -> Option<bool>
     ensures { result ≡ bool_named word.now }
@@ -173,7 +173,7 @@ pub fn bool_named(word: &[u8]) -> Option<bool>
     }
 }
 
-/// Whether the clock has 12 hours, by name.
+/// Returns whether the clock has 12 hours, by name.
 #[tactic(auto, unfolding(crate::specs::Values::clock_named))]
 pub fn clock_named(word: &[u8]) -> Option<bool>
     ensures { result ≡ clock_named word.now }
@@ -187,7 +187,7 @@ pub fn clock_named(word: &[u8]) -> Option<bool>
     }
 }
 
-/// Whether letters are capitals, by name.
+/// Returns whether letters are capitals, by name.
 #[tactic(auto, unfolding(crate::specs::Values::case_named))]
 pub fn case_named(word: &[u8]) -> Option<bool>
     ensures { result ≡ case_named word.now }
@@ -201,7 +201,7 @@ pub fn case_named(word: &[u8]) -> Option<bool>
     }
 }
 
-/// Whether a plus is written, by name.
+/// Returns whether a plus is written, by name.
 #[tactic(auto, unfolding(crate::specs::Values::sign_named))]
 pub fn sign_named(word: &[u8]) -> Option<bool>
     ensures { result ≡ sign_named word.now }
@@ -215,7 +215,7 @@ pub fn sign_named(word: &[u8]) -> Option<bool>
     }
 }
 
-/// Whether the year is that of the week calendar, by name.
+/// Returns whether the year is that of the week calendar, by name.
 #[tactic(auto, unfolding(crate::specs::Values::base_named))]
 pub fn base_named(word: &[u8]) -> Option<bool>
     ensures { result ≡ base_named word.now }
@@ -229,7 +229,7 @@ pub fn base_named(word: &[u8]) -> Option<bool>
     }
 }
 
-/// What a parser does with input past the end of a description, by name.
+/// Returns what a parser does with input past the end of a description, by name.
 #[tactic(auto, unfolding(crate::specs::Values::trailing_input_named))]
 pub fn trailing_input_named(word: &[u8]) -> Option<TrailingInput>
     ensures { result ≡ trailing_input_named word.now }
@@ -272,7 +272,7 @@ fn whole_number(digits: &[u8]) -> Option<u16>
     Some(number)
 }
 
-/// A number of bytes, 1 to 65,535, in decimal digits.
+/// Returns the number of bytes, 1 to 65,535, that decimal digits write.
 pub fn count_named(word: &[u8]) -> Option<u16>
     ensures { result ≡ count_named word.now }
 {

@@ -1,6 +1,4 @@
 //! The conversions of strftime, by the letter that each one has.
-//!
-//! Without `inline(always)` the compiler leaves calls of the function that has it.
 ghost use Rattle.std.specs.Prelude.{◌≡◌, ◌∷◌, [], option_map};
 ghost use Rattle.time_describe.specs.Conversions.{flag_named, number, word, sign, composition};
 ghost use Rattle.time_describe.specs.Conversions.{width, refusal};
@@ -9,7 +7,7 @@ use super::reason::StrftimeReason;
 use time_below::format_description::modifier::{Padding, SubsecondDigits};
 use time_below::format_description::{Component, modifier};
 
-/// The padding that a flag asks for.
+/// Returns the padding that a flag asks for.
 #[tactic(auto, unfolding(crate::specs::Conversions::flag_named))]
 pub fn flag_named(byte: u8) -> Option<Padding>
     ensures { result ≡ flag_named byte }
@@ -22,8 +20,7 @@ pub fn flag_named(byte: u8) -> Option<Padding>
     }
 }
 
-/// The number that a letter stands for, padded as the flag says.
-#[inline(always)]
+/// Returns the number that a letter stands for, padded as the flag says.
 #[tactic(auto, unfolding(crate::specs::Conversions::number))]
 pub fn number(letter: u8, flag: Option<Padding>) -> Option<Component>
     ensures { result ≡ number letter flag }
@@ -99,7 +96,7 @@ pub fn number(letter: u8, flag: Option<Padding>) -> Option<Component>
     }
 }
 
-/// The name or the fraction that a letter stands for.
+/// Returns the name or the fraction that a letter stands for.
 #[tactic(auto, unfolding(crate::specs::Conversions::word))]
 pub fn word(letter: u8) -> Option<Component>
     ensures { result ≡ word letter }
@@ -135,7 +132,7 @@ pub fn word(letter: u8) -> Option<Component>
     }
 }
 
-/// The other conversions that a letter stands for.
+/// Returns the other conversions that a letter stands for.
 #[tactic(auto, unfolding(crate::specs::Conversions::composition))]
 pub fn composition(letter: u8) -> Option<&'static [u8]>
     ensures { option_map (λ text. text.now) result ≡ composition letter }
@@ -153,7 +150,7 @@ pub fn composition(letter: u8) -> Option<&'static [u8]>
     }
 }
 
-/// The byte that a letter stands for.
+/// Returns the byte that a letter stands for.
 #[tactic(auto, unfolding(crate::specs::Conversions::sign))]
 pub fn sign(letter: u8) -> Option<u8>
     ensures { option_map (λ byte. byte ∷ []) result ≡ sign letter }
@@ -166,7 +163,7 @@ pub fn sign(letter: u8) -> Option<u8>
     }
 }
 
-/// How many digits of a fraction a digit asks for.
+/// Returns how many digits of a fraction a digit asks for.
 #[tactic(auto, unfolding(crate::specs::Conversions::width))]
 pub fn width(digit: u8) -> Option<SubsecondDigits>
     ensures { result ≡ width digit }

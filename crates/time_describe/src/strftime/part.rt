@@ -1,7 +1,4 @@
 //! The parts of a text in the syntax of strftime, before anything is made of them.
-//!
-//! Without `inline(always)` the compiler leaves calls of the function that has it.
-//! `inline(never)` keeps long or rare bodies out of their callers.
 ghost use Rattle.std.specs.Prelude.{◌≡◌, ◌≤◌, ◌<◌, ◌+◌, ℕ, List, length, IfOk, option_map};
 ghost use Rattle.std.specs.Prelude.{position};
 ghost use Rattle.std.specs.List.{position_or_len};
@@ -33,8 +30,7 @@ pub enum StrftimePart<'a> {
     Composition(&'a [u8]),
 }
 
-/// The component that a letter stands for, where it stands for one alone.
-#[inline(always)]
+/// Returns the component that a letter stands for, where it stands for one alone.
 pub fn component_of(letter: u8) -> Option<Component>
     ensures { result ≡ component_of letter }
 {
@@ -82,7 +78,6 @@ fn part_of(letter: u8) -> Option<StrftimePart<'static>>
 }
 
 /// What is after a flag, and that it takes two bytes after the `%`.
-#[inline(never)]
 #[tactic(auto, unfolding(crate::specs::Strftime::flagged))]
 fn flagged<'a>(
     flag: Padding,
@@ -158,9 +153,7 @@ fn with_width<'a>(
     }
 }
 
-/// What is after a `%`, and how many bytes belong to it. The usual conversions are added before
-/// without a call.
-#[inline(never)]
+/// What is after a `%`, and how many bytes belong to it.
 #[tactic(auto, unfolding(crate::specs::Strftime::conversion))]
 fn conversion<'a>(bytes: &'a [u8]) -> Result<(StrftimePart<'a>, usize), Fault<StrftimeReason>>
     ensures part { (text : List ℕ) → front_of text result ≡ conversion bytes.now }
@@ -210,7 +203,7 @@ fn literal_len(bytes: &[u8]) -> usize
     }
 }
 
-/// The first part of a text, and how many bytes belong to it after the first one.
+/// Returns the first part of a text, and how many bytes belong to it after the first one.
 #[tactic(auto, unfolding(crate::specs::Strftime::first_part))]
 pub fn first_part<'a>(text: &'a [u8]) -> Result<(StrftimePart<'a>, usize), Fault<StrftimeReason>>
     requires { 0 < length text.now }

@@ -41,7 +41,7 @@ impl<const MAX: u8> ri8<MAX> {
         ri8 { number: n }
     }
 
-    /// The number, from `-MAX` to `MAX`.
+    /// Returns the number, from `-MAX` to `MAX`.
     pub fn get(self) -> i8
         ensures value { result ≡ self.entry }
         ensures range { unsigned_abs result ≤ MAX }
@@ -51,14 +51,14 @@ impl<const MAX: u8> ri8<MAX> {
         self.number
     }
 
-    /// The magnitude of the number, from 0 to `MAX`.
+    /// Returns the magnitude of the number, from 0 to `MAX`.
     pub fn abs(self) -> ru8<0, MAX>
         ensures { result ≡ unsigned_abs self.entry }
     {
         ru8::within(self.number.unsigned_abs())
     }
 
-    /// Whether the number is below zero.
+    /// Returns whether the number is below zero.
     pub fn is_negative(self) -> bool
         ensures { IsTrue result ↔ (self.entry <ℤ pos 0) }
     {
@@ -117,7 +117,7 @@ impl<const MAX: u16> ri16<MAX> {
         ri16 { number: n }
     }
 
-    /// The number, from `-MAX` to `MAX`.
+    /// Returns the number, from `-MAX` to `MAX`.
     pub fn get(self) -> i16
         ensures value { result ≡ self.entry }
         ensures range { unsigned_abs result ≤ MAX }
@@ -127,14 +127,14 @@ impl<const MAX: u16> ri16<MAX> {
         self.number
     }
 
-    /// The magnitude of the number, from 0 to `MAX`.
+    /// Returns the magnitude of the number, from 0 to `MAX`.
     pub fn abs(self) -> ru16<0, MAX>
         ensures { result ≡ unsigned_abs self.entry }
     {
         ru16::within(self.number.unsigned_abs())
     }
 
-    /// Whether the number is below zero.
+    /// Returns whether the number is below zero.
     pub fn is_negative(self) -> bool
         ensures { IsTrue result ↔ (self.entry <ℤ pos 0) }
     {
@@ -193,7 +193,7 @@ impl<const MAX: u32> ri32<MAX> {
         ri32 { number: n }
     }
 
-    /// The number, from `-MAX` to `MAX`.
+    /// Returns the number, from `-MAX` to `MAX`.
     pub fn get(self) -> i32
         ensures value { result ≡ self.entry }
         ensures range { unsigned_abs result ≤ MAX }
@@ -203,14 +203,14 @@ impl<const MAX: u32> ri32<MAX> {
         self.number
     }
 
-    /// The magnitude of the number, from 0 to `MAX`.
+    /// Returns the magnitude of the number, from 0 to `MAX`.
     pub fn abs(self) -> ru32<0, MAX>
         ensures { result ≡ unsigned_abs self.entry }
     {
         ru32::within(self.number.unsigned_abs())
     }
 
-    /// Whether the number is below zero.
+    /// Returns whether the number is below zero.
     pub fn is_negative(self) -> bool
         ensures { IsTrue result ↔ (self.entry <ℤ pos 0) }
     {

@@ -40,7 +40,7 @@ impl<const MIN: u8, const MAX: u8> ru8<MIN, MAX> {
         ru8 { number: n }
     }
 
-    /// The number, from `MIN` to `MAX`.
+    /// Returns the number, from `MIN` to `MAX`.
     pub fn get(self) -> u8
         ensures value { result ≡ self.entry }
         ensures least { MIN ≤ result }
@@ -103,7 +103,7 @@ impl<const MIN: u16, const MAX: u16> ru16<MIN, MAX> {
         ru16 { number: n }
     }
 
-    /// The number, from `MIN` to `MAX`.
+    /// Returns the number, from `MIN` to `MAX`.
     pub fn get(self) -> u16
         ensures value { result ≡ self.entry }
         ensures least { MIN ≤ result }
@@ -166,7 +166,7 @@ impl<const MIN: u32, const MAX: u32> ru32<MIN, MAX> {
         ru32 { number: n }
     }
 
-    /// The number, from `MIN` to `MAX`.
+    /// Returns the number, from `MIN` to `MAX`.
     pub fn get(self) -> u32
         ensures value { result ≡ self.entry }
         ensures least { MIN ≤ result }

@@ -1,24 +1,20 @@
 //! The engine: one recursion for each kind of tree.
-//!
-//! Without `inline(always)` the compiler leaves calls of the functions that have it.
-//! `inline(never)` keeps long or rare bodies out of their callers.
 ghost use Rattle.std.specs.Prelude.{map, true};
 ghost use Rattle.time_below.specs.Tree.{all_of, trees};
 ghost use Rattle.time_below.specs.Width.{tree_width, trees_width};
 ghost use Rattle.time_fmt.specs.Guarantee.{AppendsTree};
 ghost use Rattle.time_fmt.specs.Sink.{Fits};
 
-use crate::component::{end_component, write_current, write_often};
+use crate::component::{write_component, write_component_inline};
 use crate::refused::Refused;
 use crate::sink::Sink;
-use crate::step::{WriteStep, write_all};
+use crate::step::{WriteStep, write_steps_inline};
 use crate::writers::{write, write_bytes, write_literal};
 use time_below::format_description::{Layer, Node};
 use time_provide::ComponentProvider;
 
-/// Writes the nodes in order, up to the first that is refused, and returns its refusal. One with
-/// items of its own, or whose component is deprecated or has no text, is written by a call, after
-/// which the loop goes on behind it.
+/// Appends the texts of the nodes in order, up to the first that is refused, and returns its
+/// refusal. The output needs spare capacity for their maximum length.
 #[cycle(engine)]
 #[inline(always)]
 pub(super) fn write_nodes<T: Node, S: Sink, V: ComponentProvider>(
@@ -34,30 +30,11 @@ pub(super) fn write_nodes<T: Node, S: Sink, V: ComponentProvider>(
     ensures agrees { V.agrees state.new value.now }
 {
     let mut left = nodes;
-    while let [node, behind @ ..] = write_all(left, (), output, value, state)? {
-        write_inner(node, output, value, state)?;
+    while let [node, behind @ ..] = write_steps_inline(left, (), output, value, state)? {
+        write_node(node, output, value, state)?;
         left = behind;
     }
     Ok(())
-}
-
-/// Writes a node before which the loop stops. It is a function of its own, since with `write_node`
-/// called in its place a list that stands where it is used costs two instructions more.
-#[cycle(engine)]
-#[inline(never)]
-fn write_inner<T: Node, S: Sink, V: ComponentProvider>(
-    node: &T,
-    output: &mut S,
-    value: &V,
-    state: &mut V::State,
-) -> Result<(), Refused>
-    requires room { Fits (S.buffer output.old) (tree_width (T.tree node.now)) }
-    requires agrees { V.agrees state.old value.now }
-    ensures appends { AppendsTree (T.tree node.now) (V.facts value.now)
-        (S.buffer output.old) (S.buffer output.new) result }
-    ensures agrees { V.agrees state.new value.now }
-{
-    write_node(node, output, value, state)
 }
 
 /// Each node is a step.
@@ -66,13 +43,11 @@ impl<T: Node> WriteStep<()> for T {
 
     ghost is_valid = { λ _ _. true };
 
-    ghost may_stop = { λ _. true };
-
     ghost has_room = { true };
 
-    /// Writes a literal, or a component that is met often.
+    /// Writes a literal, or a component of a frequent kind.
     #[inline(always)]
-    fn write_often<S: Sink, V: ComponentProvider>(
+    fn write_inline<S: Sink, V: ComponentProvider>(
         &self,
         _beside: (),
         output: &mut S,
@@ -82,37 +57,18 @@ impl<T: Node> WriteStep<()> for T {
         let bytes = match self.layer() {
             Layer::Bytes(bytes) => bytes,
             Layer::Text(text) => text.as_bytes(),
-            Layer::Component(component) => return write_often(component, output, value, state),
+            Layer::Component(component) => {
+                return write_component_inline(component, output, value, state);
+            }
             _ => return None,
         };
         write_literal(output, bytes);
         Some(Ok(()))
     }
-
-    /// Writes any component that is not deprecated, by a call. The sink is taken out for it alone,
-    /// so that the compiler sees that the loop stops before any other node.
-    #[inline(always)]
-    fn write_seldom<S: Sink, V: ComponentProvider>(
-        &self,
-        _beside: (),
-        output: &mut S,
-        value: &V,
-        state: &mut V::State,
-    ) -> Option<Result<(), Refused>> {
-        match self.layer() {
-            Layer::Component(component) => {
-                let mut apart = output.take_out();
-                let answer = write_current(component, &mut apart, value, state);
-                output.put_back(apart);
-                answer
-            }
-            _ => None,
-        }
-    }
 }
 
 /// Appends the text of the node, up to the first component that is refused, and returns its
-/// refusal.
+/// refusal. The output needs spare capacity for its maximum length.
 #[cycle(engine)]
 #[inline(never)]
 pub(super) fn write_node<T: Node, S: Sink, V: ComponentProvider>(
@@ -136,7 +92,7 @@ pub(super) fn write_node<T: Node, S: Sink, V: ComponentProvider>(
             write(output, text);
             Ok(())
         }
-        Layer::Component(component) => end_component(component, output, value, state),
+        Layer::Component(component) => write_component(component, output, value, state),
         Layer::All(nodes) => write_nodes(nodes, output, value, state),
         Layer::First(nodes) => match nodes.first() {
             Some(node) => write_node(node, output, value, state),

@@ -1,6 +1,4 @@
 //! Lists of items, which mean what a compound of the same items means.
-//!
-//! Without `inline(always)` the compiler leaves calls of the functions that have it.
 #![tactic(auto, using(crate::proofs::EndLemmas::answered))]
 
 ghost use Rattle.std.specs.Prelude.{map};
@@ -9,7 +7,7 @@ ghost use Rattle.time_below.specs.Width.{trees_width, are_guaranteed_text};
 ghost use Rattle.time_fmt.specs.Description.{trees_outcome};
 
 use crate::error::Format;
-use crate::formattable::into_sink::write_into_sink;
+use crate::formattable::engine::write_nodes;
 use crate::formattable::{Formattable, make_room};
 use crate::metadata::ComputeMetadata;
 use time_below::format_description::{
@@ -34,7 +32,6 @@ impl ComputeMetadata for BorrowedItems<'_> {
 impl Formattable for BorrowedItems<'_> {
     ghost outcome_of = { λ items. trees_outcome (trees (map borrowed_tree items.0.now)) };
 
-    #[inline(always)]
     fn write_into<V: ComponentProvider>(
         &self,
         output: &mut Vec<u8>,
@@ -43,13 +40,11 @@ impl Formattable for BorrowedItems<'_> {
     ) -> Result<usize, Format> {
         let BorrowedItems(items) = *self;
         let begin = output.len();
-        match write_into_sink(items, output, value, state) {
-            Ok(()) => Ok(output.len() - begin),
-            Err(refused) => Err(Format::from(refused)),
-        }
+        write_nodes(items, output, value, state)?;
+        Ok(output.len() - begin)
     }
 
-    // This becomes part of the caller, so that no result lies in memory.
+    // Row: a borrowed list of 11 items, whose maximum length is not computed where it fits.
     #[inline(always)]
     fn format_into<V: ComponentProvider>(
         &self,
@@ -57,18 +52,13 @@ impl Formattable for BorrowedItems<'_> {
         value: &V,
         state: &mut V::State,
     ) -> Result<usize, Format> {
-        if !self.fits_plainly(output.capacity() - output.len()) {
+        if !nodes_fit(self.0, output.capacity() - output.len()) {
             let width = self.compute_metadata().max_bytes_needed;
             if width == usize::MAX || make_room(output, width).is_err() {
                 return Err(Format::OutOfMemory);
             }
         }
         self.write_into(output, value, state)
-    }
-
-    #[inline(always)]
-    fn fits_plainly(&self, room: usize) -> bool {
-        nodes_fit(self.0, room)
     }
 }
 
@@ -89,7 +79,6 @@ impl ComputeMetadata for OwnedItems<'_> {
 impl Formattable for OwnedItems<'_> {
     ghost outcome_of = { λ items. trees_outcome (trees (map owned_tree items.0.now)) };
 
-    #[inline(always)]
     fn write_into<V: ComponentProvider>(
         &self,
         output: &mut Vec<u8>,
@@ -98,13 +87,11 @@ impl Formattable for OwnedItems<'_> {
     ) -> Result<usize, Format> {
         let OwnedItems(items) = *self;
         let begin = output.len();
-        match write_into_sink(items, output, value, state) {
-            Ok(()) => Ok(output.len() - begin),
-            Err(refused) => Err(Format::from(refused)),
-        }
+        write_nodes(items, output, value, state)?;
+        Ok(output.len() - begin)
     }
 
-    // This becomes part of the caller, so that no result lies in memory.
+    // Row: a borrowed list of 11 items, whose maximum length is not computed where it fits.
     #[inline(always)]
     fn format_into<V: ComponentProvider>(
         &self,
@@ -112,17 +99,12 @@ impl Formattable for OwnedItems<'_> {
         value: &V,
         state: &mut V::State,
     ) -> Result<usize, Format> {
-        if !self.fits_plainly(output.capacity() - output.len()) {
+        if !nodes_fit(self.0, output.capacity() - output.len()) {
             let width = self.compute_metadata().max_bytes_needed;
             if width == usize::MAX || make_room(output, width).is_err() {
                 return Err(Format::OutOfMemory);
             }
         }
         self.write_into(output, value, state)
-    }
-
-    #[inline(always)]
-    fn fits_plainly(&self, room: usize) -> bool {
-        nodes_fit(self.0, room)
     }
 }

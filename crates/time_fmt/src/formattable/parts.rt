@@ -1,7 +1,5 @@
 //! Descriptions that are known at compile time: a text, the choices of a component, and a pair of
 //! descriptions.
-//!
-//! Without `inline(always)` the compiler leaves calls of the functions that have it.
 ghost use Rattle.std.specs.Char.{is_ascii};
 ghost use Rattle.std.specs.List.{list_all};
 ghost use Rattle.std.specs.Prelude.{◌≡◌, ◌+◌, ◌&&◌, length, true};
@@ -31,10 +29,6 @@ impl<const N: usize> ComputeMetadata for Literal<N> {
             max_bytes_needed: N,
             guaranteed_utf8: is_text(self.0.as_slice()),
         }
-    }
-
-    fn width(&self) -> usize {
-        N
     }
 }
 
@@ -67,10 +61,6 @@ impl<A: ComputeMetadata, B: ComputeMetadata> ComputeMetadata for (A, B) {
     fn compute_metadata(&self) -> Metadata {
         self.0.compute_metadata() + self.1.compute_metadata()
     }
-
-    fn width(&self) -> usize {
-        self.0.width().saturating_add(self.1.width())
-    }
 }
 
 impl<A: Formattable, B: Formattable> Formattable for (A, B) {
@@ -94,7 +84,7 @@ impl<A: Formattable, B: Formattable> Formattable for (A, B) {
     }
 
     // This becomes part of the caller, where the choices are known. The vector is taken out
-    // meanwhile, so that the compiler sees that its block does not move.
+    // meanwhile, so that its address and length stay in registers.
     #[inline(always)]
     fn format_into<V: ComponentProvider>(
         &self,
@@ -102,7 +92,7 @@ impl<A: Formattable, B: Formattable> Formattable for (A, B) {
         value: &V,
         state: &mut V::State,
     ) -> Result<usize, Format> {
-        let width = self.width();
+        let width = self.compute_metadata().max_bytes_needed;
         if width == usize::MAX || make_room(output, width).is_err() {
             return Err(Format::OutOfMemory);
         }
@@ -129,10 +119,6 @@ impl<M: Modifier> ComputeMetadata for M {
             max_bytes_needed: component_width(&self.component()),
             guaranteed_utf8: true,
         }
-    }
-
-    fn width(&self) -> usize {
-        component_width(&self.component())
     }
 }
 

@@ -92,10 +92,13 @@ impl Formattable for FormatDescriptionV3<'_> {
     }
 }
 
-/// Appends the text of the description. The output needs spare capacity for its maximum length.
-/// Allocates nothing.
+/// Appends the text of the description, and allocates nothing.
 ///
-/// Returns the number of bytes appended, or the refusal that ends the text.
+/// The output needs spare capacity for its maximum length. Returns the number of bytes appended.
+///
+/// # Errors
+///
+/// A component that is refused ends the text. The bytes appended before it stay.
 pub fn v3_write_into<V: ComponentProvider>(
     item: &FormatDescriptionV3Inner<'_>,
     output: &mut Vec<u8>,

@@ -1,20 +1,22 @@
 //! Centuries and the last two digits of a year, of the calendar and of the week calendar.
 #![tactic(auto, using(crate::proofs::TextLemmas::signed_lengths))]
 
-ghost use Rattle.std.specs.Prelude.{◌≡◌, ◌<◌, ◌≤◌, ◌%◌, MatchOption, int_lt, length, pos};
+ghost use Rattle.std.specs.Prelude.{◌≡◌, ◌<◌, ◌≤◌, ◌%◌, ◌++◌, MatchOption, decimal, length, true};
 ghost use Rattle.std.specs.Prelude.{unsigned_abs};
 ghost use Rattle.time_below.specs.declared.format_description.component.Component.TheVariants as component;
-ghost use Rattle.time_fmt.specs.Ends.{EndsWhole};
 ghost use Rattle.time_fmt.specs.Kind.{kind_text, extended_century, standard_century, century_of};
 ghost use Rattle.time_fmt.specs.Sink.{Fits, Puts};
-ghost use Rattle.time_fmt.specs.Text.{padded_text};
+ghost use Rattle.time_fmt.specs.Text.{padded_text, sign_text};
 
-use crate::kind::{Century, TextKind, TwoDigitCentury, TwoDigits};
 use crate::modifier::Modifier;
 use crate::refused::Refused;
 use crate::sink::Sink;
+use crate::writers::digits::{fmt_sign, format_two_digits};
+use crate::writers::plain::write_many;
+use time_below::format_description::modifier::Padding;
 use time_below::format_description::{Component, modifier};
-use time_digits::{ru8, ru16};
+use time_digits::num_fmt::one_to_four_digits_no_padding;
+use time_digits::{ri8, ri16, ru8, ru16};
 use time_provide::ComponentProvider;
 use time_provide::ranges::{ExtendedCentury, LastTwo, StandardCentury, Year};
 
@@ -32,36 +34,32 @@ pub fn fmt_calendar_year_century_extended_range<S: Sink>(
     ensures writes { Puts (S.buffer output.old) (S.buffer output.new) result
         (kind_text (extended_century modifier.padding modifier.sign_is_mandatory
         is_negative (unsigned_abs century))) }
-    ensures ends { EndsWhole 5 (S.buffer output.old) (S.buffer output.new)
-        (kind_text (extended_century modifier.padding modifier.sign_is_mandatory
-        is_negative (unsigned_abs century))) }
 {
-    let text = Century {
-        padding: modifier.padding,
-        sign_is_mandatory: modifier.sign_is_mandatory,
+    write_century(
+        output,
+        century.abs(),
         is_negative,
-        century: century.abs(),
-    };
-    text.put(output)
+        modifier.padding,
+        modifier.sign_is_mandatory,
+    )
 }
 
 impl Modifier for modifier::CalendarYearCenturyExtendedRange {
-    type Kind = Century;
-
     ghost component_of = { component.CalendarYearCenturyExtendedRange };
 
     fn component(self) -> Component {
         Component::CalendarYearCenturyExtendedRange(self)
     }
 
-    fn kind<V: ComponentProvider>(self, value: &V, state: &mut V::State) -> Century {
-        let (century, is_negative) = century_of(value.calendar_year(state));
-        Century {
-            padding: self.padding,
-            sign_is_mandatory: self.sign_is_mandatory,
-            is_negative,
-            century,
-        }
+    fn write<S: Sink, V: ComponentProvider>(
+        self,
+        output: &mut S,
+        value: &V,
+        state: &mut V::State,
+    ) -> Result<(), Refused> {
+        let year = value.calendar_year(state);
+        fmt_calendar_year_century_extended_range(output, century_of(year), year.get() < 0, self);
+        Ok(())
     }
 }
 
@@ -79,42 +77,35 @@ pub fn fmt_calendar_year_century_standard_range<S: Sink>(
     ensures writes { Puts (S.buffer output.old) (S.buffer output.new) result
         (kind_text (standard_century modifier.padding modifier.sign_is_mandatory
         is_negative (unsigned_abs century))) }
-    ensures ends { EndsWhole 3 (S.buffer output.old) (S.buffer output.new)
-        (kind_text (standard_century modifier.padding modifier.sign_is_mandatory
-        is_negative (unsigned_abs century))) }
 {
-    let text = TwoDigitCentury {
-        padding: modifier.padding,
-        sign_is_mandatory: modifier.sign_is_mandatory,
+    write_two_digit_century(
+        output,
+        century.abs(),
         is_negative,
-        century: century.abs(),
-    };
-    text.put(output)
+        modifier.padding,
+        modifier.sign_is_mandatory,
+    )
 }
 
 impl Modifier for modifier::CalendarYearCenturyStandardRange {
-    type Kind = Result<TwoDigitCentury, Refused>;
-
     ghost component_of = { component.CalendarYearCenturyStandardRange };
 
     fn component(self) -> Component {
         Component::CalendarYearCenturyStandardRange(self)
     }
 
-    fn kind<V: ComponentProvider>(
+    fn write<S: Sink, V: ComponentProvider>(
         self,
+        output: &mut S,
         value: &V,
         state: &mut V::State,
-    ) -> Result<TwoDigitCentury, Refused> {
-        let Some((century, is_negative)) = standard_century_of(value.calendar_year(state)) else {
+    ) -> Result<(), Refused> {
+        let year = value.calendar_year(state);
+        let Some(century) = standard_century_of(year) else {
             return Err(Refused::YearOutOfRange);
         };
-        Ok(TwoDigitCentury {
-            padding: self.padding,
-            sign_is_mandatory: self.sign_is_mandatory,
-            is_negative,
-            century,
-        })
+        fmt_calendar_year_century_standard_range(output, century, year.get() < 0, self);
+        Ok(())
     }
 }
 
@@ -132,36 +123,32 @@ pub fn fmt_iso_year_century_extended_range<S: Sink>(
     ensures writes { Puts (S.buffer output.old) (S.buffer output.new) result
         (kind_text (extended_century modifier.padding modifier.sign_is_mandatory
         is_negative (unsigned_abs century))) }
-    ensures ends { EndsWhole 5 (S.buffer output.old) (S.buffer output.new)
-        (kind_text (extended_century modifier.padding modifier.sign_is_mandatory
-        is_negative (unsigned_abs century))) }
 {
-    let text = Century {
-        padding: modifier.padding,
-        sign_is_mandatory: modifier.sign_is_mandatory,
+    write_century(
+        output,
+        century.abs(),
         is_negative,
-        century: century.abs(),
-    };
-    text.put(output)
+        modifier.padding,
+        modifier.sign_is_mandatory,
+    )
 }
 
 impl Modifier for modifier::IsoYearCenturyExtendedRange {
-    type Kind = Century;
-
     ghost component_of = { component.IsoYearCenturyExtendedRange };
 
     fn component(self) -> Component {
         Component::IsoYearCenturyExtendedRange(self)
     }
 
-    fn kind<V: ComponentProvider>(self, value: &V, state: &mut V::State) -> Century {
-        let (century, is_negative) = century_of(value.iso_year(state));
-        Century {
-            padding: self.padding,
-            sign_is_mandatory: self.sign_is_mandatory,
-            is_negative,
-            century,
-        }
+    fn write<S: Sink, V: ComponentProvider>(
+        self,
+        output: &mut S,
+        value: &V,
+        state: &mut V::State,
+    ) -> Result<(), Refused> {
+        let year = value.iso_year(state);
+        fmt_iso_year_century_extended_range(output, century_of(year), year.get() < 0, self);
+        Ok(())
     }
 }
 
@@ -179,42 +166,35 @@ pub fn fmt_iso_year_century_standard_range<S: Sink>(
     ensures writes { Puts (S.buffer output.old) (S.buffer output.new) result
         (kind_text (standard_century modifier.padding modifier.sign_is_mandatory
         is_negative (unsigned_abs century))) }
-    ensures ends { EndsWhole 3 (S.buffer output.old) (S.buffer output.new)
-        (kind_text (standard_century modifier.padding modifier.sign_is_mandatory
-        is_negative (unsigned_abs century))) }
 {
-    let text = TwoDigitCentury {
-        padding: modifier.padding,
-        sign_is_mandatory: modifier.sign_is_mandatory,
+    write_two_digit_century(
+        output,
+        century.abs(),
         is_negative,
-        century: century.abs(),
-    };
-    text.put(output)
+        modifier.padding,
+        modifier.sign_is_mandatory,
+    )
 }
 
 impl Modifier for modifier::IsoYearCenturyStandardRange {
-    type Kind = Result<TwoDigitCentury, Refused>;
-
     ghost component_of = { component.IsoYearCenturyStandardRange };
 
     fn component(self) -> Component {
         Component::IsoYearCenturyStandardRange(self)
     }
 
-    fn kind<V: ComponentProvider>(
+    fn write<S: Sink, V: ComponentProvider>(
         self,
+        output: &mut S,
         value: &V,
         state: &mut V::State,
-    ) -> Result<TwoDigitCentury, Refused> {
-        let Some((century, is_negative)) = standard_century_of(value.iso_year(state)) else {
+    ) -> Result<(), Refused> {
+        let year = value.iso_year(state);
+        let Some(century) = standard_century_of(year) else {
             return Err(Refused::YearOutOfRange);
         };
-        Ok(TwoDigitCentury {
-            padding: self.padding,
-            sign_is_mandatory: self.sign_is_mandatory,
-            is_negative,
-            century,
-        })
+        fmt_iso_year_century_standard_range(output, century, year.get() < 0, self);
+        Ok(())
     }
 }
 
@@ -228,15 +208,11 @@ pub fn fmt_calendar_year_last_two<S: Sink>(
     requires room { Fits (S.buffer output.old) (length (padded_text modifier.padding 2 last_two)) }
     ensures writes { Puts (S.buffer output.old) (S.buffer output.new) result
         (padded_text modifier.padding 2 last_two) }
-    ensures ends { EndsWhole 2 (S.buffer output.old) (S.buffer output.new)
-        (padded_text modifier.padding 2 last_two) }
 {
-    TwoDigits(last_two, modifier.padding).put(output)
+    format_two_digits(output, last_two, modifier.padding)
 }
 
 impl Modifier for modifier::CalendarYearLastTwo {
-    type Kind = TwoDigits;
-
     ghost component_of = { component.CalendarYearLastTwo };
 
     fn component(self) -> Component {
@@ -244,8 +220,14 @@ impl Modifier for modifier::CalendarYearLastTwo {
     }
 
     #[tactic(auto, using(crate::proofs::TextLemmas::text_lengths))]
-    fn kind<V: ComponentProvider>(self, value: &V, state: &mut V::State) -> TwoDigits {
-        TwoDigits(last_two(value.calendar_year(state)), self.padding)
+    fn write<S: Sink, V: ComponentProvider>(
+        self,
+        output: &mut S,
+        value: &V,
+        state: &mut V::State,
+    ) -> Result<(), Refused> {
+        fmt_calendar_year_last_two(output, last_two(value.calendar_year(state)), self);
+        Ok(())
     }
 }
 
@@ -260,15 +242,11 @@ pub fn fmt_iso_year_last_two<S: Sink>(
     requires room { Fits (S.buffer output.old) (length (padded_text modifier.padding 2 last_two)) }
     ensures writes { Puts (S.buffer output.old) (S.buffer output.new) result
         (padded_text modifier.padding 2 last_two) }
-    ensures ends { EndsWhole 2 (S.buffer output.old) (S.buffer output.new)
-        (padded_text modifier.padding 2 last_two) }
 {
-    TwoDigits(last_two, modifier.padding).put(output)
+    format_two_digits(output, last_two, modifier.padding)
 }
 
 impl Modifier for modifier::IsoYearLastTwo {
-    type Kind = TwoDigits;
-
     ghost component_of = { component.IsoYearLastTwo };
 
     fn component(self) -> Component {
@@ -276,35 +254,35 @@ impl Modifier for modifier::IsoYearLastTwo {
     }
 
     #[tactic(auto, using(crate::proofs::TextLemmas::text_lengths))]
-    fn kind<V: ComponentProvider>(self, value: &V, state: &mut V::State) -> TwoDigits {
-        TwoDigits(last_two(value.iso_year(state)), self.padding)
+    fn write<S: Sink, V: ComponentProvider>(
+        self,
+        output: &mut S,
+        value: &V,
+        state: &mut V::State,
+    ) -> Result<(), Refused> {
+        fmt_iso_year_last_two(output, last_two(value.iso_year(state)), self);
+        Ok(())
     }
 }
 
-// The year without its last two digits and without its sign, and whether the year is negative.
-fn century_of(year: Year) -> (ru16<0, 9_999>, bool)
-    ensures century { result.0 ≡ century_of year }
-    ensures sign { result.1 ≡ int_lt year (pos 0) }
+// The year without its last two digits, toward zero.
+fn century_of(year: Year) -> ExtendedCentury
+    ensures value { unsigned_abs result ≡ century_of year }
+    ensures range { unsigned_abs result ≤ 9_999 }
 {
-    let number = year.get();
-    (
-        ru16::within((number.unsigned_abs() / 100) as u16),
-        number < 0,
-    )
+    ri16::within((year.get() / 100) as i16)
 }
 
 // The same of a year of at most four digits.
-fn standard_century_of(year: Year) -> Option<(ru8<0, 99>, bool)>
+fn standard_century_of(year: Year) -> Option<StandardCentury>
     ensures { MatchOption result (99 < century_of year)
-        (λ both. (both.0 ≡ century_of year) × (both.1 ≡ int_lt year (pos 0))
-        × (century_of year ≤ 99)) }
+        (λ century. (unsigned_abs century ≡ century_of year) × (century_of year ≤ 99)) }
 {
-    let number = year.get();
-    let century = number.unsigned_abs() / 100;
-    if century > 99 {
+    let century = year.get() / 100;
+    if century.unsigned_abs() > 99 {
         return None;
     }
-    Some((ru8::within(century as u8), number < 0))
+    Some(ri8::within(century as i8))
 }
 
 // The last two digits of the year.
@@ -312,4 +290,56 @@ fn last_two(year: Year) -> LastTwo
     ensures { result ≡ unsigned_abs year % 100 }
 {
     ru8::within((year.get().unsigned_abs() % 100) as u8)
+}
+
+// Appends a century in two places, or all its digits after a sign.
+#[inline(always)]
+#[tactic(auto, using(crate::proofs::TextLemmas::century_lengths))]
+fn write_century<S: Sink>(
+    output: &mut S,
+    century: ru16<0, 9_999>,
+    is_negative: bool,
+    padding: Padding,
+    sign_is_mandatory: bool,
+) -> usize
+    requires room { Fits (S.buffer output.old)
+        (length (kind_text (extended_century padding sign_is_mandatory is_negative century))) }
+    ensures writes { Puts (S.buffer output.old) (S.buffer output.new) result
+        (kind_text (extended_century padding sign_is_mandatory is_negative century)) }
+{
+    let number = century.get();
+    if number >= 100 {
+        return write_long_century(output, century, is_negative);
+    }
+    let few = ru8::within(number as u8);
+    write_two_digit_century(output, few, is_negative, padding, sign_is_mandatory)
+}
+
+// Appends a century in two places, after the sign of the year.
+fn write_two_digit_century<S: Sink>(
+    output: &mut S,
+    century: ru8<0, 99>,
+    is_negative: bool,
+    padding: Padding,
+    sign_is_mandatory: bool,
+) -> usize
+    requires room { Fits (S.buffer output.old)
+        (length (kind_text (standard_century padding sign_is_mandatory is_negative century))) }
+    ensures writes { Puts (S.buffer output.old) (S.buffer output.new) result
+        (kind_text (standard_century padding sign_is_mandatory is_negative century)) }
+{
+    let sign = fmt_sign(output, is_negative, sign_is_mandatory);
+    sign + format_two_digits(output, century, padding)
+}
+
+// Appends a sign and all digits of a century from 100 on.
+fn write_long_century<S: Sink>(output: &mut S, century: ru16<0, 9_999>, is_negative: bool) -> usize
+    requires long { 100 ≤ century }
+    requires room { Fits (S.buffer output.old)
+        (length (sign_text is_negative true ++ decimal century)) }
+    ensures writes { Puts (S.buffer output.old) (S.buffer output.new) result
+        (sign_text is_negative true ++ decimal century) }
+{
+    let sign = fmt_sign(output, is_negative, true);
+    sign + write_many(output, &one_to_four_digits_no_padding(century))
 }

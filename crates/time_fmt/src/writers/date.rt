@@ -1,39 +1,36 @@
 //! The day, the month and the day of the year.
-//!
-//! With `inline(always)` a component that is met often is written without a call.
 #![tactic(auto, using(crate::proofs::TextLemmas::text_lengths))]
 
 ghost use Rattle.std.specs.Prelude.{length};
 ghost use Rattle.time_below.specs.declared.format_description.component.Component.TheVariants as component;
 ghost use Rattle.time_below.specs.Month.{month_number};
 ghost use Rattle.time_fmt.specs.DateText.{month_name, short_name};
-ghost use Rattle.time_fmt.specs.Ends.{EndsWhole};
 ghost use Rattle.time_fmt.specs.Sink.{Fits, Puts};
 ghost use Rattle.time_fmt.specs.Text.{padded_text};
 
-use crate::kind::{MonthName, ShortMonthName, TextKind, ThreeDigits, TwoDigits};
 use crate::modifier::Modifier;
+use crate::refused::Refused;
 use crate::sink::Sink;
+use crate::writers::digits::{format_three_digits, format_two_digits};
+use crate::writers::plain::{write_literal, write_three};
 use time_below::Month;
 use time_below::format_description::{Component, modifier};
+use time_below::names::padded_month_name;
 use time_digits::ru8;
 use time_provide::ComponentProvider;
 use time_provide::ranges::{Day, Ordinal};
 
 /// Appends the day of the month, 1 to 31, padded to two places as `modifier` says.
+#[inline(always)]
 pub fn fmt_day<S: Sink>(output: &mut S, day: Day, modifier: modifier::Day) -> usize
     requires room { Fits (S.buffer output.old) (length (padded_text modifier.padding 2 day)) }
     ensures writes { Puts (S.buffer output.old) (S.buffer output.new) result
         (padded_text modifier.padding 2 day) }
-    ensures ends { EndsWhole 2 (S.buffer output.old) (S.buffer output.new)
-        (padded_text modifier.padding 2 day) }
 {
-    TwoDigits(day.expand(), modifier.padding).put(output)
+    format_two_digits(output, day.expand(), modifier.padding)
 }
 
 impl Modifier for modifier::Day {
-    type Kind = TwoDigits;
-
     ghost component_of = { component.Day };
 
     fn component(self) -> Component {
@@ -41,12 +38,19 @@ impl Modifier for modifier::Day {
     }
 
     #[inline(always)]
-    fn kind<V: ComponentProvider>(self, value: &V, state: &mut V::State) -> TwoDigits {
-        TwoDigits(value.day(state).expand(), self.padding)
+    fn write<S: Sink, V: ComponentProvider>(
+        self,
+        output: &mut S,
+        value: &V,
+        state: &mut V::State,
+    ) -> Result<(), Refused> {
+        fmt_day(output, value.day(state), self);
+        Ok(())
     }
 }
 
 /// Appends the first three letters of the month's English name.
+#[inline(always)]
 pub fn fmt_month_short<S: Sink>(
     output: &mut S,
     month: Month,
@@ -58,48 +62,62 @@ pub fn fmt_month_short<S: Sink>(
         (short_name (month_name (month_number month))) }
 {
     let _ = modifier;
-    ShortMonthName(month).put(output)
+    let (name, _) = padded_month_name(month);
+    write_three(output, &name.as_bytes()[..3])
 }
 
 impl Modifier for modifier::MonthShort {
-    type Kind = ShortMonthName;
-
     ghost component_of = { component.MonthShort };
 
     fn component(self) -> Component {
         Component::MonthShort(self)
     }
 
-    fn kind<V: ComponentProvider>(self, value: &V, state: &mut V::State) -> ShortMonthName {
-        ShortMonthName(value.month(state))
+    #[inline(always)]
+    fn write<S: Sink, V: ComponentProvider>(
+        self,
+        output: &mut S,
+        value: &V,
+        state: &mut V::State,
+    ) -> Result<(), Refused> {
+        fmt_month_short(output, value.month(state), self);
+        Ok(())
     }
 }
 
 /// Appends the month's English name.
+#[inline(always)]
 pub fn fmt_month_long<S: Sink>(output: &mut S, month: Month, modifier: modifier::MonthLong) -> usize
     requires room { Fits (S.buffer output.old) (length (month_name (month_number month))) }
     ensures writes { Puts (S.buffer output.old) (S.buffer output.new) result
         (month_name (month_number month)) }
 {
     let _ = modifier;
-    MonthName(month).put(output)
+    let (name, len) = padded_month_name(month);
+    write_literal(output, &name.as_bytes()[..len])
 }
 
 impl Modifier for modifier::MonthLong {
-    type Kind = MonthName;
-
     ghost component_of = { component.MonthLong };
 
     fn component(self) -> Component {
         Component::MonthLong(self)
     }
 
-    fn kind<V: ComponentProvider>(self, value: &V, state: &mut V::State) -> MonthName {
-        MonthName(value.month(state))
+    #[inline(always)]
+    fn write<S: Sink, V: ComponentProvider>(
+        self,
+        output: &mut S,
+        value: &V,
+        state: &mut V::State,
+    ) -> Result<(), Refused> {
+        fmt_month_long(output, value.month(state), self);
+        Ok(())
     }
 }
 
 /// Appends the month, 1 to 12, padded to two places as `modifier` says.
+#[inline(always)]
 pub fn fmt_month_numerical<S: Sink>(
     output: &mut S,
     month: Month,
@@ -109,15 +127,11 @@ pub fn fmt_month_numerical<S: Sink>(
         (length (padded_text modifier.padding 2 (month_number month))) }
     ensures writes { Puts (S.buffer output.old) (S.buffer output.new) result
         (padded_text modifier.padding 2 (month_number month)) }
-    ensures ends { EndsWhole 2 (S.buffer output.old) (S.buffer output.new)
-        (padded_text modifier.padding 2 (month_number month)) }
 {
-    TwoDigits(ru8::within(u8::from(month)), modifier.padding).put(output)
+    format_two_digits(output, ru8::within(u8::from(month)), modifier.padding)
 }
 
 impl Modifier for modifier::MonthNumerical {
-    type Kind = TwoDigits;
-
     ghost component_of = { component.MonthNumerical };
 
     fn component(self) -> Component {
@@ -125,10 +139,16 @@ impl Modifier for modifier::MonthNumerical {
     }
 
     #[inline(always)]
-    fn kind<V: ComponentProvider>(self, value: &V, state: &mut V::State) -> TwoDigits {
+    fn write<S: Sink, V: ComponentProvider>(
+        self,
+        output: &mut S,
+        value: &V,
+        state: &mut V::State,
+    ) -> Result<(), Refused> {
         // A day is mostly beside it, and the computation of the day gives the month too.
         let _day = value.day(state);
-        TwoDigits(ru8::within(u8::from(value.month(state))), self.padding)
+        fmt_month_numerical(output, value.month(state), self);
+        Ok(())
     }
 }
 
@@ -137,22 +157,24 @@ pub fn fmt_ordinal<S: Sink>(output: &mut S, ordinal: Ordinal, modifier: modifier
     requires room { Fits (S.buffer output.old) (length (padded_text modifier.padding 3 ordinal)) }
     ensures writes { Puts (S.buffer output.old) (S.buffer output.new) result
         (padded_text modifier.padding 3 ordinal) }
-    ensures ends { EndsWhole 3 (S.buffer output.old) (S.buffer output.new)
-        (padded_text modifier.padding 3 ordinal) }
 {
-    ThreeDigits(ordinal.expand(), modifier.padding).put(output)
+    format_three_digits(output, ordinal.expand(), modifier.padding)
 }
 
 impl Modifier for modifier::Ordinal {
-    type Kind = ThreeDigits;
-
     ghost component_of = { component.Ordinal };
 
     fn component(self) -> Component {
         Component::Ordinal(self)
     }
 
-    fn kind<V: ComponentProvider>(self, value: &V, state: &mut V::State) -> ThreeDigits {
-        ThreeDigits(value.ordinal(state).expand(), self.padding)
+    fn write<S: Sink, V: ComponentProvider>(
+        self,
+        output: &mut S,
+        value: &V,
+        state: &mut V::State,
+    ) -> Result<(), Refused> {
+        fmt_ordinal(output, value.ordinal(state), self);
+        Ok(())
     }
 }

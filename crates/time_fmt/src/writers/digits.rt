@@ -1,10 +1,6 @@
 //! Numbers, and the signs before them.
-//!
-//! Without `inline(always)` the compiler leaves calls of the functions that have it. `cold` keeps
-//! long or rare bodies out of their callers.
 ghost use Rattle.std.specs.Prelude.{◌≡◌, ◌<◌, ◌≤◌, length, decimal, replicate};
 ghost use Rattle.time_digits.specs.Digits.{fixed, zero_padded};
-ghost use Rattle.time_fmt.specs.Ends.{EndsWhole};
 ghost use Rattle.time_fmt.specs.Sink.{Fits, Puts};
 ghost use Rattle.time_fmt.specs.Text.{padded_text, sign_text};
 
@@ -60,8 +56,6 @@ pub fn format_two_digits<S: Sink>(output: &mut S, value: ru8<0, 99>, padding: Pa
     requires room { Fits (S.buffer output.old) (length (padded_text padding 2 value)) }
     ensures writes { Puts (S.buffer output.old) (S.buffer output.new) result
         (padded_text padding 2 value) }
-    ensures ends { EndsWhole 2 (S.buffer output.old) (S.buffer output.new)
-        (padded_text padding 2 value) }
 {
     match padding {
         Padding::Zero => write_pair(output, two_digits_zero_padded(value)),
@@ -105,8 +99,6 @@ fn write_two_places<S: Sink>(output: &mut S, value: ru8<0, 99>, padding: Padding
 pub fn format_three_digits<S: Sink>(output: &mut S, value: ru16<0, 999>, padding: Padding) -> usize
     requires room { Fits (S.buffer output.old) (length (padded_text padding 3 value)) }
     ensures writes { Puts (S.buffer output.old) (S.buffer output.new) result
-        (padded_text padding 3 value) }
-    ensures ends { EndsWhole 3 (S.buffer output.old) (S.buffer output.new)
         (padded_text padding 3 value) }
 {
     match padding {
@@ -185,8 +177,7 @@ pub fn format_six_digits_pad_zero<S: Sink>(output: &mut S, value: ru32<0, 999_99
     write_many(output, &six_digits_zero_padded(value))
 }
 
-/// Appends all digits of a number, and nothing before them. The last eight of nine to sixteen
-/// digits are appended as eight, so that the compiler knows their number.
+/// Appends all digits of a number, and nothing before them.
 pub fn format_u64_pad_none<S: Sink>(output: &mut S, value: u64) -> usize
     requires room { Fits (S.buffer output.old) (length (decimal value)) }
     ensures writes { Puts (S.buffer output.old) (S.buffer output.new) result (decimal value) }

@@ -1,7 +1,4 @@
 //! Bytes and texts as they are.
-//!
-//! Without `inline(always)` the compiler leaves calls of the functions that have it.
-//! `inline(never)` keeps long or rare bodies out of their callers.
 ghost use Rattle.std.specs.Prelude.{◌≡◌, ◌+◌, ◌<◌, ◌≤◌, length, take, [], if◌then◌else◌};
 ghost use Rattle.std.specs.Prelude.{vec_capacity};
 ghost use Rattle.time_digits.specs.Digits.{joined};
@@ -10,9 +7,7 @@ ghost use Rattle.time_fmt.specs.Sink.{Fits, Puts};
 use crate::sink::Sink;
 use std::mem::{forget, replace};
 
-/// Takes the vector out of its borrow, which keeps an empty one. A call that is not inlined, and
-/// that borrows a vector, keeps that vector in memory for the whole of the caller. So the slow
-/// paths of writers borrow one that they have taken out, and put it back.
+/// Takes the vector out of its borrow, which keeps an empty one.
 pub fn take_out(output: &mut Vec<u8>) -> Vec<u8>
     ensures taken { result ≡ output.old }
     ensures left { vec_capacity output.new ≡ 0 }
@@ -45,7 +40,7 @@ pub fn write_bytes<S: Sink>(output: &mut S, bytes: &[u8]) -> usize
     bytes.len()
 }
 
-/// Appends the bytes. Where their number is known, the loop is a few stores.
+/// Appends the bytes of a text whose length the caller's type says.
 pub(crate) fn write_each<S: Sink>(output: &mut S, bytes: &[u8]) -> usize
     requires room { Fits (S.buffer output.old) (length bytes.now) }
     ensures writes { Puts (S.buffer output.old) (S.buffer output.new) result bytes.now }
@@ -56,7 +51,9 @@ pub(crate) fn write_each<S: Sink>(output: &mut S, bytes: &[u8]) -> usize
     bytes.len()
 }
 
-/// Appends a literal of a list. For a long one the sink is taken out once more.
+/// Appends a literal of a list.
+///
+/// For a long one the sink is taken out once more.
 #[inline(always)]
 pub fn write_literal<S: Sink>(output: &mut S, bytes: &[u8]) -> usize
     requires room { Fits (S.buffer output.old) (length bytes.now) }
@@ -87,8 +84,6 @@ fn write_long_literal<S: Sink>(output: &mut S, bytes: &[u8]) -> usize
 }
 
 /// Appends the bytes, eight at a time. `extend_from_slice` has no clause that the capacity stays.
-/// The sink is taken out meanwhile, so that the compiler sees that its block does not move, and
-/// makes one store of eight.
 #[inline(never)]
 fn write_in_blocks<S: Sink>(output: &mut S, bytes: &[u8])
     requires room { Fits (S.buffer output.old) (length bytes.now) }
@@ -154,8 +149,7 @@ pub fn write<S: Sink>(output: &mut S, text: &str) -> usize
     write_bytes(output, text.as_bytes())
 }
 
-// Appends a text of two bytes. What becomes part of a large function is counted before anything is
-// folded, so this has no case for other lengths.
+// Appends a text of two bytes.
 pub(crate) fn write_pair<S: Sink>(output: &mut S, text: &str) -> usize
     requires pair { length text.now ≡ 2 }
     requires room { Fits (S.buffer output.old) 2 }
@@ -179,33 +173,6 @@ pub(crate) fn write_three<S: Sink>(output: &mut S, bytes: &[u8]) -> usize
     output.put_byte(second);
     output.put_byte(third);
     3
-}
-
-// Appends the first of nine bytes, as of a name. Mostly there is room for all nine.
-#[inline(always)]
-pub(crate) fn write_first<S: Sink>(output: &mut S, padded: &str, count: usize) -> usize
-    requires padded { length padded.now ≡ 9 }
-    requires most { count ≤ 9 }
-    requires room { Fits (S.buffer output.old) count }
-    ensures writes { Puts (S.buffer output.old) (S.buffer output.new) result
-        (take count padded.now) }
-{
-    let bytes = padded.as_bytes();
-    if output.room() < 9 {
-        return write_long_literal(output, &bytes[..count]);
-    }
-    output.put_first(nine_of(bytes), count);
-    count
-}
-
-// Nine bytes, as an array.
-fn nine_of(bytes: &[u8]) -> [u8; 9]
-    requires { length bytes.now ≡ 9 }
-    ensures { result ≡ bytes.now }
-{
-    [
-        bytes[0], bytes[1], bytes[2], bytes[3], bytes[4], bytes[5], bytes[6], bytes[7], bytes[8],
-    ]
 }
 
 /// Appends the texts one after another, and returns the number of their bytes.

@@ -1,7 +1,4 @@
 //! The decimals of the second.
-//!
-//! Without `inline(always)` the compiler leaves calls of the functions that have it. `cold` keeps
-//! long or rare bodies out of their callers.
 ghost use Rattle.std.specs.Prelude.{◌≡◌, ◌<◌, length, take};
 ghost use Rattle.time_below.specs.declared.format_description.modifier.SubsecondDigits.TheVariants as SubsecondDigits;
 ghost use Rattle.time_digits.specs.Digits.{fixed, zero_padded};
@@ -14,13 +11,13 @@ use crate::writers::digits::{
     format_five_digits_pad_zero, format_four_digits_pad_zero, format_single_digit,
     format_six_digits_pad_zero, format_two_digits, format_two_digits_pad_zero, write_eight_digits,
 };
-use crate::writers::plain::{write, write_pair};
+use crate::writers::plain::{write_bytes, write_pair};
 use time_below::format_description::modifier::{Padding, SubsecondDigits};
-use time_digits::num_fmt::{three_digits_zero_padded, truncated_subsecond_from_nanos};
+use time_digits::num_fmt::{nine_digits, three_digits_zero_padded, zeros_to_drop};
 use time_digits::{ru8, ru16, ru32};
 use time_provide::ranges::Nanoseconds;
 
-// Any number of decimals, apart, since few texts have another than three or as many as are needed.
+// Appends any number of decimals.
 pub(crate) fn write_rare_decimals<S: Sink>(
     output: &mut S,
     nanosecond: Nanoseconds,
@@ -36,7 +33,7 @@ pub(crate) fn write_rare_decimals<S: Sink>(
     count
 }
 
-// Any number of decimals, of a sink that was taken out.
+// Appends any number of decimals, to a sink that was taken out.
 #[cold]
 fn write_first_decimals<S: Sink>(
     output: &mut S,
@@ -175,8 +172,10 @@ fn write_trimmed_fraction<S: Sink>(output: &mut S, nanosecond: Nanoseconds) -> u
     ensures writes { Puts (S.buffer output.old) (S.buffer output.new) result
         (trimmed_fraction nanosecond) }
 {
-    let digits = truncated_subsecond_from_nanos(nanosecond);
-    write(output, digits.as_str())
+    let digits = nine_digits(nanosecond);
+    let last_eight = *digits.last_chunk::<8>().unwrap();
+    let dropped = zeros_to_drop(u64::from_le_bytes(last_eight));
+    write_bytes(output, &digits[..digits.len() - dropped as usize])
 }
 
 // Appends a number in seven places, with zeros in front.

@@ -6,9 +6,10 @@ ghost use Rattle.time_below.specs.declared.format_description.component.Componen
 ghost use Rattle.time_fmt.specs.Kind.{kind_text, timestamp};
 ghost use Rattle.time_fmt.specs.Sink.{Fits, Puts};
 
-use crate::kind::{SignedNumber, TextKind};
 use crate::modifier::Modifier;
+use crate::refused::Refused;
 use crate::sink::Sink;
+use crate::writers::digits::{fmt_sign, format_u64_pad_none};
 use time_below::format_description::{Component, modifier};
 use time_provide::ComponentProvider;
 
@@ -24,27 +25,24 @@ pub fn fmt_unix_timestamp_second<S: Sink>(
     ensures writes { Puts (S.buffer output.old) (S.buffer output.new) result
         (kind_text (timestamp modifier.sign_is_mandatory seconds)) }
 {
-    let text = SignedNumber {
-        sign_is_mandatory: modifier.sign_is_mandatory,
-        number: seconds,
-    };
-    text.put(output)
+    write_signed(output, seconds, modifier.sign_is_mandatory)
 }
 
 impl Modifier for modifier::UnixTimestampSecond {
-    type Kind = SignedNumber;
-
     ghost component_of = { component.UnixTimestampSecond };
 
     fn component(self) -> Component {
         Component::UnixTimestampSecond(self)
     }
 
-    fn kind<V: ComponentProvider>(self, value: &V, state: &mut V::State) -> SignedNumber {
-        SignedNumber {
-            sign_is_mandatory: self.sign_is_mandatory,
-            number: value.unix_timestamp_seconds(state),
-        }
+    fn write<S: Sink, V: ComponentProvider>(
+        self,
+        output: &mut S,
+        value: &V,
+        state: &mut V::State,
+    ) -> Result<(), Refused> {
+        fmt_unix_timestamp_second(output, value.unix_timestamp_seconds(state), self);
+        Ok(())
     }
 }
 
@@ -60,26 +58,36 @@ pub fn fmt_unix_timestamp_millisecond<S: Sink>(
     ensures writes { Puts (S.buffer output.old) (S.buffer output.new) result
         (kind_text (timestamp modifier.sign_is_mandatory milliseconds)) }
 {
-    let text = SignedNumber {
-        sign_is_mandatory: modifier.sign_is_mandatory,
-        number: milliseconds,
-    };
-    text.put(output)
+    write_signed(output, milliseconds, modifier.sign_is_mandatory)
 }
 
 impl Modifier for modifier::UnixTimestampMillisecond {
-    type Kind = SignedNumber;
-
     ghost component_of = { component.UnixTimestampMillisecond };
 
     fn component(self) -> Component {
         Component::UnixTimestampMillisecond(self)
     }
 
-    fn kind<V: ComponentProvider>(self, value: &V, state: &mut V::State) -> SignedNumber {
-        SignedNumber {
-            sign_is_mandatory: self.sign_is_mandatory,
-            number: value.unix_timestamp_milliseconds(state),
-        }
+    fn write<S: Sink, V: ComponentProvider>(
+        self,
+        output: &mut S,
+        value: &V,
+        state: &mut V::State,
+    ) -> Result<(), Refused> {
+        fmt_unix_timestamp_millisecond(output, value.unix_timestamp_milliseconds(state), self);
+        Ok(())
     }
+}
+
+// Appends all digits of a number, after its sign.
+#[tactic(auto, using(crate::proofs::TextLemmas::signed_parts))]
+fn write_signed<S: Sink>(output: &mut S, number: i64, sign_is_mandatory: bool) -> usize
+    requires room { Fits (S.buffer output.old)
+        (length (kind_text (timestamp sign_is_mandatory number))) }
+    ensures writes { Puts (S.buffer output.old) (S.buffer output.new) result
+        (kind_text (timestamp sign_is_mandatory number)) }
+{
+    let _room = output.room();
+    let sign = fmt_sign(output, number < 0, sign_is_mandatory);
+    sign + format_u64_pad_none(output, number.unsigned_abs())
 }

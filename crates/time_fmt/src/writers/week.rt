@@ -6,20 +6,23 @@ ghost use Rattle.time_below.specs.Calendar.{from_sunday};
 ghost use Rattle.time_below.specs.declared.format_description.component.Component.TheVariants as component;
 ghost use Rattle.time_below.specs.Weekday.{days_from_monday};
 ghost use Rattle.time_fmt.specs.DateText.{weekday_name, short_name, indexed};
-ghost use Rattle.time_fmt.specs.Ends.{EndsWhole};
 ghost use Rattle.time_fmt.specs.Sink.{Fits, Puts};
 ghost use Rattle.time_fmt.specs.Text.{padded_text};
 
-use crate::kind::{ShortWeekdayName, TextKind, TwoDigits, WeekdayDigit, WeekdayName};
 use crate::modifier::Modifier;
+use crate::refused::Refused;
 use crate::sink::Sink;
+use crate::writers::digits::{format_single_digit, format_two_digits};
+use crate::writers::plain::{write_literal, write_three};
 use time_below::Weekday;
 use time_below::format_description::{Component, modifier};
+use time_below::names::padded_weekday_name;
 use time_digits::ru8;
 use time_provide::ComponentProvider;
 use time_provide::ranges::{IsoWeekNumber, MondayBasedWeek, SundayBasedWeek};
 
 /// Appends the first three letters of the weekday's English name.
+#[inline(always)]
 pub fn fmt_weekday_short<S: Sink>(
     output: &mut S,
     weekday: Weekday,
@@ -31,20 +34,26 @@ pub fn fmt_weekday_short<S: Sink>(
     ensures count { result ≡ 3 }
 {
     let _ = modifier;
-    ShortWeekdayName(weekday).put(output)
+    let (name, _) = padded_weekday_name(weekday);
+    write_three(output, &name.as_bytes()[..3])
 }
 
 impl Modifier for modifier::WeekdayShort {
-    type Kind = ShortWeekdayName;
-
     ghost component_of = { component.WeekdayShort };
 
     fn component(self) -> Component {
         Component::WeekdayShort(self)
     }
 
-    fn kind<V: ComponentProvider>(self, value: &V, state: &mut V::State) -> ShortWeekdayName {
-        ShortWeekdayName(value.weekday(state))
+    #[inline(always)]
+    fn write<S: Sink, V: ComponentProvider>(
+        self,
+        output: &mut S,
+        value: &V,
+        state: &mut V::State,
+    ) -> Result<(), Refused> {
+        fmt_weekday_short(output, value.weekday(state), self);
+        Ok(())
     }
 }
 
@@ -59,20 +68,25 @@ pub fn fmt_weekday_long<S: Sink>(
         (weekday_name (days_from_monday weekday)) }
 {
     let _ = modifier;
-    WeekdayName(weekday).put(output)
+    let (name, len) = padded_weekday_name(weekday);
+    write_literal(output, &name.as_bytes()[..len])
 }
 
 impl Modifier for modifier::WeekdayLong {
-    type Kind = WeekdayName;
-
     ghost component_of = { component.WeekdayLong };
 
     fn component(self) -> Component {
         Component::WeekdayLong(self)
     }
 
-    fn kind<V: ComponentProvider>(self, value: &V, state: &mut V::State) -> WeekdayName {
-        WeekdayName(value.weekday(state))
+    fn write<S: Sink, V: ComponentProvider>(
+        self,
+        output: &mut S,
+        value: &V,
+        state: &mut V::State,
+    ) -> Result<(), Refused> {
+        fmt_weekday_long(output, value.weekday(state), self);
+        Ok(())
     }
 }
 
@@ -86,34 +100,31 @@ pub fn fmt_weekday_sunday<S: Sink>(
         (length (decimal (indexed modifier.one_indexed (from_sunday (days_from_monday weekday))))) }
     ensures writes { Puts (S.buffer output.old) (S.buffer output.new) result
         (decimal (indexed modifier.one_indexed (from_sunday (days_from_monday weekday)))) }
-    ensures ends { EndsWhole 1 (S.buffer output.old) (S.buffer output.new)
-        (decimal (indexed modifier.one_indexed (from_sunday (days_from_monday weekday)))) }
 {
-    let text = WeekdayDigit {
-        one_indexed: modifier.one_indexed,
-        days: ru8::within(weekday.number_days_from_sunday()),
-    };
-    text.put(output)
+    let number = weekday.number_days_from_sunday() + u8::from(modifier.one_indexed);
+    format_single_digit(output, ru8::within(number))
 }
 
 impl Modifier for modifier::WeekdaySunday {
-    type Kind = WeekdayDigit;
-
     ghost component_of = { component.WeekdaySunday };
 
     fn component(self) -> Component {
         Component::WeekdaySunday(self)
     }
 
-    fn kind<V: ComponentProvider>(self, value: &V, state: &mut V::State) -> WeekdayDigit {
-        WeekdayDigit {
-            one_indexed: self.one_indexed,
-            days: ru8::within(value.weekday(state).number_days_from_sunday()),
-        }
+    fn write<S: Sink, V: ComponentProvider>(
+        self,
+        output: &mut S,
+        value: &V,
+        state: &mut V::State,
+    ) -> Result<(), Refused> {
+        fmt_weekday_sunday(output, value.weekday(state), self);
+        Ok(())
     }
 }
 
 /// Appends the days from Monday, 0 to 6, or 1 to 7 where Monday is 1.
+#[inline(always)]
 pub fn fmt_weekday_monday<S: Sink>(
     output: &mut S,
     weekday: Weekday,
@@ -123,30 +134,27 @@ pub fn fmt_weekday_monday<S: Sink>(
         (length (decimal (indexed modifier.one_indexed (days_from_monday weekday)))) }
     ensures writes { Puts (S.buffer output.old) (S.buffer output.new) result
         (decimal (indexed modifier.one_indexed (days_from_monday weekday))) }
-    ensures ends { EndsWhole 1 (S.buffer output.old) (S.buffer output.new)
-        (decimal (indexed modifier.one_indexed (days_from_monday weekday))) }
 {
-    let text = WeekdayDigit {
-        one_indexed: modifier.one_indexed,
-        days: ru8::within(weekday.number_days_from_monday()),
-    };
-    text.put(output)
+    let number = weekday.number_days_from_monday() + u8::from(modifier.one_indexed);
+    format_single_digit(output, ru8::within(number))
 }
 
 impl Modifier for modifier::WeekdayMonday {
-    type Kind = WeekdayDigit;
-
     ghost component_of = { component.WeekdayMonday };
 
     fn component(self) -> Component {
         Component::WeekdayMonday(self)
     }
 
-    fn kind<V: ComponentProvider>(self, value: &V, state: &mut V::State) -> WeekdayDigit {
-        WeekdayDigit {
-            one_indexed: self.one_indexed,
-            days: ru8::within(value.weekday(state).number_days_from_monday()),
-        }
+    #[inline(always)]
+    fn write<S: Sink, V: ComponentProvider>(
+        self,
+        output: &mut S,
+        value: &V,
+        state: &mut V::State,
+    ) -> Result<(), Refused> {
+        fmt_weekday_monday(output, value.weekday(state), self);
+        Ok(())
     }
 }
 
@@ -160,23 +168,25 @@ pub fn fmt_week_number_iso<S: Sink>(
     requires room { Fits (S.buffer output.old) (length (padded_text modifier.padding 2 week)) }
     ensures writes { Puts (S.buffer output.old) (S.buffer output.new) result
         (padded_text modifier.padding 2 week) }
-    ensures ends { EndsWhole 2 (S.buffer output.old) (S.buffer output.new)
-        (padded_text modifier.padding 2 week) }
 {
-    TwoDigits(week.expand(), modifier.padding).put(output)
+    format_two_digits(output, week.expand(), modifier.padding)
 }
 
 impl Modifier for modifier::WeekNumberIso {
-    type Kind = TwoDigits;
-
     ghost component_of = { component.WeekNumberIso };
 
     fn component(self) -> Component {
         Component::WeekNumberIso(self)
     }
 
-    fn kind<V: ComponentProvider>(self, value: &V, state: &mut V::State) -> TwoDigits {
-        TwoDigits(value.iso_week_number(state).expand(), self.padding)
+    fn write<S: Sink, V: ComponentProvider>(
+        self,
+        output: &mut S,
+        value: &V,
+        state: &mut V::State,
+    ) -> Result<(), Refused> {
+        fmt_week_number_iso(output, value.iso_week_number(state), self);
+        Ok(())
     }
 }
 
@@ -190,23 +200,25 @@ pub fn fmt_week_number_sunday<S: Sink>(
     requires room { Fits (S.buffer output.old) (length (padded_text modifier.padding 2 week)) }
     ensures writes { Puts (S.buffer output.old) (S.buffer output.new) result
         (padded_text modifier.padding 2 week) }
-    ensures ends { EndsWhole 2 (S.buffer output.old) (S.buffer output.new)
-        (padded_text modifier.padding 2 week) }
 {
-    TwoDigits(week.expand(), modifier.padding).put(output)
+    format_two_digits(output, week.expand(), modifier.padding)
 }
 
 impl Modifier for modifier::WeekNumberSunday {
-    type Kind = TwoDigits;
-
     ghost component_of = { component.WeekNumberSunday };
 
     fn component(self) -> Component {
         Component::WeekNumberSunday(self)
     }
 
-    fn kind<V: ComponentProvider>(self, value: &V, state: &mut V::State) -> TwoDigits {
-        TwoDigits(value.sunday_based_week(state).expand(), self.padding)
+    fn write<S: Sink, V: ComponentProvider>(
+        self,
+        output: &mut S,
+        value: &V,
+        state: &mut V::State,
+    ) -> Result<(), Refused> {
+        fmt_week_number_sunday(output, value.sunday_based_week(state), self);
+        Ok(())
     }
 }
 
@@ -220,22 +232,24 @@ pub fn fmt_week_number_monday<S: Sink>(
     requires room { Fits (S.buffer output.old) (length (padded_text modifier.padding 2 week)) }
     ensures writes { Puts (S.buffer output.old) (S.buffer output.new) result
         (padded_text modifier.padding 2 week) }
-    ensures ends { EndsWhole 2 (S.buffer output.old) (S.buffer output.new)
-        (padded_text modifier.padding 2 week) }
 {
-    TwoDigits(week.expand(), modifier.padding).put(output)
+    format_two_digits(output, week.expand(), modifier.padding)
 }
 
 impl Modifier for modifier::WeekNumberMonday {
-    type Kind = TwoDigits;
-
     ghost component_of = { component.WeekNumberMonday };
 
     fn component(self) -> Component {
         Component::WeekNumberMonday(self)
     }
 
-    fn kind<V: ComponentProvider>(self, value: &V, state: &mut V::State) -> TwoDigits {
-        TwoDigits(value.monday_based_week(state).expand(), self.padding)
+    fn write<S: Sink, V: ComponentProvider>(
+        self,
+        output: &mut S,
+        value: &V,
+        state: &mut V::State,
+    ) -> Result<(), Refused> {
+        fmt_week_number_monday(output, value.monday_based_week(state), self);
+        Ok(())
     }
 }

@@ -11,8 +11,8 @@ use Rattle.time_jiff.specs.Same.{local_nanoseconds, same_date, same_time}
 
 -- the clock shows what the zone shows
 clock : (c : goal.In-Some)
-    → ◌≡◌ {A = DateAndTime} (record { date = same_date (zoned_date c.args.zoned.now); time = same_time (zoned_time c.args.zoned.now) })
-    (record { date = c.in-Some.shown.date; time = c.in-Some.shown.time })
+    → ◌≡◌ {A = DateAndTime} (record { date = same_date (zoned_date c.args.zoned.now); time = same_time (zoned_time c.args.zoned.now); offset = tt })
+    (record { date = c.in-Some.shown.date; time = c.in-Some.shown.time; offset = tt })
 clock c =
     let m = moved c.timestamp-2.result c.offset-2.result in
     let real : IsMoment m = (c.in-Some.ensures.accepted.0 refl, c.timestamp-2.ensures.real.1) in

@@ -7,9 +7,10 @@ use Rattle.time_digits.specs.Digits.{is_ascii, zero_padded}
 use Rattle.time_digits.proofs.DigitLemmas.{decimal_one, length-fixed, padded_whole}
 use Rattle.time_digits.proofs.LengthLemmas.{length-padded, length-digit}
 use Rattle.time_fmt.specs.Decimals.{decimals}
+use Rattle.time_fmt.proofs.TextLemmas.{length-sign_text}
 use Rattle.time_fmt.proofs.DecimalLemmas.{three_of_second, six_of_second}
 use Rattle.time_known.specs.Config.{decimal_sign_text, DecimalSign}
-use Rattle.time_known.specs.declared.iso8601.usual_text.TheConstants.{ZEROS}
+use Rattle.time_known.specs.declared.iso8601.time.TheConstants.{ZEROS}
 use Rattle.std.proofs.lemmas.Grind.{common_steps}
 
 -- ---- lengths
@@ -18,11 +19,16 @@ use Rattle.std.proofs.lemmas.Grind.{common_steps}
 pub length-three_digits : (n : ℕ) → n < 1_000 → length (zero_padded 3 n) ≡ 3
 length-three_digits n h = length-padded 48 3 n (length-decimal-le 3 n (omega arith) (omega arith) (omega arith))
 
+-- a number below 1,000,000 in six places
+pub length-six_digits : (n : ℕ) → n < 1_000_000 → length (zero_padded 6 n) ≡ 6
+length-six_digits n h = length-padded 48 6 n (length-decimal-le 6 n (omega arith) (omega arith) (omega arith))
+
 -- a number of one digit has no zero in front
 pub padded_digit : (n : ℕ) → n < 10 → zero_padded 1 n ≡ decimal n
 padded_digit n h = padded_whole 48 1 n (omega (arith, length-digit n h))
 
-pub ruleset one_digit = (padded_digit, length-digit)
+-- how long the numbers of a date are, one after another
+pub ruleset date_lengths = (length-three_digits, length-six_digits, padded_digit, length-digit, length-sign_text, length-append, append_assoc)
 
 -- the decimal sign is one byte
 pub length-decimal_sign : (s : DecimalSign) → length (decimal_sign_text s) ≡ 1

@@ -1,10 +1,9 @@
 -- The parts that are written, one after another, give the outcome and the width of the choices.
-use Rattle.std.proofs.Common.{◌≡◌, ◌≢◌, ℕ, ◌+◌, Bool, append_assoc, length-append, arith, Result, Ok, Vec}
-use Rattle.std.specs.Global.{Global}
+use Rattle.std.proofs.Common.{◌≡◌, ◌≢◌, ℕ, ◌+◌, Bool, append_assoc, length-append, arith, Result, Ok}
 use Rattle.std.proofs.lemmas.Grind.{common_steps}
 use Rattle.time_fmt.specs.Outcome.{Outcome, join}
 use Rattle.time_fmt.specs.Sink.{Buffer}
-use Rattle.time_known.specs.Accepted.{AppendsAllOrNone, PutsOutcome}
+use Rattle.time_known.specs.Accepted.{PutsOutcome}
 use Rattle.time_known.specs.Config.{Choices, has_date, has_time, has_offset}
 use Rattle.time_known.specs.Groups.{AreAllSupplied, at_groups}
 use Rattle.time_known.specs.Iso8601.{iso8601_outcome, iso_of_groups, iso_date, iso_time, iso_offset, part_if}
@@ -45,15 +44,6 @@ pub put_by_choice : {old mid last new : Buffer} {answer : Result Unit OutOfRange
     → PutsPart (has_offset c.formatted_components) (iso_offset_width c) last new answer (iso_offset c (the_offset f))
     → PutsOutcome (iso8601_width c) old new answer (iso8601_outcome c f)
 put_by_choice c f some supplied groups p q r = rw (parts_are c f some supplied groups) (puts_three p q r)
-
--- ---- a date alone
-
--- what is appended or refused of a date alone is so of the whole text
-pub date_alone : {date time offset moment : Bool} (answer : Result ℕ OutOfRange) (old new : Vec ℕ Global) (c : Choices) (f : Facts)
-    → c.formatted_components ≡ components.Date → SuppliesParts c date time offset → Supplies date time offset moment f
-    → AppendsAllOrNone (iso_date_width c) old new answer (iso_date c (the_date f))
-    → AppendsAllOrNone (iso8601_width c) old new answer (iso8601_outcome c f)
-date_alone answer old new c f e supplied groups h = grind (arith, common_steps)
 
 -- ---- usual texts
 

@@ -1,9 +1,11 @@
 //! The choices of ISO 8601-1:2019 that a text is written by.
-ghost use Rattle.std.specs.Prelude.{◌≡◌, ◌↔◌, IsTrue};
+ghost use Rattle.std.specs.Prelude.{◌≡◌, ◌↔◌, IfSome, IsTrue};
+ghost use Rattle.time_known.specs.Changes.{with_choice, the_components, the_separators, the_year};
+ghost use Rattle.time_known.specs.Changes.{the_date, the_time, the_offset, the_sign};
 ghost use Rattle.time_known.specs.Config.{default_choices, separator, decimal_sign_text};
 ghost use Rattle.time_known.specs.Config.{has_time_letter, has_date, has_time, has_offset};
 ghost use Rattle.time_known.specs.Config.{groups_of};
-ghost use Rattle.time_known.specs.Ways.{FitsWay, usual_of, way_of};
+ghost use Rattle.time_known.specs.UsualText.{choices_of, usual_of};
 
 use crate::groups::Groups;
 use std::default::Default;
@@ -70,41 +72,14 @@ pub struct Config {
     decimal_sign: DecimalSign,
 }
 
-/// What is left to choose for a text of the date by month and day after four digits of the year,
-/// the time to the second or to decimals of it, and the offset to the minute.
+/// What is left to choose for a text with separators of the date by month and day after four digits
+/// of the year, the time to the second or to decimals of it, and the offset to the minute.
 #[derive(Clone, Copy)]
 pub struct Usual {
-    /// Whether there are separators.
-    pub has_separators: bool,
     /// How many decimals of the second are written, if any.
     pub decimal_digits: Option<ru8<1, 255>>,
     /// The sign before them.
     pub decimal_sign: DecimalSign,
-}
-
-/// The function by which a text is written, so far as a configuration decides it.
-#[derive(Clone, Copy)]
-pub(super) enum Way {
-    /// All parts, with what is left to choose. One part after another, they cost more.
-    Usual(Usual),
-    /// Any other text. Which one is asked only then, so that a usual text needs no jump through a
-    /// table.
-    Unusual(Unusual),
-}
-
-/// The function by which an unusual text is written.
-#[derive(Clone, Copy)]
-pub(super) enum Unusual {
-    /// The date alone by month and day, after four digits of the year.
-    CalendarDate,
-    /// The date alone by week and weekday, after four digits of the year.
-    WeekDate,
-    /// The date alone by the day of the year, after four digits of the year and a dash.
-    OrdinalDate,
-    /// The same without the dash. By one function that tests for the dash, both cost more.
-    CompactOrdinalDate,
-    /// Any other text, one part after another.
-    Parts,
 }
 
 impl Model for Config {
@@ -136,8 +111,9 @@ impl Model for Config {
 impl Default for Config {
     ghost is_default = { λ c. c ≡ default_choices };
 
-    /// Date, time and offset with separators, the calendar date with four digits of the year, nine
-    /// decimals of the second after a point, and the minutes of the offset.
+    /// Returns the default configuration: date, time and offset with separators, the calendar date
+    /// with four digits of the year, nine decimals of the second after a point, and the minutes of
+    /// the offset.
     fn default() -> Self {
         Config {
             formatted_components: FormattedComponents::DateTimeOffset,
@@ -156,7 +132,7 @@ impl Default for Config {
 impl Config {
     /// Returns this configuration with these parts of a text.
     pub fn set_formatted_components(self, formatted_components: FormattedComponents) -> Self
-        ensures { result ≡ record self { formatted_components = formatted_components } }
+        ensures { result ≡ with_choice the_components formatted_components self }
     {
         Config {
             formatted_components,
@@ -166,7 +142,7 @@ impl Config {
 
     /// Returns this configuration with or without separators.
     pub fn set_use_separators(self, use_separators: bool) -> Self
-        ensures { result ≡ record self { use_separators = use_separators } }
+        ensures { result ≡ with_choice the_separators use_separators self }
     {
         Config {
             use_separators,
@@ -176,7 +152,7 @@ impl Config {
 
     /// Returns this configuration with six digits of the year and its sign, or with four digits.
     pub fn set_year_is_six_digits(self, year_is_six_digits: bool) -> Self
-        ensures { result ≡ record self { year_is_six_digits = year_is_six_digits } }
+        ensures { result ≡ with_choice the_year year_is_six_digits self }
     {
         Config {
             year_is_six_digits,
@@ -186,14 +162,14 @@ impl Config {
 
     /// Returns this configuration with this kind of date.
     pub fn set_date_kind(self, date_kind: DateKind) -> Self
-        ensures { result ≡ record self { date_kind = date_kind } }
+        ensures { result ≡ with_choice the_date date_kind self }
     {
         Config { date_kind, ..self }
     }
 
     /// Returns this configuration with this precision of the time.
     pub fn set_time_precision(self, time_precision: TimePrecision) -> Self
-        ensures { result ≡ record self { time_precision = time_precision } }
+        ensures { result ≡ with_choice the_time time_precision self }
     {
         Config {
             time_precision,
@@ -203,7 +179,7 @@ impl Config {
 
     /// Returns this configuration with this precision of the offset.
     pub fn set_offset_precision(self, offset_precision: OffsetPrecision) -> Self
-        ensures { result ≡ record self { offset_precision = offset_precision } }
+        ensures { result ≡ with_choice the_offset offset_precision self }
     {
         Config {
             offset_precision,
@@ -211,10 +187,11 @@ impl Config {
         }
     }
 
-    /// Returns this configuration with this sign before the decimals of the time. It has no effect
-    /// on a text without decimals.
+    /// Returns this configuration with this sign before the decimals of the time.
+    ///
+    /// It has no effect on a text without decimals.
     pub fn set_decimal_sign(self, decimal_sign: DecimalSign) -> Self
-        ensures { result ≡ record self { decimal_sign = decimal_sign } }
+        ensures { result ≡ with_choice the_sign decimal_sign self }
     {
         Config {
             decimal_sign,
@@ -222,49 +199,49 @@ impl Config {
         }
     }
 
-    /// The parts that are written.
+    /// Returns the parts that are written.
     pub fn formatted_components(&self) -> FormattedComponents
         ensures { result ≡ self.now.formatted_components }
     {
         self.formatted_components
     }
 
-    /// Whether there are separators.
+    /// Returns whether there are separators.
     pub fn use_separators(&self) -> bool
         ensures { result ≡ self.now.use_separators }
     {
         self.use_separators
     }
 
-    /// Whether the year has six digits and its sign, and not four digits.
+    /// Returns whether the year has six digits and its sign, and not four digits.
     pub fn year_is_six_digits(&self) -> bool
         ensures { result ≡ self.now.year_is_six_digits }
     {
         self.year_is_six_digits
     }
 
-    /// The kind of date.
+    /// Returns the kind of date.
     pub fn date_kind(&self) -> DateKind
         ensures { result ≡ self.now.date_kind }
     {
         self.date_kind
     }
 
-    /// The precision of the time.
+    /// Returns the precision of the time.
     pub fn time_precision(&self) -> TimePrecision
         ensures { result ≡ self.now.time_precision }
     {
         self.time_precision
     }
 
-    /// The precision of the offset.
+    /// Returns the precision of the offset.
     pub fn offset_precision(&self) -> OffsetPrecision
         ensures { result ≡ self.now.offset_precision }
     {
         self.offset_precision
     }
 
-    /// The sign before the decimals of the time.
+    /// Returns the sign before the decimals of the time.
     pub fn decimal_sign(&self) -> DecimalSign
         ensures { result ≡ self.now.decimal_sign }
     {
@@ -285,42 +262,26 @@ impl Config {
         !self.use_separators || self.has_date()
     }
 
-    // The function by which a text is written.
-    pub(super) fn way(&self) -> Way
-        ensures way { result ≡ way_of self.now }
-        ensures fits { FitsWay self.now result }
+    // What is left to choose of a text with separators, where the other choices are the default.
+    pub(super) fn usual(&self) -> Option<Usual>
+        ensures usual { result ≡ usual_of self.now }
+        ensures fits { IfSome result (λ u. self.now ≡ choices_of u) }
     {
         let parts = (self.formatted_components, self.date_kind);
-        let unusual = match (parts, self.time_precision, self.offset_precision) {
-            _ if self.year_is_six_digits => Unusual::Parts,
+        match (parts, self.time_precision, self.offset_precision) {
             (
                 (FormattedComponents::DateTimeOffset, DateKind::Calendar),
                 TimePrecision::Second { decimal_digits },
                 OffsetPrecision::Minute,
-            ) => return Way::Usual(self.usual(decimal_digits)),
-            ((FormattedComponents::Date, DateKind::Calendar), _, _) => Unusual::CalendarDate,
-            ((FormattedComponents::Date, DateKind::Week), _, _) => Unusual::WeekDate,
-            ((FormattedComponents::Date, DateKind::Ordinal), _, _) if self.use_separators => {
-                Unusual::OrdinalDate
-            }
-            ((FormattedComponents::Date, DateKind::Ordinal), _, _) => Unusual::CompactOrdinalDate,
-            _ => Unusual::Parts,
-        };
-        Way::Unusual(unusual)
-    }
-
-    // What is left to choose with these decimals of the second.
-    fn usual(&self, decimal_digits: Option<ru8<1, 255>>) -> Usual
-        ensures { result ≡ usual_of self.now decimal_digits }
-    {
-        Usual {
-            has_separators: self.use_separators,
-            decimal_digits,
-            decimal_sign: self.decimal_sign,
+            ) if self.use_separators && !self.year_is_six_digits => Some(Usual {
+                decimal_digits,
+                decimal_sign: self.decimal_sign,
+            }),
+            _ => None,
         }
     }
 
-    /// Whether the configuration has no part.
+    /// Returns whether the configuration has no part.
     pub fn formats_nothing(&self) -> bool
         ensures { IsTrue result ↔ self.now.formatted_components ≡ FormattedComponents.None }
     {
@@ -338,7 +299,7 @@ impl Config {
         }
     }
 
-    /// Whether the date is formatted.
+    /// Returns whether the date is formatted.
     pub fn has_date(&self) -> bool
         ensures { result ≡ has_date self.now.formatted_components }
     {
@@ -350,7 +311,7 @@ impl Config {
         )
     }
 
-    /// Whether the offset is formatted.
+    /// Returns whether the offset is formatted.
     pub fn has_offset(&self) -> bool
         ensures { result ≡ has_offset self.now.formatted_components }
     {
@@ -362,7 +323,7 @@ impl Config {
         )
     }
 
-    /// Whether the time is formatted.
+    /// Returns whether the time is formatted.
     pub fn has_time(&self) -> bool
         ensures { result ≡ has_time self.now.formatted_components }
     {

@@ -1,6 +1,4 @@
 //! The offset from UTC of a text of ISO 8601-1:2019, sections 5.3.3 and 5.3.4.
-//!
-//! Without `inline(always)` the compiler leaves a call of the function that has it.
 ghost use Rattle.std.specs.Prelude.{IsTrue};
 ghost use Rattle.time_below.specs.Facts.{the_offset};
 ghost use Rattle.time_fmt.specs.Outcome.{AppendsUpTo};
@@ -16,16 +14,19 @@ use crate::fields::offset_of;
 use crate::iso8601::config::{Config, OffsetPrecision};
 use crate::put::{offset_minutes, put_offset_hours};
 use time_below::UtcOffset;
-use time_fmt::writers::{put_back, take_out, write};
+use time_fmt::writers::{put_back, take_out, write, write_if};
 use time_fmt::{Format, Sink};
 use time_provide::ComponentProvider;
 
-/// Appends the offset, whether or not the configuration formats offsets: `Z` for UTC if it formats
-/// a time, else the difference from UTC. The output needs spare capacity for its maximum length.
-/// Allocates nothing.
+/// Appends the offset, whether or not the configuration formats offsets, and allocates nothing.
 ///
-/// Returns the number of bytes appended, or the refusal of a second before any byte of the offset,
-/// or of a minute that the precision leaves out, after the hour.
+/// The offset is `Z` for UTC if the configuration formats a time, else the difference from UTC. The
+/// output needs spare capacity for [`offset_width`](Config::offset_width). Returns the number of
+/// bytes appended.
+///
+/// # Errors
+///
+/// A second is refused before any byte, and a minute that the precision leaves out after the hour.
 pub fn format_offset<V: ComponentProvider>(
     config: &Config,
     output: &mut Vec<u8>,
@@ -42,34 +43,17 @@ pub fn format_offset<V: ComponentProvider>(
     let offset = offset_of(value);
     let mut taken = take_out(output);
     let begin = taken.len();
-    let answer = put_z_or_difference(&mut taken, config, offset);
+    let answer = put_offset(&mut taken, config, offset);
     let count = taken.len() - begin;
     put_back(output, taken);
     answer?;
     Ok(count)
 }
 
-// Puts the offset into a sink that is taken out, so that its length stays in a register.
-pub(super) fn put_offset<S: Sink>(
-    output: &mut S,
-    config: &Config,
-    offset: UtcOffset,
-) -> Result<(), OutOfRange>
-    requires room { Fits (S.buffer output.old) (iso_offset_width config.now) }
-    ensures puts { PutsOutcome (iso_offset_width config.now) (S.buffer output.old)
-        (S.buffer output.new) result (iso_offset config.now offset) }
-{
-    let mut taken = output.take_out();
-    let answer = put_z_or_difference(&mut taken, config, offset);
-    output.put_back(taken);
-    answer
-}
-
-// Puts `Z` for UTC where there is a time, else the sign, the hours and the minutes. Where the
-// configuration has no minutes, they are refused unless zero.
-#[inline(always)]
+/// Puts `Z` for UTC where there is a time, else the sign, the hours and the minutes. Where the
+/// configuration has no minutes, they are refused unless zero.
 #[tactic(auto, using(crate::proofs::LengthLemmas::joined_lengths))]
-fn put_z_or_difference<S: Sink>(
+pub(super) fn put_offset<S: Sink>(
     output: &mut S,
     config: &Config,
     offset: UtcOffset,
@@ -89,9 +73,7 @@ fn put_z_or_difference<S: Sink>(
     put_offset_hours(output, offset);
     match config.offset_precision() {
         OffsetPrecision::Minute => {
-            if config.use_separators() {
-                write(output, ":");
-            }
+            write_if(output, config.use_separators(), ":");
             write(output, offset_minutes(offset));
             Ok(())
         }

@@ -3,26 +3,11 @@ ghost use Rattle.std.specs.Prelude.{◌≡◌, ◌≤◌};
 ghost use Rattle.time_known.specs.Iso8601Width.{iso8601_width, iso_date_width, iso_time_width};
 ghost use Rattle.time_known.specs.Iso8601Width.{iso_offset_width, decimal_part_width};
 ghost use Rattle.time_known.specs.UsualText.{choices_of};
-ghost use Rattle.time_known.specs.Ways.{FitsWay};
 
 use crate::iso8601::config::{
-    Config, DateKind, FormattedComponents, OffsetPrecision, TimePrecision, Usual, Way,
+    Config, DateKind, FormattedComponents, OffsetPrecision, TimePrecision, Usual,
 };
 use time_digits::ru8;
-
-impl Way {
-    // Returns the most bytes of a text by the configuration that has this way.
-    pub(super) fn width(&self, config: &Config) -> usize
-        requires { FitsWay config.now self.now }
-        ensures width { result ≡ iso8601_width config.now }
-        ensures most { result ≤ 284 }
-    {
-        match self {
-            Way::Usual(usual) => usual.width(),
-            Way::Unusual(_) => config.width(),
-        }
-    }
-}
 
 impl Config {
     /// Returns the most bytes of a text by this configuration: at most 284.
@@ -45,7 +30,9 @@ impl Config {
     }
 
     /// Returns the most bytes of the date by this configuration, 7 to 13: the spare capacity that
-    /// `format_date` needs. It does not depend on whether the configuration formats dates.
+    /// `format_date` needs.
+    ///
+    /// It does not depend on whether the configuration formats dates.
     pub fn date_width(&self) -> usize
         ensures width { result ≡ iso_date_width self.now }
         ensures most { result ≤ 13 }
@@ -60,7 +47,9 @@ impl Config {
     }
 
     /// Returns the most bytes of the time by this configuration, 2 to 265: the spare capacity that
-    /// `format_time` needs. It does not depend on whether the configuration formats times.
+    /// `format_time` needs.
+    ///
+    /// It does not depend on whether the configuration formats times.
     pub fn time_width(&self) -> usize
         ensures width { result ≡ iso_time_width self.now }
         ensures most { result ≤ 265 }
@@ -78,7 +67,9 @@ impl Config {
     }
 
     /// Returns the most bytes of the offset by this configuration, 3 to 6: the spare capacity that
-    /// `format_offset` needs. It does not depend on whether the configuration formats offsets.
+    /// `format_offset` needs.
+    ///
+    /// It does not depend on whether the configuration formats offsets.
     pub fn offset_width(&self) -> usize
         ensures width { result ≡ iso_offset_width self.now }
         ensures most { result ≤ 6 }
@@ -91,13 +82,12 @@ impl Config {
 }
 
 impl Usual {
-    /// The most bytes of a text by these choices: 20 to 281.
+    /// Returns the most bytes of a text by these choices: 25 to 281.
     pub fn width(&self) -> usize
         ensures width { result ≡ iso8601_width (choices_of self.now) }
         ensures most { result ≤ 281 }
     {
-        let signs = if self.has_separators { 25 } else { 20 };
-        signs + decimals_width(self.decimal_digits)
+        25 + decimals_width(self.decimal_digits)
     }
 }
 

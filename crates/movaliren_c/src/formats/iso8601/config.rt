@@ -1,5 +1,5 @@
 //! Configurations of ISO 8601 in the interface.
-ghost use Rattle.std.specs.Prelude.{◌≡◌, IfSome, IsTrue, Ok};
+ghost use Rattle.std.specs.Prelude.{◌≡◌, IfSome, Ok};
 ghost use Rattle.movaliren_c.specs.Chosen.{components_at, date_kind_at, decimals_at, precision_at};
 ghost use Rattle.movaliren_c.specs.Chosen.{offset_precision_at, sign_at, choices_at, separated};
 
@@ -99,8 +99,7 @@ pub fn config_at(numbers: &Iso8601Config) -> Result<Config, Reason>
 
 /// What these numbers choose of a text with separators, if the rest is chosen as by most callers.
 pub fn separated_config_at(numbers: &Iso8601Config) -> Option<Usual>
-    ensures chosen { IfSome result (λ u. choices_at numbers.now ≡ Ok (separated u)) }
-    ensures separators { IfSome result (λ u. IsTrue u.has_separators) }
+    ensures { IfSome result (λ u. choices_at numbers.now ≡ Ok (separated u)) }
 {
     let parts_are_usual = numbers.parts == 5
         && numbers.date_kind == 0
@@ -112,7 +111,6 @@ pub fn separated_config_at(numbers: &Iso8601Config) -> Option<Usual>
     }
     match sign_at(numbers.comma) {
         Ok(decimal_sign) => Some(Usual {
-            has_separators: true,
             decimal_digits: ru8::new(numbers.decimals),
             decimal_sign,
         }),

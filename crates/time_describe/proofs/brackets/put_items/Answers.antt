@@ -24,8 +24,8 @@ returns-in-None-clause-found g c =
       subst (λ (v : List Frame). g.I.Items.Holds c.args.text.now v c.steps.items w.1) fs w.2.1,
     )
 
-pub returns-in-Some-clause-fails : goal.returns-in-Some-clause-fails
-returns-in-Some-clause-fails g c =
+pub returns-in-Some-clause-fault : goal.returns-in-Some-clause-fault
+returns-in-Some-clause-fault g c =
     let w = c.steps.invariant.held in
     let rest : length c.steps.rest.now ≡ 0 = grind (arith, nat_tests) in
     let p = kept_popped c.pop.new.self.items c.in-Some.frame w.0 (subst (λ (v : List code.Frame). AreKept v w.0) c.in-Some.ensures.items w.2.0) in

@@ -2,7 +2,6 @@ use Rattle.std.proofs.Common.{rules, ◌≡◌, true, false}
 use Rattle.std.specs.Prelude.{is_some}
 use Rattle.time_fmt.specs.declared.refused.Refused.TheVariants as reason
 use Rattle.time_fmt.proofs.EndLemmas.{ends_refused}
-use Rattle.time_fmt.proofs.Engine.{nothing_appends}
 use Rattle.time_fmt.proofs.RunLemmas.{date_ends, run_text, time_ends}
 use Rattle.time_fmt.proofs.runs.write_run.Goals as goal
 
@@ -45,7 +44,3 @@ returns-else-not-SUPPLIES_DATE-clause-appends g c =
           (g.S.Sink.buffer c.write_date.new.output) there c.write_date.ensures.most c.write_date.ensures.writes);
       text = run_text c.args.run.now f;
     }
-
-pub returns-in-Empty-clause-appends : goal.returns-in-Empty-clause-appends
-returns-in-Empty-clause-appends g c =
-    rw c.in-Empty.is (nothing_appends (g.S.Sink.buffer c.args.output.now) (g.V.ComponentProvider.facts c.args.value.now))

@@ -1,6 +1,7 @@
 use Rattle.std.proofs.Common.{◌≡◌, ◌+◌, ◌<◌, ◌∙◌, ap, get_or, length, false, arith}
 use Rattle.std.specs.Char.{is_ascii_digit}
 use Rattle.line_streams.proofs.LinesLemmas.{slice-end}
+use Rattle.time_lines.specs.Number.{decimals_of}
 use Rattle.time_lines.specs.Read.{tail_length, text_length}
 use Rattle.time_lines.proofs.ReadLemmas.{no_text_digit, no_text_long, no_text_refused, no_text_short}
 use Rattle.time_lines.proofs.read.text_here.Goals as goal
@@ -25,3 +26,7 @@ returns-in-Err-clause-none c =
     let told : 19 + c.tail_length-count.result ≡ text_length c.args.text.now =
     ap (λ n. 19 + n) (c.tail_length-count.ensures.value ∙ ap tail_length (slice-end 19 c.args.text.now)) in
     no_text_refused c.args.text.now (19 + c.tail_length-count.result) told c.in-Err.ensures.refused
+
+pub returns-in-Ok-clause-decimals : goal.returns-in-Ok-clause-decimals
+returns-in-Ok-clause-decimals c =
+    ap length (c.decimals_of.ensures.decimals ∙ ap decimals_of (slice-end 19 c.args.text.now))

@@ -16,7 +16,7 @@ loop-round-preserved g c =
     let more = c.in_ok-piece.ensures.same in
     record {
       inside = c.in_ok-piece.ensures.inside;
-      same = λ m t. (λ a. (more m t).0 ((before m t).0 a), λ b. (before m t).1 ((more m t).1 b));
+      same = λ d m t. (λ a. (more d m t).0 ((before d m t).0 a), λ b. (before d m t).1 ((more d m t).1 b));
       done = done_more (g.S.Shows.shows c.args.shown.now) (g.S.Shows.shows c.loop-round.shown) c.args.numbers.now c.args.most
           c.loop-round.round c.args.line.now c.args.from c.loop-round.at c.in-Some.start c.in_ok-piece.piece.end _ _ _ before
           c.loop-round-test.true c.in-Some.ensures.place c.in_ok-piece.ensures.end c.loop-round.invariant.done

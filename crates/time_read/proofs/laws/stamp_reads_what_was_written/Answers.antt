@@ -1,4 +1,4 @@
-use Rattle.time_read.proofs.StampReadLemmas.{one_stamp}
+use Rattle.time_read.proofs.IsoLemmas.{one_stamp}
 use Rattle.time_read.proofs.laws.stamp_reads_what_was_written.Goals as goal
 
 pub returns : goal.returns

@@ -13,5 +13,5 @@ returns-then-count-eq0-clause-fault c =
 pub returns-clause-read : goal.returns-clause-read
 returns-clause-read c =
     let e = c.nanosecond-nanosecond.ensures in
-    rw (e.value, c.next_after.ensures) (at_fraction c.args.profile c.args.text.now c.nanosecond-nanosecond.result.1 _ e.digits (omega arith)
+    rw (e.value) (at_fraction c.args.profile c.args.text.now c.nanosecond-nanosecond.result.1 _ e.digits (omega arith)
     (rw (take_rest c.args.text.now c.nanosecond-nanosecond.result.1) at c.skip.ensures))

@@ -1,5 +1,5 @@
-use Rattle.std.proofs.Common.{refl, inl, inr}
-use Rattle.time_read.proofs.Tails.{tail_after, tail_is, no_lead, lead_none, at_letter}
+use Rattle.std.proofs.Common.{refl, inl, true, false}
+use Rattle.time_read.proofs.Tails.{tail_after, tail_is, no_lead, lead_none, at_letter, sign_begins}
 use Rattle.time_read.proofs.tail.fraction_and_offset.Goals as goal
 
 pub returns-in-Err-clause-fault : goal.returns-in-Err-clause-fault
@@ -19,22 +19,15 @@ returns-in-Some-clause-read c =
 
 pub returns-in-Err-rest_of_signed-clause-fault : goal.returns-in-Err-rest_of_signed-clause-fault
 returns-in-Err-rest_of_signed-clause-fault c =
-    tail_after c.args.profile 43 _ c.in-Ok.ensures.read c.in-Some-after.ensures.some (inr (inl refl)) c.in-Err-rest_of_signed.ensures.fault
+    tail_after c.args.profile _ _ c.in-Ok.ensures.read c.in-Some-after_sign.ensures.some (sign_begins c.args.profile _)
+    c.in-Err-rest_of_signed.ensures.fault
 
-pub returns-in-Some-after-clause-read : goal.returns-in-Some-after-clause-read
-returns-in-Some-after-clause-read c =
-    tail_is c.args.profile 43 _ c.in-Ok.ensures.read c.in-Some-after.ensures.some c.in-Ok-rest_of_signed.ensures.read
-
-pub returns-in-Err-rest_of_signed-2-clause-fault : goal.returns-in-Err-rest_of_signed-2-clause-fault
-returns-in-Err-rest_of_signed-2-clause-fault c =
-    tail_after c.args.profile 45 _ c.in-Ok.ensures.read c.in-Some-after-2.ensures.some (inr (inr refl)) c.in-Err-rest_of_signed-2.ensures.fault
-
-pub returns-in-Some-after-2-clause-read : goal.returns-in-Some-after-2-clause-read
-returns-in-Some-after-2-clause-read c =
-    tail_is c.args.profile 45 _ c.in-Ok.ensures.read c.in-Some-after-2.ensures.some c.in-Ok-rest_of_signed-2.ensures.read
-
-pub returns-clause-fault : goal.returns-clause-fault
-returns-clause-fault c =
+pub returns-in_default-after_sign-clause-fault : goal.returns-in_default-after_sign-clause-fault
+returns-in_default-after_sign-clause-fault c =
     no_lead c.args.profile _ c.in-Ok.ensures.read
-    (lead_none c.args.profile c.in-Ok.value.1.now c.in_default.ensures.none c.in_default-after.ensures.none
-    c.in_default-after-2.ensures.none) refl refl
+    (lead_none c.args.profile c.in-Ok.value.1.now c.in_default.ensures.none (c.in_default-after_sign.ensures.none false)
+    (c.in_default-after_sign.ensures.none true)) c.after_fraction.ensures refl
+
+pub returns-clause-read : goal.returns-clause-read
+returns-clause-read c =
+    tail_is c.args.profile _ _ c.in-Ok.ensures.read c.in-Some-after_sign.ensures.some c.in-Ok-rest_of_signed.ensures.read

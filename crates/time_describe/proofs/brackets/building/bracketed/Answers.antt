@@ -11,17 +11,17 @@ returns-in_err-inside-clause-goes_on g c =
     let p = err_from_is_err_and c.from_residual.result c.from_residual.ensures.1 in
     rw (p.1, p.2) (λ text fs before are. c.in_err-inside.ensures.goes_on fs before)
 
-pub returns-in_ok-put_component-in-Component-clause-goes_on : goal.returns-in_ok-put_component-in-Component-clause-goes_on
-returns-in_ok-put_component-in-Component-clause-goes_on g c = λ text fs before are.
+pub returns-in-Component-clause-goes_on : goal.returns-in-Component-clause-goes_on
+returns-in-Component-clause-goes_on g c = λ text fs before are.
     let along = subst (λ (x : Bracketed). InBrackets c.args.opened c.args.bytes.now (Ok (x, c.in_ok-inside.after))) c.in-Component.is c.in_ok-inside.ensures.goes_on in (
       fs,
       before ++ of_component c.in-Component.component ∷ [],
-      (are.0, c.in_ok-put_component-in-Component.ensures.put text fs before are.1),
+      (are.0, c.put_component.ensures.put text fs before are.1),
       along fs before,
     )
 
-pub returns-in_ok-begin_lists-in-Nest-clause-goes_on : goal.returns-in_ok-begin_lists-in-Nest-clause-goes_on
-returns-in_ok-begin_lists-in-Nest-clause-goes_on g c = λ text fs before are.
-    let along = subst (λ (x : Bracketed). InBrackets c.args.opened c.args.bytes.now (Ok (x, c.in_ok-inside.after))) c.in-Nest.is c.in_ok-inside.ensures.goes_on in
-    goes_along g.I.Items.can_refuse _ c.between.result _ _ (along fs before)
-    (c.between.ensures.goes_on text fs before [] refl are.0 (c.in_ok-begin_lists-in-Nest.ensures.begun text fs c.in-Nest.nest before are.1))
+pub returns-in-Lists-clause-goes_on : goal.returns-in-Lists-clause-goes_on
+returns-in-Lists-clause-goes_on g c = λ text fs before are.
+    let along = subst (λ (x : Bracketed). InBrackets c.args.opened c.args.bytes.now (Ok (x, c.in_ok-inside.after))) c.in-Lists.is c.in_ok-inside.ensures.goes_on in
+    goes_along _ c.between.result _ _ (along fs before)
+    (c.between.ensures.goes_on text fs before [] refl are.0 (c.begin_lists.ensures.begun text fs c.in-Lists.kind before are.1))

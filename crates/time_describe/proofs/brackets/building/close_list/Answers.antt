@@ -15,10 +15,10 @@ returns-clause-goes_on g c = λ text fs before are.
     let gs = popped.others in
     let lists = f.lists ++ all_of (trees before) ∷ [] in
     let held = subst (λ (v : List Frame). g.I.Items.Holds text v c.args.items.now before) popped.is are.1 in
-    let closed = c.in_ok-close_list.ensures.closed text f gs before (c.len.ensures.value ∙ sym (kept_length c.pop.new.self.items gs popped.rest)) held in
-    let in_lists = subst (λ (k : code.Frame). g.I.Items.HoldsLists text gs k.nest f.items c.close_list.new.self lists) popped.same closed in
-    goes_along g.I.Items.can_refuse _ c.between.result _ _
+    let closed = c.close_list.ensures.closed text f gs before (c.len.ensures.value ∙ sym (kept_length c.pop.new.self.items gs popped.rest)) held in
+    let in_lists = subst (λ (k : code.Frame). g.I.Items.HoldsLists text gs k.kind f.items c.close_list.new.self lists) popped.same closed in
+    goes_along _ c.between.result _ _
     (ap (λ (v : List Frame). read v outside before [] (93 ∷ rest)) popped.is
     ∙ closes_list f gs 93 before rest refl
-    ∙ ap (λ (k : code.Frame). read gs (between k.nest k.opened lists) f.items [] rest) popped.same)
+    ∙ ap (λ (k : code.Frame). read gs (between k.kind k.opened lists) f.items [] rest) popped.same)
     (c.between.ensures.goes_on text gs f.items lists (some_list f.lists (all_of (trees before))) popped.rest in_lists)

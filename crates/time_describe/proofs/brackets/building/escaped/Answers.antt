@@ -7,16 +7,16 @@ use Rattle.time_describe.proofs.ReadLemmas.{escapes, escapes_nothing, escapes_at
 use Rattle.time_describe.proofs.brackets.building.escaped.Goals as goal
 use Rattle.time_describe.proofs.brackets.building.escaped.Goals.{in_default-via-in-Some+else-is_escapable, in_default-via-in_default}
 
-pub returns-in_ok-put_byte-in-Some-clause-goes_on : goal.returns-in_ok-put_byte-in-Some-clause-goes_on
-returns-in_ok-put_byte-in-Some-clause-goes_on g c = λ text fs before held. (
+pub returns-in-Some-clause-goes_on : goal.returns-in-Some-clause-goes_on
+returns-in-Some-clause-goes_on g c = λ text fs before held. (
   fs,
   before ++ literal_of (c.in-Some.escaped ∷ []) ∷ [],
-  (refl, c.in_ok-put_byte-in-Some.ensures.put text fs before held),
+  (refl, c.put_byte.ensures.put text fs before held),
   ap (read fs escape before []) c.in-Some.ensures ∙ escapes fs c.in-Some.escaped before c.in-Some.after.now (sym c.if-is_escapable.ensures),
 )
 
-pub returns-in_ok-put_byte-in-Some-clause-end : goal.returns-in_ok-put_byte-in-Some-clause-end
-returns-in_ok-put_byte-in-Some-clause-end g c = end_cut c.args.rest.now c.in-Some.escaped c.in-Some.after.now c.in-Some.ensures
+pub returns-in-Some-clause-end : goal.returns-in-Some-clause-end
+returns-in-Some-clause-end g c = end_cut c.args.rest.now c.in-Some.escaped c.in-Some.after.now c.in-Some.ensures
 
 pub returns-in_default-clause-goes_on : goal.returns-in_default-clause-goes_on
 returns-in_default-clause-goes_on g c =

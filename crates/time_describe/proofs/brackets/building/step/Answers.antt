@@ -20,7 +20,7 @@ opened fs items text first rest is e =
 
 pub returns-then-first-eq91-clause-goes_on : goal.returns-then-first-eq91-clause-goes_on
 returns-then-first-eq91-clause-goes_on g c = λ fs before are.
-    goes_along g.I.Items.can_refuse _ c.bracketed.result _ _
+    goes_along _ c.bracketed.result _ _
     (opened fs before c.args.rest.now c.in-Some.first c.in-Some.after.now c.in-Some.ensures c.if-first-eq91.true)
     (c.bracketed.ensures.goes_on c.args.text.now fs before are)
 
@@ -38,8 +38,8 @@ returns-then-not-is_empty-clause-end g c =
 
 pub returns-then-first-eq92-clause-goes_on : goal.returns-then-first-eq92-clause-goes_on
 returns-then-first-eq92-clause-goes_on g c = λ fs before are.
-    goes_open g.I.Items.can_refuse _ c.args.frames.now.items fs c.escaped.result _ are.0
-    (goes_along g.I.Items.can_refuse _ c.escaped.result _ _
+    goes_open _ c.args.frames.now.items fs c.escaped.result _ are.0
+    (goes_along _ c.escaped.result _ _
     (ap (read fs outside before []) c.in-Some.ensures
     ∙ to_escape fs c.in-Some.first before c.in-Some.after.now (ne_eqb _ _ c.if-first-eq91.false) (eq-eqb _ _ c.if-first-eq92.true))
     (c.escaped.ensures.goes_on c.args.text.now fs before are.1))
@@ -65,7 +65,7 @@ returns-clause-goes_on g c = λ fs before are.
     let word = slice_range text (length text - length rest) (length text - length rest + len) in (
       fs,
       before ++ literal_of word ∷ [],
-      (are.0, c.in_ok-put_literal.ensures.put fs before are.1),
+      (are.0, c.put_literal.ensures.put fs before are.1),
       literal_read fs rest word _ len c.in-Some.first c.in-Some.after.now before
           place (end_bytes text rest len c.requires.end) (end_slice rest len) c.in-Some.ensures
           (plain (is_nested fs) c.in-Some.first (ne_eqb _ _ c.if-first-eq91.false) (ne_eqb _ _ c.if-first-eq92.false) no_closing),

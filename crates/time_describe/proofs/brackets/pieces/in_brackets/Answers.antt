@@ -40,7 +40,7 @@ returns-in_err-with_word-clause-goes_on c =
     rw (p.1, p.2) (λ fs items. sym (c.words.invariant.along fs items)
     ∙ word_refused fs _ _ _ _ c.args.opened c.words.component items c.in-Some.first c.in-Some.after.now c.in-Some-first_and_rest.end c.in-Some-first_and_rest.field-0-1.now c.in_err-with_word.field-0.0 w c.in-Some.ensures
     (plain_word c.in-Some.first (sym c.if-is_special.ensures) (ne_eqb _ _ c.if-first-eq93.false) (sym c.if-is_ascii_whitespace.ensures.value))
-    c.in-Some-first_and_rest.ensures (sym c.if-is_special-2.ensures) (sym c.in_default-nest_of.ensures) (sym c.with_word.ensures ∙ c.in_err-with_word.was)
+    c.in-Some-first_and_rest.ensures (sym c.if-is_special-2.ensures) (sym c.in_default-list_kind_of.ensures) (sym c.with_word.ensures ∙ c.in_err-with_word.was)
     (omega (arith, c.split_at.ensures.front_len, c.split_at.ensures.back_len, c.word_len.ensures.inside)))
 
 pub words-preserved-then-is_ascii_whitespace : goal.words-preserved-then-is_ascii_whitespace
@@ -75,23 +75,23 @@ words-preserved c =
       along = λ fs items.
           sym (word_made fs _ _ _ _ c.args.opened c.words.component items c.in-Some.first c.in-Some.after.now c.in-Some-first_and_rest.end c.in-Some-first_and_rest.field-0-1.now c.in_ok-with_word.field-0 w c.in-Some.ensures
           (plain_word c.in-Some.first (sym c.if-is_special.ensures) (ne_eqb _ _ c.if-first-eq93.false) (sym c.if-is_ascii_whitespace.ensures.value))
-          c.in-Some-first_and_rest.ensures (sym c.if-is_special-2.ensures) (sym c.in_default-nest_of.ensures) (sym c.with_word.ensures ∙ c.in_ok-with_word.was)
+          c.in-Some-first_and_rest.ensures (sym c.if-is_special-2.ensures) (sym c.in_default-list_kind_of.ensures) (sym c.with_word.ensures ∙ c.in_ok-with_word.was)
           (omega (arith, c.split_at.ensures.front_len, c.split_at.ensures.back_len, c.word_len.ensures.inside)))
           ∙ c.words.invariant.along fs items;
       shorter = omega (arith, c.words.invariant.shorter, c.split_at.ensures.back_len);
       end = end_more _ _ _ c.words.invariant.end (c.word_len.result, c.split_at.ensures.back);
     }
 
-pub returns-in-Some-nest_of-clause-goes_on : goal.returns-in-Some-nest_of-clause-goes_on
-returns-in-Some-nest_of-clause-goes_on c = λ fs items.
+pub returns-in-Some-list_kind_of-clause-goes_on : goal.returns-in-Some-list_kind_of-clause-goes_on
+returns-in-Some-list_kind_of-clause-goes_on c = λ fs items.
     let w : Word c.words.rest.now c.split_at.result.0.now c.split_at.result.1.now c.word_len.result = record { len = c.word_len.ensures.place; front = c.split_at.ensures.front; back = c.split_at.ensures.back } in
     sym (c.words.invariant.along fs items)
-    ∙ keyword_read fs _ _ _ _ c.args.opened c.words.component items c.in-Some.first c.in-Some.after.now c.in-Some-first_and_rest.end c.in-Some-first_and_rest.field-0-1.now c.in-Some-nest_of.nest w c.in-Some.ensures
+    ∙ keyword_read fs _ _ _ _ c.args.opened c.words.component items c.in-Some.first c.in-Some.after.now c.in-Some-first_and_rest.end c.in-Some-first_and_rest.field-0-1.now c.in-Some-list_kind_of.kind w c.in-Some.ensures
     (plain_word c.in-Some.first (sym c.if-is_special.ensures) (ne_eqb _ _ c.if-first-eq93.false) (sym c.if-is_ascii_whitespace.ensures.value))
-    c.in-Some-first_and_rest.ensures (sym c.if-is_special-2.ensures) (sym c.in-Some-nest_of.ensures)
+    c.in-Some-first_and_rest.ensures (sym c.if-is_special-2.ensures) (sym c.in-Some-list_kind_of.ensures)
 
 pub returns-then-first-eq93-clause-end : goal.returns-then-first-eq93-clause-end
 returns-then-first-eq93-clause-end c = end_more _ _ _ c.words.invariant.end (end_cut c.words.rest.now c.in-Some.first c.in-Some.after.now c.in-Some.ensures)
 
-pub returns-in-Some-nest_of-clause-end : goal.returns-in-Some-nest_of-clause-end
-returns-in-Some-nest_of-clause-end c = end_more _ _ _ c.words.invariant.end (c.word_len.result, c.split_at.ensures.back)
+pub returns-in-Some-list_kind_of-clause-end : goal.returns-in-Some-list_kind_of-clause-end
+returns-in-Some-list_kind_of-clause-end c = end_more _ _ _ c.words.invariant.end (c.word_len.result, c.split_at.ensures.back)

@@ -1,16 +1,13 @@
-use Rattle.std.proofs.Common.{◌+◌, ◌*◌, length, map, true}
+use Rattle.std.proofs.Common.{length, map, true}
 use Rattle.time_below.specs.Size.{sizes}
 use Rattle.time_fmt.specs.Steps.{IsWrittenUpTo}
 use Rattle.time_fmt.proofs.formattable.engine.+engine.Given as goal
 
 abbrev pub decreases-write_node : goal.decreases-write_node
-decreases-write_node g l = 2 * g.T.Node.size l.node.now
-
-abbrev pub decreases-write_inner : goal.decreases-write_inner
-decreases-write_inner g l = 2 * g.T.Node.size l.node.now + 1
+decreases-write_node g l = g.T.Node.size l.node.now
 
 abbrev pub decreases-write_nodes : goal.decreases-write_nodes
-decreases-write_nodes g l = 2 * sizes (map g.T.Node.size l.nodes.now)
+decreases-write_nodes g l = sizes (map g.T.Node.size l.nodes.now)
 
 abbrev pub invariant-write_nodes-loop-node : goal.invariant-write_nodes-loop-node
 invariant-write_nodes-loop-node g l =

@@ -11,12 +11,12 @@ returns-clause-spelled g c =
     let f = g.V.ComponentProvider.facts value in
     let there = ap (λ (needed : Groups). has_groups needed f) (sym c.groups.ensures)
     ∙ c.are_supplied_by.ensures.there value ∙ c.if-not-are_supplied_by.false in
-    completed_reads (Ok c.in_ok-write_parts.field-0) c.self.inside.config c.args.self.now f c.self.view_is there
-    c.in_ok-write_parts.ensures.real c.in_ok-write_parts.ensures.appends.appends
+    completed_reads (Ok c.in_ok-append_text.field-0) c.self.inside.config c.args.self.now f c.self.view_is there
+    c.in_ok-append_text.ensures.real c.in_ok-append_text.ensures.appends.appends
 
 pub returns-clause-text : goal.returns-clause-text
 returns-clause-text g c = λ _. iso8601_utf8 c.args.self.now (g.V.ComponentProvider.facts c.args.value.now)
 
-pub returns-in_err-write_parts-clause-text : goal.returns-in_err-write_parts-clause-text
-returns-in_err-write_parts-clause-text g c =
+pub returns-in_err-append_text-clause-text : goal.returns-in_err-append_text-clause-text
+returns-in_err-append_text-clause-text g c =
     λ _. iso8601_utf8 c.args.self.now (g.V.ComponentProvider.facts c.args.value.now)

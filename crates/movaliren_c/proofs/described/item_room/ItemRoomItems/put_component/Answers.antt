@@ -3,4 +3,4 @@ use Rattle.movaliren_c.proofs.described.item_room.ItemRoomItems.put_component.Go
 
 pub returns-clause-put : goal.returns-clause-put
 returns-clause-put c = λ text fs before held.
-    c.join.ensures.same text fs _ (c.put.ensures.put text fs _ (c.item_of-item.ensures.shows text) refl before held)
+    c.join.ensures.same text fs _ (c.put.ensures.put text fs _ (c.item_of.ensures.shows text) refl before held)

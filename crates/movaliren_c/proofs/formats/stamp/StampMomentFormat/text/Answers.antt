@@ -12,7 +12,7 @@ use Rattle.movaliren_c.proofs.formats.stamp.StampMomentFormat.text.Goals as goal
 pub returns-clause-text : goal.returns-clause-text
 returns-clause-text c =
     let v = c.args.value.now in
-    let is : c.new-value.result ≡ record { date = v.date; time = v.time } =
+    let is : c.new-value.result ≡ record { date = v.date; time = v.time; offset = tt } =
     c.new-value.ensures ∙ rw (c.date.ensures, c.time.ensures) refl in
     usual_accepted default_choices true (Some 9) sign.Point (date_facts v.date) v.time utc [] refl
     (rw is at c.in_ok-fields.ensures.accepted [])

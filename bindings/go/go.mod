@@ -1,3 +1,0 @@
-module movaliren
-
-go 1.19

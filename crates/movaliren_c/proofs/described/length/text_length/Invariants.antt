@@ -1,5 +1,0 @@
-use Rattle.movaliren_c.proofs.described.length.text_length.Given as goal
-
--- what the array holds
-abbrev pub ghosts-write_items : goal.ghosts-write_items
-ghosts-write_items g a = record { before = a.room.now }

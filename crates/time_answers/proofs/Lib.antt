@@ -1,5 +1,0 @@
-pub mod CommandLemmas
-pub mod OutputBufferLemmas
-pub mod FieldsLemmas
-pub mod ReplyLemmas
-pub mod RunLemmas

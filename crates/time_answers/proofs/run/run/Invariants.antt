@@ -1,7 +1,0 @@
-use Rattle.time_answers.proofs.RunLemmas.{Running}
-use Rattle.time_answers.proofs.run.run.Given as goal
-
-abbrev pub invariant-loop : goal.invariant-loop
-invariant-loop g l =
-    Running (g.R.Read.remaining l.fn.input) (g.R.Read.remaining l.input)
-    (g.W.Write.contents l.fn.output) (g.W.Write.contents l.output) l.line

@@ -1,9 +1,0 @@
-pub mod Fields
-pub mod LineBuffer
-pub mod Command
-pub mod Value
-pub mod Asked
-pub mod Answer
-pub mod Reply
-pub mod OutputBuffer
-pub mod Run

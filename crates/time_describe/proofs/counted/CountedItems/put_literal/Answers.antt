@@ -1,4 +1,0 @@
-use Rattle.time_describe.proofs.counted.CountedItems.put_literal.Goals as goal
-
-pub returns-clause-put : goal.returns-clause-put
-returns-clause-put c = λ fs before h. c.add.ensures fs before _ h

@@ -1,5 +1,0 @@
-mod AsciiLemmas
-mod BeginLemmas
-mod HeadLemmas
-mod KeptLemmas
-mod SpelledLemmas

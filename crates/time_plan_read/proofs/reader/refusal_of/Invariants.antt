@@ -1,5 +1,0 @@
-use Rattle.std.proofs.Common.{length}
-use Rattle.time_plan_read.proofs.reader.refusal_of.Given as goal
-
-abbrev pub decreases-steps : goal.decreases-steps
-decreases-steps g l = length l.left
