@@ -84,5 +84,5 @@ pub fn write_steps_inline<'a, B: Copy, T: WriteStep<B>, S: Sink, V: ComponentPro
         }
     }
     output.put_back(taken);
-    Ok(&steps[index..])
+    Ok(&[])
 }
