@@ -1,7 +1,6 @@
 //! The date of a text of ISO 8601-1:2019, section 5.2.
 ghost use Rattle.std.specs.Prelude.{◌+◌, ◌*◌, ◌++◌, length, IsTrue};
 ghost use Rattle.time_below.specs.Facts.{the_date};
-ghost use Rattle.time_below.specs.Month.{month_number};
 ghost use Rattle.time_below.specs.Weekday.{days_from_monday};
 ghost use Rattle.time_digits.specs.Digits.{zero_padded};
 ghost use Rattle.time_fmt.specs.Outcome.{AppendsUpTo};
@@ -13,12 +12,13 @@ ghost use Rattle.time_known.specs.Config.{dash};
 ghost use Rattle.time_known.specs.Iso8601.{iso_date, iso_year, week_text};
 ghost use Rattle.time_known.specs.Iso8601Width.{iso_date_width, year_width};
 ghost use Rattle.time_known.specs.Sink.{PutsUpTo};
-ghost use Rattle.time_known.specs.WellKnown.{month_and_day_text};
 
 use crate::accepted::OutOfRange;
+use crate::days::CalendarDay;
 use crate::iso8601::config::{Config, DateKind};
+use crate::put::put_month_and_day;
+use time_below::Weekday;
 use time_below::format_description::modifier::Padding;
-use time_below::{Month, Weekday};
 use time_digits::{ru8, ru16};
 use time_fmt::writers::{
     fmt_sign, format_four_digits_pad_zero, format_single_digit, format_six_digits_pad_zero,
@@ -26,7 +26,7 @@ use time_fmt::writers::{
 };
 use time_fmt::{Format, Sink};
 use time_provide::ComponentProvider;
-use time_provide::ranges::{Day, IsoWeekNumber, Ordinal, Year};
+use time_provide::ranges::{IsoWeekNumber, Ordinal, Year};
 
 /// Appends the date, whether or not the configuration formats dates, and allocates nothing.
 ///
@@ -77,13 +77,10 @@ pub(super) fn put_date<S: Sink, V: ComponentProvider>(
     let has_dash = config.use_separators();
     match config.date_kind() {
         DateKind::Calendar => {
-            put_year(
-                output,
-                value.calendar_year(state),
-                config.year_is_six_digits(),
-            )?;
-            let day = value.day(state);
-            put_month_and_day(output, value.month(state), day, has_dash);
+            let year = value.calendar_year(state);
+            put_year(output, year, config.year_is_six_digits())?;
+            let date = CalendarDay::in_year(year, value.ordinal(state));
+            put_month_and_day(output, date, config.separator("-"));
         }
         DateKind::Week => {
             put_year(output, value.iso_year(state), config.year_is_six_digits())?;
@@ -124,19 +121,6 @@ fn put_year<S: Sink>(output: &mut S, year: Year, is_six_digits: bool) -> Result<
     }
     format_four_digits_pad_zero(output, ru16::within(number.unsigned_abs() as u16));
     Ok(())
-}
-
-// Puts the month and the day of the month, and a dash before each of them if it is wanted.
-fn put_month_and_day<S: Sink>(output: &mut S, month: Month, day: Day, has_dash: bool)
-    requires room { Fits (S.buffer output.old) (4 + 2 * length (dash has_dash)) }
-    ensures puts { PutsUpTo (4 + 2 * length (dash has_dash))
-        (S.buffer output.old) (S.buffer output.new)
-        (month_and_day_text (dash has_dash) (month_number month) day) }
-{
-    write_if(output, has_dash, "-");
-    format_two_digits_pad_zero(output, ru8::within(u8::from(month)));
-    write_if(output, has_dash, "-");
-    format_two_digits_pad_zero(output, day.expand());
 }
 
 // Puts the letter `W` with two digits of the week, and the weekday from 1 for Monday, and a dash
