@@ -21,14 +21,13 @@ use Rattle.time_fmt.specs.Text.{sign_text}
 use Rattle.time_fmt.specs.declared.error.Format.{Format}
 use Rattle.time_known.proofs.AcceptedLemmas.{any_hour, usual_accepted}
 use Rattle.time_known.proofs.OutcomeLemmas.{IsYearWithin, not_above, test_is_passed, year_is_within}
-use Rattle.time_known.specs.Accepted.{checked_text, component_name, refused_for}
+use Rattle.time_known.specs.Accepted.{checked_text}
 use Rattle.time_known.specs.Fields.{Shown, fields}
 use Rattle.time_known.specs.Iso8601.{iso8601_of}
 use Rattle.time_known.specs.Iso8601Width.{iso8601_width}
 use Rattle.time_known.specs.UsualText.{usual_choices, usual_text}
 use Rattle.time_known.specs.Values.{DateFacts, TimeOfDay}
 use Rattle.time_known.specs.WellKnown.{is_outside}
-use Rattle.time_known.specs.declared.accepted.OutOfRange.{OutOfRange}
 use Rattle.time_known.specs.declared.iso8601.config.DecimalSign.{DecimalSign}
 use Rattle.time_known.specs.declared.iso8601.config.DecimalSign.TheVariants.{Point}
 use Rattle.log_time.specs.declared.log_time.Decimals.{Decimals}
@@ -82,14 +81,6 @@ far_refused d m o e far names = at (is_outside 0 9_999 (local_at m o).date.year)
       → IsSomeAnd (log_outcome d (local_at m o)).refusal (Names e)
   at true is = refused_as (log_outcome d (local_at m o)) (codes "year") e (rw is refl) names
   at false is = absurd (far_years (moved m o).seconds far (year_is_within 0 9_999 _ is))
-
--- and so is what a format of 23 hours has no place for
-pub component_refused : (d : Decimals) (v w : OffsetDateAndTime) (component : OutOfRange) (e : Format) → v ≡ w
-    → checked_text 0 23 v.date.year (unsigned_abs v.offset.hours) (unsigned_abs v.offset.seconds) (log_text d v)
-    ≡ refused_for component
-    → Names e (invalid_component (component_name component)) → IsSomeAnd (log_outcome d w).refusal (Names e)
-component_refused d v w component e same is names =
-    rw (← same) (refused_as (log_outcome d v) (component_name component) e is names)
 
 -- ---- texts
 

@@ -10,8 +10,7 @@ ghost use Rattle.log_time.specs.LogText.{digits_of, log_outcome};
 use std::default::Default;
 use time_below::{Timestamp, UtcOffset};
 use time_digits::{StackStr, ru8};
-use time_fmt::Format;
-use time_known::accepted::OutOfRange;
+use time_fmt::{Format, Refused};
 use time_known::fields::accepted_fields;
 use time_known::iso8601::{DecimalSign, SeparatedText, Usual};
 use time_known::sink::{Text, put_at_start};
@@ -89,14 +88,14 @@ impl LogTime {
             (log_outcome self.now.decimals (local_at moment self.now.offset)).refusal (Names e)) }
     {
         let Some(local) = moment.checked_to_offset(self.offset) else {
-            return Err(Format::from(OutOfRange::Year));
+            return Err(Format::from(Refused::InvalidYear));
         };
         match accepted_fields(0, 23, &local, &mut DateState::default()) {
             Ok(fields) => Ok(text_of(SeparatedText {
                 usual: self.decimals.usual(),
                 fields,
             })),
-            Err(component) => Err(Format::from(component)),
+            Err(reason) => Err(Format::from(reason)),
         }
     }
 }

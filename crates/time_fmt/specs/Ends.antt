@@ -1,15 +1,19 @@
 -- How a text of the engine ends.
 use Rattle.std.specs.Prelude.{ℕ, ◌≡◌, ◌+◌, ◌≤◌, ◌++◌, length, Option, Some, None, Result, Ok, Err, codes}
 use Rattle.time_below.specs.ComponentRange.{conditional_range}
-use Rattle.time_fmt.specs.Outcome.{Outcome, Refusal, insufficient, out_of_range}
+use Rattle.time_fmt.specs.Outcome.{Outcome, Refusal, insufficient, invalid_component, out_of_range}
 use Rattle.time_fmt.specs.Sink.{Buffer}
 use Rattle.time_fmt.specs.declared.refused.Refused.{Refused}
 use Rattle.time_fmt.specs.declared.refused.Refused.TheVariants as refused
 
--- what the engine refuses
+-- what is refused
 abbrev pub refusal_of : Refused → Refusal
 refusal_of refused.Unsupplied = insufficient
 refusal_of refused.YearOutOfRange = out_of_range (conditional_range (codes "year"))
+refusal_of refused.InvalidYear = invalid_component (codes "year")
+refusal_of refused.InvalidOffsetHour = invalid_component (codes "offset_hour")
+refusal_of refused.InvalidOffsetMinute = invalid_component (codes "offset_minute")
+refusal_of refused.InvalidOffsetSecond = invalid_component (codes "offset_second")
 
 -- the refusal of an answer, if there is one
 abbrev pub refusal_in : Result Unit Refused → Option Refusal

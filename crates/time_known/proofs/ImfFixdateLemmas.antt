@@ -4,14 +4,15 @@ use Rattle.std.proofs.lemmas.Bool.Decides.{nat_tests}
 use Rattle.std.proofs.lemmas.Grind.{common_steps}
 use Rattle.std.specs.Prelude.{codes}
 use Rattle.time_below.proofs.OffsetLemmas.{some_or_zero}
-use Rattle.time_fmt.specs.Outcome.{done}
-use Rattle.time_known.specs.Accepted.{checked_text, refused_for}
+use Rattle.time_fmt.specs.Ends.{refusal_of}
+use Rattle.time_fmt.specs.Outcome.{done, refused}
+use Rattle.time_fmt.specs.declared.refused.Refused.{Refused}
+use Rattle.time_fmt.specs.declared.refused.Refused.TheVariants as reason
+use Rattle.time_known.specs.Accepted.{checked_text}
 use Rattle.time_known.specs.ImfFixdate.{ImfFixdateSpells, imf_fixdate_of, imf_fixdate_of_groups, imf_fixdate_text}
 use Rattle.time_known.specs.Laws.{OneValue, IsValue}
 use Rattle.time_known.specs.Rfc2822Grammar.{to_whole_second}
 use Rattle.time_known.specs.Values.{DateFacts, OffsetDateAndTime, Offset, TimeOfDay, utc, date_facts}
-use Rattle.time_known.specs.declared.accepted.OutOfRange.{OutOfRange}
-use Rattle.time_known.specs.declared.accepted.OutOfRange.TheVariants as out
 use Rattle.time_known.proofs.LawLemmas.{IsWritten, is_written_by, completed_are_canonical}
 use Rattle.time_known.proofs.OutcomeLemmas.{IsYearWithin, test_is_passed, year_is_within, not_above, not_outside}
 use Rattle.time_known.proofs.Rfc2822Lemmas.{reads_named_date, owns_named_date}
@@ -23,17 +24,17 @@ use Rattle.time_known.proofs.Rules.Texts.{owns_before}
 -- ---- what is refused
 
 -- what is refused of the year, the hours and the seconds is refused by the text
-pub refused_in_utc : (d : DateFacts) (t : TimeOfDay) (o : Offset) (component : OutOfRange)
+pub refused_in_utc : (d : DateFacts) (t : TimeOfDay) (o : Offset) (r : Refused)
     → checked_text 0 0 d.year (unsigned_abs o.hours) (unsigned_abs o.seconds) (imf_fixdate_text d t)
-    ≡ refused_for component
-    → imf_fixdate_of_groups d t o ≡ refused_for component
-refused_in_utc d t o component e = grind (arith, common_steps)
+    ≡ refused (refusal_of r)
+    → imf_fixdate_of_groups d t o ≡ refused (refusal_of r)
+refused_in_utc d t o r e = grind (arith, common_steps)
 
 -- where nothing else is refused, minutes are
 pub minute_refused : (d : DateFacts) (t : TimeOfDay) (o : Offset) → 0 < unsigned_abs o.minutes
     → checked_text 0 0 d.year (unsigned_abs o.hours) (unsigned_abs o.seconds) (imf_fixdate_text d t)
     ≡ done (imf_fixdate_text d t)
-    → imf_fixdate_of_groups d t o ≡ refused_for out.OffsetMinute
+    → imf_fixdate_of_groups d t o ≡ refused (refusal_of reason.InvalidOffsetMinute)
 minute_refused d t o minute accepted = grind (arith, common_steps, nat_tests, test_is_passed)
 
 -- ---- whole texts

@@ -1,47 +1,12 @@
 //! What of a value a format has no place for.
 ghost use Rattle.std.specs.Prelude.{◌≡◌, ℕ, List, IfOk, IfErr, nat_lt, unsigned_abs};
-ghost use Rattle.time_fmt.specs.Outcome.{Names, done, invalid_component};
-ghost use Rattle.time_known.specs.Accepted.{checked_text, component_name, refused_for};
+ghost use Rattle.time_fmt.specs.Ends.{refusal_of};
+ghost use Rattle.time_fmt.specs.Outcome.{done, refused};
+ghost use Rattle.time_known.specs.Accepted.{checked_text};
 
 use time_below::UtcOffset;
 use time_digits::ru16;
-use time_fmt::Format;
-
-/// A component of a value that a format refuses.
-#[derive(Debug, Clone, Copy)]
-pub enum OutOfRange {
-    /// A year before the first of the format, or past 9,999 where it has four digits.
-    Year,
-    /// Too many hours of the offset.
-    OffsetHour,
-    /// Minutes of the offset, where the format has its hours alone.
-    OffsetMinute,
-    /// Seconds of the offset.
-    OffsetSecond,
-}
-
-impl OutOfRange {
-    /// Returns the name of the component.
-    pub fn name(self) -> &'static str
-        ensures { result.now ≡ component_name self }
-    {
-        match self {
-            OutOfRange::Year => "year",
-            OutOfRange::OffsetHour => "offset_hour",
-            OutOfRange::OffsetMinute => "offset_minute",
-            OutOfRange::OffsetSecond => "offset_second",
-        }
-    }
-}
-
-impl From<OutOfRange> for Format {
-    ghost from_gives = { λ component format. Names format
-        (invalid_component (component_name component)) };
-
-    fn from(component: OutOfRange) -> Format {
-        Format::InvalidComponent(component.name())
-    }
-}
+use time_fmt::Refused;
 
 /// Returns the year as a number of four digits, if it is from the first to 9,999, and the offset
 /// has at most this many hours and no seconds.
@@ -53,26 +18,26 @@ pub fn accepted_year(
     greatest_hour: u8,
     year: i32,
     offset: UtcOffset,
-) -> Result<ru16<0, 9_999>, OutOfRange>
+) -> Result<ru16<0, 9_999>, Refused>
     ensures accepted { IfOk result (λ _. (text : List ℕ)
         → checked_text first greatest_hour year (unsigned_abs offset.hours)
         (unsigned_abs offset.seconds) text
         ≡ done text) }
     ensures year { IfOk result (λ y. y ≡ unsigned_abs year) }
-    ensures refused { IfErr result (λ out. (text : List ℕ)
+    ensures refused { IfErr result (λ reason. (text : List ℕ)
         → checked_text first greatest_hour year (unsigned_abs offset.hours)
         (unsigned_abs offset.seconds) text
-        ≡ refused_for out) }
+        ≡ refused (refusal_of reason)) }
 {
     if year < first as i32 || year > 9_999 {
-        return Err(OutOfRange::Year);
+        return Err(Refused::InvalidYear);
     }
     let second = offset.as_hms().2.unsigned_abs();
     if has_more_hours(offset, greatest_hour) {
-        return Err(OutOfRange::OffsetHour);
+        return Err(Refused::InvalidOffsetHour);
     }
     if second != 0 {
-        return Err(OutOfRange::OffsetSecond);
+        return Err(Refused::InvalidOffsetSecond);
     }
     Ok(ru16::within(year.unsigned_abs() as u16))
 }

@@ -2,16 +2,18 @@
 ghost use Rattle.std.specs.Prelude.{◌≡◌, ℕ, List, IfOk, IfErr, OnOk, IsTrue, unsigned_abs};
 ghost use Rattle.time_below.specs.Facts.{the_date, the_time, the_offset};
 ghost use Rattle.time_below.specs.Offset.{IsOffset};
-ghost use Rattle.time_fmt.specs.Outcome.{done};
+ghost use Rattle.time_fmt.specs.Ends.{refusal_of};
+ghost use Rattle.time_fmt.specs.Outcome.{done, refused};
 ghost use Rattle.time_provide.specs.Real.{AgreesOnTime, AreReal};
-ghost use Rattle.time_known.specs.Accepted.{checked_text, refused_for};
+ghost use Rattle.time_known.specs.Accepted.{checked_text};
 ghost use Rattle.time_known.specs.Fields.{fields, shown};
 ghost use Rattle.time_known.specs.Groups.{AreAllSupplied, at_groups};
 
-use crate::accepted::{OutOfRange, accepted_year};
+use crate::accepted::accepted_year;
 use crate::days::CalendarDay;
 use time_below::{Time, UtcOffset};
 use time_digits::ru16;
+use time_fmt::Refused;
 use time_provide::ComponentProvider;
 
 /// The fields of a date of the years 0 to 9,999, of a time of day and of an offset.
@@ -37,7 +39,7 @@ pub fn accepted_fields<V: ComponentProvider>(
     greatest_hour: u8,
     value: &V,
     state: &mut V::State,
-) -> Result<Fields, OutOfRange>
+) -> Result<Fields, Refused>
     requires supplied { AreAllSupplied V.SUPPLIES_DATE V.SUPPLIES_TIME V.SUPPLIES_OFFSET }
     requires agrees { V.agrees state.old value.now }
     ensures accepted { IfOk result (λ _. (text : List ℕ)
@@ -45,10 +47,10 @@ pub fn accepted_fields<V: ComponentProvider>(
         (unsigned_abs (the_offset (V.facts value.now)).hours)
         (unsigned_abs (the_offset (V.facts value.now)).seconds) text ≡ done text) }
     ensures fields { IfOk result (λ f. shown f ≡ at_groups fields (V.facts value.now)) }
-    ensures refused { IfErr result (λ out. (text : List ℕ)
+    ensures refused { IfErr result (λ reason. (text : List ℕ)
         → checked_text first greatest_hour (the_date (V.facts value.now)).year
         (unsigned_abs (the_offset (V.facts value.now)).hours)
-        (unsigned_abs (the_offset (V.facts value.now)).seconds) text ≡ refused_for out) }
+        (unsigned_abs (the_offset (V.facts value.now)).seconds) text ≡ refused (refusal_of reason)) }
     ensures real { OnOk result (AreReal (V.facts value.now)) }
     ensures offset { IsOffset (the_offset (V.facts value.now)) }
     ensures agrees { V.agrees state.new value.now }

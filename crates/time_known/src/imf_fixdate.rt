@@ -1,8 +1,8 @@
 //! The date of HTTP.
 ghost use Rattle.std.specs.Prelude.{◌≡◌, IfErr, IfOk, OnOk, min, true};
 ghost use Rattle.time_below.specs.Weekday.{days_from_monday};
-ghost use Rattle.time_fmt.specs.Outcome.{done};
-ghost use Rattle.time_known.specs.Accepted.{refused_for};
+ghost use Rattle.time_fmt.specs.Ends.{refusal_of};
+ghost use Rattle.time_fmt.specs.Outcome.{done, refused};
 ghost use Rattle.time_known.specs.Fields.{on_weekday};
 ghost use Rattle.time_known.specs.Groups.{AreAllSupplied, at_groups};
 ghost use Rattle.time_known.specs.ImfFixdate.{FillsImfFixdateWidth, ImfFixdateSpells};
@@ -12,14 +12,13 @@ ghost use Rattle.time_known.specs.ReadBack.{ReadsAs};
 ghost use Rattle.time_known.specs.Rfc2822Grammar.{to_whole_second};
 ghost use Rattle.time_provide.specs.Real.{AreReal};
 
-use crate::accepted::OutOfRange;
 use crate::fields::{Fields, accepted_fields};
 use crate::groups::Groups;
 use crate::put::{put_clock, put_named_date};
 use crate::sink::{Text, append};
 use time_below::Weekday;
 use time_fmt::writers::write;
-use time_fmt::{ComputeMetadata, Format, Formattable, Metadata, Sink};
+use time_fmt::{ComputeMetadata, Format, Formattable, Metadata, Refused, Sink};
 use time_provide::ComponentProvider;
 
 /// The date of HTTP, `IMF-fixdate` (RFC 9110, section 5.6.7), as `Sun, 06 Nov 1994 08:49:37 GMT`,
@@ -85,20 +84,21 @@ impl ImfFixdateText {
     pub fn accepted<V: ComponentProvider>(
         value: &V,
         state: &mut V::State,
-    ) -> Result<ImfFixdateText, OutOfRange>
+    ) -> Result<ImfFixdateText, Refused>
         requires supplied { AreAllSupplied V.SUPPLIES_DATE V.SUPPLIES_TIME V.SUPPLIES_OFFSET }
         requires agrees { V.agrees state.old value.now }
         ensures accepted { IfOk result
             (λ t. at_groups imf_fixdate_of_groups (V.facts value.now)
             ≡ done (⟦<ImfFixdateText as Text>⟧.text t)) }
         ensures refused { IfErr result
-            (λ out. at_groups imf_fixdate_of_groups (V.facts value.now) ≡ refused_for out) }
+            (λ reason. at_groups imf_fixdate_of_groups (V.facts value.now)
+            ≡ refused (refusal_of reason)) }
         ensures real { OnOk result (AreReal (V.facts value.now)) }
         ensures agrees { V.agrees state.new value.now }
     {
         let fields = accepted_fields(0, 0, value, state)?;
         if fields.offset.as_hms().1 != 0 {
-            return Err(OutOfRange::OffsetMinute);
+            return Err(Refused::InvalidOffsetMinute);
         }
         let weekday = value.weekday(state);
         Ok(ImfFixdateText { weekday, fields })

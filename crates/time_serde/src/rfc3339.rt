@@ -1,7 +1,7 @@
 //! Moments as texts of RFC 3339.
 ghost use Rattle.std.specs.Prelude.{◌≡◌, ◌≤◌, IfErr, IfOk, OnOk};
-ghost use Rattle.time_fmt.specs.Outcome.{done};
-ghost use Rattle.time_known.specs.Accepted.{refused_for};
+ghost use Rattle.time_fmt.specs.Ends.{refusal_of};
+ghost use Rattle.time_fmt.specs.Outcome.{done, refused};
 ghost use Rattle.time_known.specs.Rfc3339.{rfc3339_of};
 ghost use Rattle.time_known.specs.Rfc3339Grammar.{Rfc3339Spells};
 ghost use Rattle.time_serde.specs.Events.{IsReadFrom, WritesText};
@@ -14,7 +14,7 @@ use serde::{Deserializer, Format, Serializer};
 use std::alloc::Global;
 use std::default::Default;
 use time_below::OffsetDateTime;
-use time_known::accepted::OutOfRange;
+use time_fmt::Refused;
 use time_known::fields::accepted_fields;
 use time_known::rfc3339::Rfc3339Text;
 use time_known::sink::Text;
@@ -23,15 +23,15 @@ use time_read::rfc3339::read;
 
 pub mod option;
 
-/// The text of the local date and time, or the component for which there is none.
-fn text_of(local: &OffsetDateTime) -> Result<Rfc3339Text, OutOfRange>
+/// The text of the local date and time, or why there is none.
+fn text_of(local: &OffsetDateTime) -> Result<Rfc3339Text, Refused>
     ensures text { IfOk result (λ t. rfc3339_of local.now ≡ done (⟦<Rfc3339Text as Text>⟧.text t)) }
     ensures width { IfOk result (λ t. ⟦<Rfc3339Text as Text>⟧.width t ≤ 35) }
-    ensures refused { IfErr result (λ out. rfc3339_of local.now ≡ refused_for out) }
+    ensures refused { IfErr result (λ reason. rfc3339_of local.now ≡ refused (refusal_of reason)) }
 {
     match accepted_fields(0, 23, local, &mut DateState::default()) {
         Ok(fields) => Ok(Rfc3339Text { fields }),
-        Err(component) => Err(component),
+        Err(reason) => Err(reason),
     }
 }
 
@@ -46,7 +46,7 @@ pub fn serialize<T: Moment, S: Serializer>(moment: &T, out: &mut S) -> Result<()
 {
     match text_of(&moment.to_local()) {
         Ok(text) => write_text(&text, out),
-        Err(component) => Err(out.custom(unwritten(component).as_str())),
+        Err(reason) => Err(out.custom(unwritten(reason).as_str())),
     }
 }
 

@@ -1,16 +1,15 @@
 //! What is said of a moment that is not written or not read.
 use std::fmt::InlineText;
 use time_below::ComponentRange;
-use time_fmt::Format;
-use time_known::accepted::OutOfRange;
+use time_fmt::{Format, Refused};
 use time_read::NotRead;
 
 // The most bytes that are said.
 const WORDS: usize = 100;
 
 /// The words of `time_fmt` for a component that RFC 3339 cannot write.
-pub(crate) fn unwritten(component: OutOfRange) -> InlineText<WORDS> {
-    InlineText::of(Format::from(component))
+pub(crate) fn unwritten(reason: Refused) -> InlineText<WORDS> {
+    InlineText::of(Format::from(reason))
 }
 
 /// The words of `time_read` for the position at which a text is not one of RFC 3339.

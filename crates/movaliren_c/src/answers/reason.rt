@@ -3,11 +3,8 @@ ghost use Rattle.std.specs.Prelude.{◌≡◌, ◌<◌, IfOk};
 ghost use Rattle.movaliren_c.specs.Answer.{answer_number, reason_number, IsReasonFor, Refuses};
 ghost use Rattle.movaliren_c.specs.Value.{flag_at};
 ghost use Rattle.time_fmt.specs.Ends.{refusal_of};
-ghost use Rattle.time_fmt.specs.Outcome.{invalid_component};
-ghost use Rattle.time_known.specs.Accepted.{component_name};
 
 use time_fmt::{Format, Refused};
-use time_known::accepted::OutOfRange;
 
 /// The reason why there is no text. A call returns its number, below zero.
 #[derive(Clone, Copy)]
@@ -114,26 +111,18 @@ pub fn reason_of(error: Format) -> Reason
     }
 }
 
-/// The reason of a component that a format refuses.
-impl From<OutOfRange> for Reason {
-    ghost from_gives = { λ component reason. Refuses reason
-        (invalid_component (component_name component)) };
-
-    fn from(component: OutOfRange) -> Reason {
-        match component {
-            OutOfRange::Year => Reason::FormatYear,
-            OutOfRange::OffsetHour => Reason::FormatOffsetHour,
-            OutOfRange::OffsetMinute => Reason::FormatOffsetMinute,
-            OutOfRange::OffsetSecond => Reason::FormatOffsetSecond,
-        }
-    }
-}
-
-/// The reason of what the formatter refuses.
+/// The reason of what is refused.
 impl From<Refused> for Reason {
     ghost from_gives = { λ refused reason. Refuses reason (refusal_of refused) };
 
     fn from(refused: Refused) -> Reason {
-        reason_of(refused.into())
+        match refused {
+            Refused::Unsupplied => Reason::Insufficient,
+            Refused::YearOutOfRange => Reason::OutOfRange,
+            Refused::InvalidYear => Reason::FormatYear,
+            Refused::InvalidOffsetHour => Reason::FormatOffsetHour,
+            Refused::InvalidOffsetMinute => Reason::FormatOffsetMinute,
+            Refused::InvalidOffsetSecond => Reason::FormatOffsetSecond,
+        }
     }
 }

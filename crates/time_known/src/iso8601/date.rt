@@ -3,17 +3,16 @@ ghost use Rattle.std.specs.Prelude.{◌+◌, ◌*◌, ◌++◌, length, IsTrue};
 ghost use Rattle.time_below.specs.Facts.{the_date};
 ghost use Rattle.time_below.specs.Weekday.{days_from_monday};
 ghost use Rattle.time_digits.specs.Digits.{zero_padded};
+ghost use Rattle.time_fmt.specs.Ends.{Ends};
 ghost use Rattle.time_fmt.specs.Outcome.{AppendsUpTo};
 ghost use Rattle.time_fmt.specs.Room.{HasRoom};
 ghost use Rattle.time_fmt.specs.Sink.{Fits};
 ghost use Rattle.time_provide.specs.Real.{AgreesOnDate};
-ghost use Rattle.time_known.specs.Accepted.{PutsOutcome};
 ghost use Rattle.time_known.specs.Config.{dash};
 ghost use Rattle.time_known.specs.Iso8601.{iso_date, iso_year, week_text};
 ghost use Rattle.time_known.specs.Iso8601Width.{iso_date_width, year_width};
 ghost use Rattle.time_known.specs.Sink.{PutsUpTo};
 
-use crate::accepted::OutOfRange;
 use crate::days::CalendarDay;
 use crate::iso8601::config::{Config, DateKind};
 use crate::put::put_month_and_day;
@@ -24,7 +23,7 @@ use time_fmt::writers::{
     fmt_sign, format_four_digits_pad_zero, format_single_digit, format_six_digits_pad_zero,
     format_three_digits, format_two_digits_pad_zero, put_back, take_out, write, write_if,
 };
-use time_fmt::{Format, Sink};
+use time_fmt::{Format, Refused, Sink};
 use time_provide::ComponentProvider;
 use time_provide::ranges::{IsoWeekNumber, Ordinal, Year};
 
@@ -65,11 +64,11 @@ pub(super) fn put_date<S: Sink, V: ComponentProvider>(
     config: &Config,
     value: &V,
     state: &mut V::State,
-) -> Result<(), OutOfRange>
+) -> Result<(), Refused>
     requires supplied { IsTrue V.SUPPLIES_DATE }
     requires room { Fits (S.buffer output.old) (iso_date_width config.now) }
     requires agrees { V.agrees state.old value.now }
-    ensures puts { PutsOutcome (iso_date_width config.now) (S.buffer output.old)
+    ensures ends { Ends (iso_date_width config.now) (S.buffer output.old)
         (S.buffer output.new) result
         (iso_date config.now (the_date (V.facts value.now))) }
     ensures agrees { AgreesOnDate (V.agrees state.new value.now) (V.facts value.now) }
@@ -105,9 +104,9 @@ pub(super) fn put_date<S: Sink, V: ComponentProvider>(
 
 // Puts the sign and six digits of the year, or four digits of one that has no more.
 #[tactic(auto, using(crate::proofs::LengthLemmas::sign_lengths))]
-fn put_year<S: Sink>(output: &mut S, year: Year, is_six_digits: bool) -> Result<(), OutOfRange>
+fn put_year<S: Sink>(output: &mut S, year: Year, is_six_digits: bool) -> Result<(), Refused>
     requires room { Fits (S.buffer output.old) (year_width is_six_digits) }
-    ensures puts { PutsOutcome (year_width is_six_digits) (S.buffer output.old)
+    ensures ends { Ends (year_width is_six_digits) (S.buffer output.old)
         (S.buffer output.new) result (iso_year is_six_digits year) }
 {
     let number = year.get();
@@ -117,7 +116,7 @@ fn put_year<S: Sink>(output: &mut S, year: Year, is_six_digits: bool) -> Result<
         return Ok(());
     }
     if number < 0 || number > 9_999 {
-        return Err(OutOfRange::Year);
+        return Err(Refused::InvalidYear);
     }
     format_four_digits_pad_zero(output, ru16::within(number.unsigned_abs() as u16));
     Ok(())

@@ -1,21 +1,20 @@
 //! The offset from UTC of a text of ISO 8601-1:2019, sections 5.3.3 and 5.3.4.
 ghost use Rattle.std.specs.Prelude.{IsTrue};
 ghost use Rattle.time_below.specs.Facts.{the_offset};
+ghost use Rattle.time_fmt.specs.Ends.{Ends};
 ghost use Rattle.time_fmt.specs.Outcome.{AppendsUpTo};
 ghost use Rattle.time_fmt.specs.Room.{HasRoom};
 ghost use Rattle.time_fmt.specs.Sink.{Fits};
 ghost use Rattle.time_provide.specs.Real.{AgreesOnOffset};
-ghost use Rattle.time_known.specs.Accepted.{PutsOutcome};
 ghost use Rattle.time_known.specs.Iso8601.{iso_offset};
 ghost use Rattle.time_known.specs.Iso8601Width.{iso_offset_width};
 
-use crate::accepted::OutOfRange;
 use crate::fields::offset_of;
 use crate::iso8601::config::{Config, OffsetPrecision};
 use crate::put::{offset_minutes, put_offset_hours};
 use time_below::UtcOffset;
 use time_fmt::writers::{put_back, take_out, write, write_if};
-use time_fmt::{Format, Sink};
+use time_fmt::{Format, Refused, Sink};
 use time_provide::ComponentProvider;
 
 /// Appends the offset, whether or not the configuration formats offsets, and allocates nothing.
@@ -57,9 +56,9 @@ pub(super) fn put_offset<S: Sink>(
     output: &mut S,
     config: &Config,
     offset: UtcOffset,
-) -> Result<(), OutOfRange>
+) -> Result<(), Refused>
     requires room { Fits (S.buffer output.old) (iso_offset_width config.now) }
-    ensures puts { PutsOutcome (iso_offset_width config.now) (S.buffer output.old)
+    ensures ends { Ends (iso_offset_width config.now) (S.buffer output.old)
         (S.buffer output.new) result (iso_offset config.now offset) }
 {
     if config.has_time() && offset.is_utc() {
@@ -68,7 +67,7 @@ pub(super) fn put_offset<S: Sink>(
     }
     let (_, minutes, seconds) = offset.as_hms();
     if seconds != 0 {
-        return Err(OutOfRange::OffsetSecond);
+        return Err(Refused::InvalidOffsetSecond);
     }
     put_offset_hours(output, offset);
     match config.offset_precision() {
@@ -79,7 +78,7 @@ pub(super) fn put_offset<S: Sink>(
         }
         OffsetPrecision::Hour => {
             if minutes != 0 {
-                return Err(OutOfRange::OffsetMinute);
+                return Err(Refused::InvalidOffsetMinute);
             }
             Ok(())
         }

@@ -1,22 +1,22 @@
 //! The parts of a value that a text is made of, one after another.
 ghost use Rattle.std.specs.Prelude.{◌≡◌, ◌≢◌, IfSome, OnOk};
+ghost use Rattle.time_fmt.specs.Ends.{Ends};
+ghost use Rattle.time_fmt.specs.Outcome.{AppendsUpTo};
 ghost use Rattle.time_fmt.specs.Room.{HasRoom};
 ghost use Rattle.time_fmt.specs.Sink.{Fits};
-ghost use Rattle.time_known.specs.Accepted.{AppendsParts, PutsOutcome};
 ghost use Rattle.time_known.specs.Iso8601.{iso8601_outcome};
 ghost use Rattle.time_known.specs.Iso8601Parts.{IsRealWhole, SuppliesParts};
 ghost use Rattle.time_known.specs.Iso8601Width.{iso8601_width};
 ghost use Rattle.time_known.specs.UsualText.{choices_of};
 
-use crate::accepted::OutOfRange;
 use crate::fields::{offset_of, time_of};
 use crate::iso8601::config::{Config, FormattedComponents, Usual};
 use crate::iso8601::date::put_date;
 use crate::iso8601::offset::put_offset;
 use crate::iso8601::time::put_time;
 use crate::iso8601::usual_text::append_usual;
-use time_fmt::Sink;
 use time_fmt::writers::{put_back, take_out};
+use time_fmt::{Format, Refused, Sink};
 use time_provide::ComponentProvider;
 
 /// Puts the parts of the value that the configuration formats, one after another, up to what has no
@@ -26,12 +26,12 @@ pub fn put_parts<S: Sink, V: ComponentProvider>(
     config: &Config,
     value: &V,
     state: &mut V::State,
-) -> Result<(), OutOfRange>
+) -> Result<(), Refused>
     requires some { config.now.formatted_components ≢ FormattedComponents.None }
     requires supplied { SuppliesParts config.now V.SUPPLIES_DATE V.SUPPLIES_TIME V.SUPPLIES_OFFSET }
     requires room { Fits (S.buffer output.old) (iso8601_width config.now) }
     requires agrees { V.agrees state.old value.now }
-    ensures puts { PutsOutcome (iso8601_width config.now) (S.buffer output.old)
+    ensures ends { Ends (iso8601_width config.now) (S.buffer output.old)
         (S.buffer output.new) result
         (iso8601_outcome config.now (V.facts value.now)) }
     ensures real { OnOk result (IsRealWhole config.now (V.facts value.now)) }
@@ -57,13 +57,13 @@ pub(super) fn append_text<V: ComponentProvider>(
     usual: Option<Usual>,
     value: &V,
     state: &mut V::State,
-) -> Result<usize, OutOfRange>
+) -> Result<usize, Format>
     requires some { config.now.formatted_components ≢ FormattedComponents.None }
     requires usual { IfSome usual (λ u. config.now ≡ choices_of u) }
     requires supplied { SuppliesParts config.now V.SUPPLIES_DATE V.SUPPLIES_TIME V.SUPPLIES_OFFSET }
     requires room { HasRoom output.old (iso8601_width config.now) }
     requires agrees { V.agrees state.old value.now }
-    ensures appends { AppendsParts (iso8601_width config.now) output.old output.new result
+    ensures appends { AppendsUpTo (iso8601_width config.now) output.old output.new result
         (iso8601_outcome config.now (V.facts value.now)) }
     ensures real { OnOk result (IsRealWhole config.now (V.facts value.now)) }
     ensures agrees { V.agrees state.new value.now }
@@ -82,12 +82,12 @@ fn append_parts<V: ComponentProvider>(
     config: &Config,
     value: &V,
     state: &mut V::State,
-) -> Result<usize, OutOfRange>
+) -> Result<usize, Format>
     requires some { config.now.formatted_components ≢ FormattedComponents.None }
     requires supplied { SuppliesParts config.now V.SUPPLIES_DATE V.SUPPLIES_TIME V.SUPPLIES_OFFSET }
     requires room { HasRoom output.old (iso8601_width config.now) }
     requires agrees { V.agrees state.old value.now }
-    ensures appends { AppendsParts (iso8601_width config.now) output.old output.new result
+    ensures appends { AppendsUpTo (iso8601_width config.now) output.old output.new result
         (iso8601_outcome config.now (V.facts value.now)) }
     ensures real { OnOk result (IsRealWhole config.now (V.facts value.now)) }
     ensures agrees { V.agrees state.new value.now }

@@ -18,3 +18,6 @@ returns-clause-spelled g c =
 
 pub returns-clause-text : goal.returns-clause-text
 returns-clause-text g c = λ _. imf_fixdate_utf8 (g.V.ComponentProvider.facts c.args.value.now)
+
+pub returns-in_err-text-clause-text : goal.returns-in_err-text-clause-text
+returns-in_err-text-clause-text g c = λ _. imf_fixdate_utf8 (g.V.ComponentProvider.facts c.args.value.now)

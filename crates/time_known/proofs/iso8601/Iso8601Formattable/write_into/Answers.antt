@@ -1,4 +1,4 @@
-use Rattle.std.proofs.Common.{ap, sym, ◌∙◌, Ok}
+use Rattle.std.proofs.Common.{ap, sym, ◌∙◌}
 use Rattle.time_known.specs.declared.groups.Groups.{Groups}
 use Rattle.time_known.specs.Groups.{has_groups}
 use Rattle.time_known.proofs.GuaranteeLemmas.{iso8601_utf8}
@@ -11,12 +11,8 @@ returns-clause-spelled g c =
     let f = g.V.ComponentProvider.facts value in
     let there = ap (λ (needed : Groups). has_groups needed f) (sym c.groups.ensures)
     ∙ c.are_supplied_by.ensures.there value ∙ c.if-not-are_supplied_by.false in
-    completed_reads (Ok c.in_ok-append_text.field-0) c.self.inside.config c.args.self.now f c.self.view_is there
-    c.in_ok-append_text.ensures.real c.in_ok-append_text.ensures.appends.appends
+    completed_reads c.append_text.result c.self.inside.config c.args.self.now f c.self.view_is there
+    c.append_text.ensures.real c.append_text.ensures.appends.appends
 
 pub returns-clause-text : goal.returns-clause-text
 returns-clause-text g c = λ _. iso8601_utf8 c.args.self.now (g.V.ComponentProvider.facts c.args.value.now)
-
-pub returns-in_err-append_text-clause-text : goal.returns-in_err-append_text-clause-text
-returns-in_err-append_text-clause-text g c =
-    λ _. iso8601_utf8 c.args.self.now (g.V.ComponentProvider.facts c.args.value.now)
