@@ -1,15 +1,16 @@
 //! The pieces of texts, put into a sink.
 #![tactic(auto, using(crate::proofs::LengthLemmas::joined_lengths))]
 
-ghost use Rattle.std.specs.Prelude.{◌≡◌, ◌+◌, ◌*◌, ◌++◌, codes, length, unsigned_abs};
+ghost use Rattle.std.specs.Prelude.{◌≡◌, ◌+◌, ◌*◌, ◌++◌, codes, length, unsigned_abs, Ok};
 ghost use Rattle.time_below.specs.Weekday.{days_from_monday};
 ghost use Rattle.time_digits.specs.Digits.{zero_padded};
+ghost use Rattle.time_fmt.specs.Ends.{Ends};
+ghost use Rattle.time_fmt.specs.Outcome.{done};
 ghost use Rattle.time_fmt.specs.DateText.{month_name, short_name};
 ghost use Rattle.time_fmt.specs.Sink.{Fits, Puts};
 ghost use Rattle.time_known.specs.Days.{month_and_day};
 ghost use Rattle.time_known.specs.Fields.{on_weekday, shown};
 ghost use Rattle.time_known.specs.Rfc2822.{named_date_text, named_date_width};
-ghost use Rattle.time_known.specs.Sink.{PutsUpTo};
 ghost use Rattle.time_known.specs.WellKnown.{clock_text, offset_hours_text, offset_text};
 ghost use Rattle.time_known.specs.WellKnown.{signed_offset_text, date_text, month_and_day_text};
 
@@ -28,9 +29,9 @@ use time_fmt::writers::{
 #[inline(always)]
 pub(crate) fn put_date<S: Sink>(output: &mut S, fields: &Fields, separator: &str)
     requires room { Fits (S.buffer output.old) (8 + 2 * length separator.now) }
-    ensures puts { PutsUpTo (8 + 2 * length separator.now)
+    ensures puts { Ends (8 + 2 * length separator.now)
         (S.buffer output.old) (S.buffer output.new)
-        (date_text separator.now (shown fields.now).date) }
+        (Ok tt) (done (date_text separator.now (shown fields.now).date)) }
 {
     format_four_digits_pad_zero(output, fields.year);
     put_month_and_day(output, fields.date, separator);
@@ -40,9 +41,9 @@ pub(crate) fn put_date<S: Sink>(output: &mut S, fields: &Fields, separator: &str
 #[inline(always)]
 pub(crate) fn put_month_and_day<S: Sink>(output: &mut S, date: CalendarDay, separator: &str)
     requires room { Fits (S.buffer output.old) (4 + 2 * length separator.now) }
-    ensures puts { PutsUpTo (4 + 2 * length separator.now)
-        (S.buffer output.old) (S.buffer output.new)
-        (month_and_day_text separator.now (month_and_day date).month (month_and_day date).day) }
+    ensures puts { Ends (4 + 2 * length separator.now)
+        (S.buffer output.old) (S.buffer output.new) (Ok tt) (done (month_and_day_text
+        separator.now (month_and_day date).month (month_and_day date).day)) }
 {
     let (month, day) = date.digits();
     write(output, separator);
@@ -66,9 +67,9 @@ pub(crate) fn put_month_name<S: Sink>(output: &mut S, date: CalendarDay)
 #[inline(always)]
 pub(crate) fn put_clock<S: Sink>(output: &mut S, time: Time, separator: &str)
     requires room { Fits (S.buffer output.old) (6 + 2 * length separator.now) }
-    ensures puts { PutsUpTo (6 + 2 * length separator.now)
+    ensures puts { Ends (6 + 2 * length separator.now)
         (S.buffer output.old) (S.buffer output.new)
-        (clock_text separator.now time) }
+        (Ok tt) (done (clock_text separator.now time)) }
 {
     let (hour, minute, second, _) = time.as_hms_nano();
     format_two_digits_pad_zero(output, ru8::within(hour));
@@ -109,9 +110,9 @@ pub(crate) fn put_offset_hours<S: Sink>(output: &mut S, offset: UtcOffset)
 #[inline(always)]
 pub(crate) fn put_signed_offset<S: Sink>(output: &mut S, offset: UtcOffset, separator: &str)
     requires room { Fits (S.buffer output.old) (5 + length separator.now) }
-    ensures puts { PutsUpTo (5 + length separator.now)
+    ensures puts { Ends (5 + length separator.now)
         (S.buffer output.old) (S.buffer output.new)
-        (signed_offset_text separator.now offset) }
+        (Ok tt) (done (signed_offset_text separator.now offset)) }
 {
     put_offset_hours(output, offset);
     write(output, separator);
@@ -123,9 +124,9 @@ pub(crate) fn put_signed_offset<S: Sink>(output: &mut S, offset: UtcOffset, sepa
 #[inline(always)]
 pub fn put_offset<S: Sink>(output: &mut S, offset: UtcOffset, separator: &str)
     requires room { Fits (S.buffer output.old) (5 + length separator.now) }
-    ensures puts { PutsUpTo (5 + length separator.now)
+    ensures puts { Ends (5 + length separator.now)
         (S.buffer output.old) (S.buffer output.new)
-        (offset_text separator.now offset) }
+        (Ok tt) (done (offset_text separator.now offset)) }
 {
     if offset.is_utc() {
         write(output, "Z");
@@ -138,8 +139,8 @@ pub fn put_offset<S: Sink>(output: &mut S, offset: UtcOffset, separator: &str)
 #[inline(always)]
 pub(crate) fn put_named_date<S: Sink>(output: &mut S, weekday: Weekday, fields: &Fields)
     requires room { Fits (S.buffer output.old) named_date_width }
-    ensures puts { PutsUpTo named_date_width (S.buffer output.old) (S.buffer output.new)
-        (named_date_text (on_weekday (days_from_monday weekday) fields.now)) }
+    ensures puts { Ends named_date_width (S.buffer output.old) (S.buffer output.new)
+        (Ok tt) (done (named_date_text (on_weekday (days_from_monday weekday) fields.now))) }
 {
     fmt_weekday_short(output, weekday, WEEKDAY_SHORT);
     write(output, ", ");

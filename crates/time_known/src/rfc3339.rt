@@ -1,5 +1,7 @@
 //! RFC 3339.
-ghost use Rattle.std.specs.Prelude.{◌≡◌, min, true};
+ghost use Rattle.std.specs.Prelude.{◌≡◌, min, true, Ok};
+ghost use Rattle.time_fmt.specs.Ends.{Ends};
+ghost use Rattle.time_fmt.specs.Outcome.{done};
 ghost use Rattle.time_fmt.specs.Sink.{Fits};
 ghost use Rattle.time_known.specs.Fields.{shown};
 ghost use Rattle.time_known.specs.Longest.{FillsRfc3339Width};
@@ -9,7 +11,6 @@ ghost use Rattle.time_known.specs.Rfc3339.{full_time_text, full_time_width, seco
 ghost use Rattle.time_known.specs.Rfc3339.{second_width};
 ghost use Rattle.time_known.specs.Rfc3339.{time_secfrac_text, time_secfrac_width};
 ghost use Rattle.time_known.specs.Rfc3339Grammar.{Rfc3339Spells, IsCanonicalRfc3339};
-ghost use Rattle.time_known.specs.Sink.{PutsUpTo};
 
 use crate::fields::{Fields, accepted_fields};
 use crate::groups::Groups;
@@ -119,8 +120,8 @@ impl Text for SecondText {
 #[tactic(auto, using(crate::proofs::LengthLemmas::one_by_one))]
 pub fn put_full_time<S: Sink>(output: &mut S, time: Time, offset: UtcOffset)
     requires room { Fits (S.buffer output.old) full_time_width }
-    ensures puts { PutsUpTo full_time_width (S.buffer output.old) (S.buffer output.new)
-        (full_time_text time offset) }
+    ensures puts { Ends full_time_width (S.buffer output.old) (S.buffer output.new)
+        (Ok tt) (done (full_time_text time offset)) }
 {
     put_clock(output, time, ":");
     put_time_secfrac(output, time);
@@ -132,8 +133,8 @@ pub fn put_full_time<S: Sink>(output: &mut S, time: Time, offset: UtcOffset)
 #[tactic(auto, using(crate::proofs::LengthLemmas::fraction_lengths))]
 fn put_time_secfrac<S: Sink>(output: &mut S, time: Time)
     requires room { Fits (S.buffer output.old) time_secfrac_width }
-    ensures puts { PutsUpTo time_secfrac_width (S.buffer output.old) (S.buffer output.new)
-        (time_secfrac_text time.nanosecond) }
+    ensures puts { Ends time_secfrac_width (S.buffer output.old) (S.buffer output.new)
+        (Ok tt) (done (time_secfrac_text time.nanosecond)) }
 {
     let (_, _, _, nanosecond) = time.as_hms_nano();
     if nanosecond != 0 {

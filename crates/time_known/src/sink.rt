@@ -1,9 +1,9 @@
 //! Texts that are put into a sink piece by piece.
 ghost use Rattle.std.specs.Prelude.{◌≡◌, ◌≤◌, ◌++◌, ℕ, List, Ok, drop, length};
+ghost use Rattle.time_fmt.specs.Ends.{Ends};
 ghost use Rattle.time_fmt.specs.Outcome.{AppendsUpTo, done};
 ghost use Rattle.time_fmt.specs.Room.{HasRoom};
 ghost use Rattle.time_fmt.specs.Sink.{Fits};
-ghost use Rattle.time_known.specs.Sink.{PutsUpTo};
 
 use std::marker::Brand;
 use time_fmt::writers::{put_back, take_out};
@@ -20,8 +20,8 @@ pub trait Text {
     /// Puts the text into a sink.
     fn put_into<S: Sink>(&self, output: &mut S)
         requires room { Fits (S.buffer output.old) (width self.now) }
-        ensures puts { PutsUpTo (width self.now) (S.buffer output.old) (S.buffer output.new)
-            (text self.now) };
+        ensures puts { Ends (width self.now) (S.buffer output.old) (S.buffer output.new)
+            (Ok tt) (done (text self.now)) };
 }
 
 // Appends the text, and returns the number of its bytes.

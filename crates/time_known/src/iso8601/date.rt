@@ -1,17 +1,16 @@
 //! The date of a text of ISO 8601-1:2019, section 5.2.
-ghost use Rattle.std.specs.Prelude.{◌+◌, ◌*◌, ◌++◌, length, IsTrue};
+ghost use Rattle.std.specs.Prelude.{◌+◌, ◌*◌, ◌++◌, length, IsTrue, Ok};
 ghost use Rattle.time_below.specs.Facts.{the_date};
 ghost use Rattle.time_below.specs.Weekday.{days_from_monday};
 ghost use Rattle.time_digits.specs.Digits.{zero_padded};
 ghost use Rattle.time_fmt.specs.Ends.{Ends};
-ghost use Rattle.time_fmt.specs.Outcome.{AppendsUpTo};
+ghost use Rattle.time_fmt.specs.Outcome.{AppendsUpTo, done};
 ghost use Rattle.time_fmt.specs.Room.{HasRoom};
 ghost use Rattle.time_fmt.specs.Sink.{Fits};
 ghost use Rattle.time_provide.specs.Real.{AgreesOnDate};
 ghost use Rattle.time_known.specs.Config.{dash};
 ghost use Rattle.time_known.specs.Iso8601.{iso_date, iso_year, week_text};
 ghost use Rattle.time_known.specs.Iso8601Width.{iso_date_width, year_width};
-ghost use Rattle.time_known.specs.Sink.{PutsUpTo};
 
 use crate::days::CalendarDay;
 use crate::iso8601::config::{Config, DateKind};
@@ -127,9 +126,9 @@ fn put_year<S: Sink>(output: &mut S, year: Year, is_six_digits: bool) -> Result<
 #[tactic(auto, using(crate::proofs::LengthLemmas::joined_lengths))]
 fn put_week<S: Sink>(output: &mut S, week: IsoWeekNumber, weekday: Weekday, has_dash: bool)
     requires room { Fits (S.buffer output.old) (4 + 2 * length (dash has_dash)) }
-    ensures puts { PutsUpTo (4 + 2 * length (dash has_dash))
+    ensures puts { Ends (4 + 2 * length (dash has_dash))
         (S.buffer output.old) (S.buffer output.new)
-        (week_text (dash has_dash) week (days_from_monday weekday + 1)) }
+        (Ok tt) (done (week_text (dash has_dash) week (days_from_monday weekday + 1))) }
 {
     write_if(output, has_dash, "-");
     write(output, "W");
@@ -142,9 +141,9 @@ fn put_week<S: Sink>(output: &mut S, week: IsoWeekNumber, weekday: Weekday, has_
 #[tactic(auto, using(crate::proofs::LengthLemmas::joined_lengths))]
 fn put_day_of_year<S: Sink>(output: &mut S, day: Ordinal, has_dash: bool)
     requires room { Fits (S.buffer output.old) (3 + length (dash has_dash)) }
-    ensures puts { PutsUpTo (3 + length (dash has_dash))
+    ensures puts { Ends (3 + length (dash has_dash))
         (S.buffer output.old) (S.buffer output.new)
-        (dash has_dash ++ zero_padded 3 day) }
+        (Ok tt) (done (dash has_dash ++ zero_padded 3 day)) }
 {
     write_if(output, has_dash, "-");
     format_three_digits(output, day.expand(), Padding::Zero);

@@ -3,15 +3,15 @@
 
 ghost use Rattle.std.specs.Prelude.{◌≡◌, Ok, ◌+◌, ◌*◌, ◌<◌, ◌≤◌, ◌++◌, codes, IsTrue};
 ghost use Rattle.time_below.specs.Facts.{the_time};
+ghost use Rattle.time_fmt.specs.Ends.{Ends};
 ghost use Rattle.time_fmt.specs.Decimals.{decimals};
-ghost use Rattle.time_fmt.specs.Outcome.{AppendsUpTo};
+ghost use Rattle.time_fmt.specs.Outcome.{AppendsUpTo, done};
 ghost use Rattle.time_fmt.specs.Room.{HasRoom};
 ghost use Rattle.time_fmt.specs.Sink.{Fits, Puts};
 ghost use Rattle.time_provide.specs.Real.{AgreesOnTime};
 ghost use Rattle.time_known.specs.Iso8601.{iso_time, iso_time_text, decimal_part, units_text};
 ghost use Rattle.time_known.specs.Iso8601.{nanoseconds_of_hour, nanoseconds_of_minute};
 ghost use Rattle.time_known.specs.Iso8601Width.{iso_time_width, decimal_part_width, units_width};
-ghost use Rattle.time_known.specs.Sink.{PutsUpTo};
 ghost use Rattle.time_known.specs.WellKnown.{clock_text};
 
 use crate::fields::time_of;
@@ -64,8 +64,8 @@ pub fn format_time<V: ComponentProvider>(
 /// last one.
 pub(super) fn put_time<S: Sink>(output: &mut S, config: &Config, time: Time)
     requires room { Fits (S.buffer output.old) (iso_time_width config.now) }
-    ensures puts { PutsUpTo (iso_time_width config.now) (S.buffer output.old)
-        (S.buffer output.new) (iso_time_text config.now time) }
+    ensures puts { Ends (iso_time_width config.now) (S.buffer output.old)
+        (S.buffer output.new) (Ok tt) (done (iso_time_text config.now time)) }
 {
     if config.has_time_letter() {
         write(output, "T");
@@ -77,9 +77,9 @@ pub(super) fn put_time<S: Sink>(output: &mut S, config: &Config, time: Time)
 fn put_units<S: Sink>(output: &mut S, config: &Config, time: Time)
     requires room { Fits (S.buffer output.old)
         (units_width config.now.time_precision config.now) }
-    ensures puts { PutsUpTo (units_width config.now.time_precision config.now)
+    ensures puts { Ends (units_width config.now.time_precision config.now)
         (S.buffer output.old) (S.buffer output.new)
-        (units_text config.now.time_precision config.now time) }
+        (Ok tt) (done (units_text config.now.time_precision config.now time)) }
 {
     let (has_colon, sign) = (config.use_separators(), config.decimal_sign());
     match config.time_precision() {
@@ -118,9 +118,9 @@ fn put_decimals_of_second<S: Sink>(
     digits: Option<ru8<1, 255>>,
 )
     requires room { Fits (S.buffer output.old) (decimal_part_width digits) }
-    ensures puts { PutsUpTo (decimal_part_width digits) (S.buffer output.old)
+    ensures puts { Ends (decimal_part_width digits) (S.buffer output.old)
         (S.buffer output.new)
-        (decimal_part sign digits time.nanosecond NANOSECONDS_PER_SECOND) }
+        (Ok tt) (done (decimal_part sign digits time.nanosecond NANOSECONDS_PER_SECOND)) }
 {
     if let Some(digits) = digits {
         write(output, sign.text());
@@ -137,10 +137,10 @@ pub(super) fn put_to_second<S: Sink>(
     digits: Option<ru8<1, 255>>,
 )
     requires room { Fits (S.buffer output.old) (8 + decimal_part_width digits) }
-    ensures puts { PutsUpTo (8 + decimal_part_width digits)
+    ensures puts { Ends (8 + decimal_part_width digits)
         (S.buffer output.old) (S.buffer output.new)
-        (clock_text (codes ":") time
-        ++ decimal_part sign digits time.nanosecond NANOSECONDS_PER_SECOND) }
+        (Ok tt) (done (clock_text (codes ":") time
+        ++ decimal_part sign digits time.nanosecond NANOSECONDS_PER_SECOND)) }
 {
     put_clock(output, time, ":");
     put_decimals_of_second(output, time, sign, digits);
@@ -176,8 +176,9 @@ fn put_decimals_of<S: Sink>(
     requires part { rest < unit }
     requires unit { unit ≤ NANOSECONDS_PER_HOUR }
     requires room { Fits (S.buffer output.old) (decimal_part_width digits) }
-    ensures puts { PutsUpTo (decimal_part_width digits)
-        (S.buffer output.old) (S.buffer output.new) (decimal_part sign digits rest unit) }
+    ensures puts { Ends (decimal_part_width digits)
+        (S.buffer output.old) (S.buffer output.new)
+        (Ok tt) (done (decimal_part sign digits rest unit)) }
 {
     if let Some(digits) = digits {
         write(output, sign.text());
