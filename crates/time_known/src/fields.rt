@@ -50,7 +50,8 @@ pub fn accepted_fields<V: ComponentProvider>(
     ensures refused { IfErr result (λ reason. (text : List ℕ)
         → checked_text first greatest_hour (the_date (V.facts value.now)).year
         (unsigned_abs (the_offset (V.facts value.now)).hours)
-        (unsigned_abs (the_offset (V.facts value.now)).seconds) text ≡ refused (refusal_of reason)) }
+        (unsigned_abs (the_offset (V.facts value.now)).seconds) text
+        ≡ refused (refusal_of reason)) }
     ensures real { OnOk result (AreReal (V.facts value.now)) }
     ensures offset { IsOffset (the_offset (V.facts value.now)) }
     ensures agrees { V.agrees state.new value.now }
