@@ -3,8 +3,11 @@ use Rattle.std.specs.Prelude.{ℕ, ◌+◌, Bool, if◌then◌else◌}
 use Rattle.movaliren_c.specs.declared.read.place.Coming.{Coming}
 use Rattle.movaliren_c.specs.declared.read.place.ReadError.{ReadError}
 use Rattle.time_below.specs.Weekday.{days_from_monday}
+use Rattle.time_read.specs.declared.component_name.ComponentName.{ComponentName}
+use Rattle.time_read.specs.declared.component_name.ComponentName.TheVariants as component
 use Rattle.time_read.specs.declared.fault.Expected.{Expected}
 use Rattle.time_read.specs.declared.fault.Expected.TheVariants as expected
+use Rattle.time_read.specs.declared.fault.Mismatch.TheVariants as mismatch
 use Rattle.time_read.specs.declared.fault.NotRead.{NotRead}
 use Rattle.time_read.specs.declared.fault.Profile.{Profile}
 use Rattle.time_read.specs.declared.fault.Profile.TheVariants as profile
@@ -38,7 +41,42 @@ numbers_of_mail part.Zone = of_numbers 21 0 0 1
 numbers_of_mail part.Space = of_numbers 22 0 0 0
 numbers_of_mail part.CommentEnd = of_numbers 23 0 0 0
 
--- what could have come: its number, and the first and the last of its digits, or its byte twice
+-- the number of a component's name
+abbrev pub number_of_component : ComponentName → ℕ
+number_of_component component.Day = 0
+number_of_component component.MonthShort = 1
+number_of_component component.MonthLong = 2
+number_of_component component.MonthNumerical = 3
+number_of_component component.Ordinal = 4
+number_of_component component.WeekdayShort = 5
+number_of_component component.WeekdayLong = 6
+number_of_component component.WeekdaySunday = 7
+number_of_component component.WeekdayMonday = 8
+number_of_component component.WeekNumberIso = 9
+number_of_component component.WeekNumberSunday = 10
+number_of_component component.WeekNumberMonday = 11
+number_of_component component.CalendarYearFull = 12
+number_of_component component.CalendarYearCentury = 13
+number_of_component component.CalendarYearLastTwo = 14
+number_of_component component.IsoYearFull = 15
+number_of_component component.IsoYearCentury = 16
+number_of_component component.IsoYearLastTwo = 17
+number_of_component component.Hour12 = 18
+number_of_component component.Hour24 = 19
+number_of_component component.Minute = 20
+number_of_component component.Period = 21
+number_of_component component.Second = 22
+number_of_component component.Subsecond = 23
+number_of_component component.OffsetHour = 24
+number_of_component component.OffsetMinute = 25
+number_of_component component.OffsetSecond = 26
+number_of_component component.UnixTimestampSecond = 27
+number_of_component component.UnixTimestampMillisecond = 28
+number_of_component component.End = 29
+number_of_component component.Ignore = 30
+
+-- what could have come: its number, and the first and the last of its digits, or its byte twice, or the number of its
+-- component
 abbrev pub numbers_of : Expected → Coming
 numbers_of (expected.Digit first last) = of_numbers 1 first last 0
 numbers_of (expected.Byte b) = of_numbers 2 b b 0
@@ -48,7 +86,9 @@ numbers_of (expected.PointOrOffset p) = of_numbers 5 0 0 (lenient_flag p)
 numbers_of (expected.DigitOrOffset p) = of_numbers 6 0 0 (lenient_flag p)
 numbers_of expected.End = of_numbers 7 0 0 0
 numbers_of expected.Sign = of_numbers 8 0 0 0
-numbers_of (expected.Plan mismatch) = of_numbers 26 0 0 0
+numbers_of (expected.Plan (mismatch.Component c)) = of_numbers 24 (number_of_component c) 0 0
+numbers_of (expected.Plan (mismatch.NoValue c)) = of_numbers 25 (number_of_component c) 0 0
+numbers_of (expected.Plan mismatch.Otherwise) = of_numbers 26 0 0 0
 numbers_of (expected.Mail part) = numbers_of_mail part
 
 -- this could have come after so many bytes

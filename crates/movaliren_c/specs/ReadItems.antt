@@ -1,9 +1,8 @@
 -- What a call that reads a text by a description leaves.
 use Rattle.std.specs.Prelude.{◌≡◌, ◌≤◌, ◌⊎◌, ℕ, ℤ, pos, List, length, Result, Ok, Err, IsOk, IsOkAnd, MatchResult}
 use Rattle.movaliren_c.specs.Answer.{reason_number}
-use Rattle.movaliren_c.specs.Described.{IsItem}
 use Rattle.movaliren_c.specs.Items.{item_tree}
-use Rattle.movaliren_c.specs.Place.{flag_of, place_of}
+use Rattle.movaliren_c.specs.Place.{place_of}
 use Rattle.movaliren_c.specs.Reading.{IsInUtc}
 use Rattle.movaliren_c.specs.Value.{moment_value}
 use Rattle.movaliren_c.specs.declared.answers.reason.Reason.{Reason}
@@ -16,14 +15,9 @@ use Rattle.movaliren_c.specs.declared.values.moment.Moment.{Moment}
 use Rattle.movaliren_c.specs.declared.values.moment.UtcMoment.{UtcMoment}
 use Rattle.time_below.specs.Facts.{Facts, facts_of_offset_date_time, facts_of_utc_date_time}
 use Rattle.time_below.specs.Moment.{DateAndTime, OffsetDateAndTime, unix_seconds}
-use Rattle.time_below.specs.Tree.{Tree, nothing, of_component, trees}
-use Rattle.time_below.specs.declared.format_description.component.Component.{Component}
+use Rattle.time_below.specs.Tree.{Tree, nothing, trees}
 use Rattle.time_fmt.specs.Description.{trees_outcome}
 use Rattle.time_fmt.specs.Outcome.{done}
-use Rattle.time_read.specs.declared.fault.Expected.{Expected}
-use Rattle.time_read.specs.declared.fault.Expected.TheVariants as expected
-use Rattle.time_read.specs.declared.fault.Mismatch.{Mismatch}
-use Rattle.time_read.specs.declared.fault.Mismatch.TheVariants as mismatch
 use Rattle.time_read.specs.declared.fault.NotRead.{NotRead}
 
 -- the tree, or that of nothing where there is none
@@ -78,42 +72,13 @@ IsUnread description text (unread.At e) = IsOk description × (e.at ≤ length t
 
 -- ---- what a call leaves
 
--- the number of a component among the kinds of items: that of an item which shows it
-pub record IsKindOf (c : Component) (kind : ℕ) : Type 0 where
-  pub item : Item
-  pub kind_is : item.kind ≡ kind
-  pub shows : (text : List ℕ) → IsItem text item (of_component c)
-
--- the place at which the text of a component, or another number of it, could have come
-pub record IsPlaceOfKind (e : NotRead) (number : ℕ) (c : Component) (place : ReadError) : Type 0 where
-  pub at_is : place.at ≡ e.at
-  pub number_is : place.expected ≡ number
-  pub kind : IsKindOf c place.first
-  pub no_last : place.last ≡ 0
-  pub strict : place.is_lenient ≡ 0
-  pub second_60 : place.is_second_60 ≡ flag_of e.is_second_60
-
--- the place at which a text is none of a plan, as C sees it
-abbrev pub IsPlaceOfStep : NotRead → Mismatch → ReadError → Type 0
-IsPlaceOfStep e (mismatch.Component c) place = IsPlaceOfKind e 24 c place
-IsPlaceOfStep e (mismatch.NoValue c) place = IsPlaceOfKind e 25 c place
-IsPlaceOfStep e mismatch.Otherwise place = place ≡ place_of e
-
--- the place of a text that is not read, as C sees it
-abbrev pub IsPlaceFor : NotRead → Expected → ReadError → Type 0
-IsPlaceFor e (expected.Plan m) place = IsPlaceOfStep e m place
-IsPlaceFor e other place = place ≡ place_of e
-
-abbrev pub IsPlaceBy : NotRead → ReadError → Type 0
-IsPlaceBy e place = IsPlaceFor e e.expected place
-
 -- The number is 0, the moment is kept, and the place is unchanged; or the moment is unchanged, and the number is that of
 -- the reason, or that of a text that is not read, whose place is set.
 abbrev pub LeavesRead : {M : Type 0} → Result M Unread → ℤ → M → M → ReadError → ReadError → Type 0
 LeavesRead (Ok m) number before after old new = (number ≡ pos 0) × (after ≡ m) × (new ≡ old)
 LeavesRead (Err (unread.Never r)) number before after old new = (number ≡ reason_number r) × (after ≡ before) × (new ≡ old)
 LeavesRead (Err (unread.At e)) number before after old new =
-    (number ≡ reason_number reason.NotRead) × (after ≡ before) × IsPlaceBy e new
+    (number ≡ reason_number reason.NotRead) × (after ≡ before) × (new ≡ place_of e)
 
 -- a moment is read, or this is why none is
 pub record IsReadBy {M : Type 0} (Is : M → Type 0) (Why : Unread → Type 0) (number : ℤ) (before after : M) (old new : ReadError)

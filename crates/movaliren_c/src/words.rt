@@ -3,16 +3,13 @@ ghost use Rattle.movaliren_c.specs.Words.{IsSaid};
 
 use crate::answers::reason::answer_number;
 use crate::answers::room::copy_text;
-use crate::described::item::{Item, component_of};
-use crate::described::made_item::NO_ITEM;
 use crate::described::syntax::ParseError;
 use crate::read::place::ReadError;
 use arrayvec::ArrayString;
 use std::fmt::{Display, Write};
 use time_below::Weekday;
-use time_below::format_description::Component;
 use time_describe::{BracketReason, InvalidDescription, StrftimeReason};
-use time_read::{Expected, MailPart, Mismatch, NotRead, Profile};
+use time_read::{ComponentName, Expected, MailPart, Mismatch, NotRead, Profile};
 
 /// The most bytes of the words.
 const MOST: usize = 128;
@@ -80,13 +77,42 @@ fn mismatch_of(error: &ReadError) -> Option<Mismatch> {
     }
 }
 
-/// The component of this kind of items.
-fn component_numbered(kind: u8) -> Option<Component> {
-    let item = Item {
-        kind: kind as u32,
-        ..NO_ITEM
-    };
-    component_of(&item).ok()
+/// The name of a component, by its number.
+fn component_numbered(number: u8) -> Option<ComponentName> {
+    match number {
+        0 => Some(ComponentName::Day),
+        1 => Some(ComponentName::MonthShort),
+        2 => Some(ComponentName::MonthLong),
+        3 => Some(ComponentName::MonthNumerical),
+        4 => Some(ComponentName::Ordinal),
+        5 => Some(ComponentName::WeekdayShort),
+        6 => Some(ComponentName::WeekdayLong),
+        7 => Some(ComponentName::WeekdaySunday),
+        8 => Some(ComponentName::WeekdayMonday),
+        9 => Some(ComponentName::WeekNumberIso),
+        10 => Some(ComponentName::WeekNumberSunday),
+        11 => Some(ComponentName::WeekNumberMonday),
+        12 => Some(ComponentName::CalendarYearFull),
+        13 => Some(ComponentName::CalendarYearCentury),
+        14 => Some(ComponentName::CalendarYearLastTwo),
+        15 => Some(ComponentName::IsoYearFull),
+        16 => Some(ComponentName::IsoYearCentury),
+        17 => Some(ComponentName::IsoYearLastTwo),
+        18 => Some(ComponentName::Hour12),
+        19 => Some(ComponentName::Hour24),
+        20 => Some(ComponentName::Minute),
+        21 => Some(ComponentName::Period),
+        22 => Some(ComponentName::Second),
+        23 => Some(ComponentName::Subsecond),
+        24 => Some(ComponentName::OffsetHour),
+        25 => Some(ComponentName::OffsetMinute),
+        26 => Some(ComponentName::OffsetSecond),
+        27 => Some(ComponentName::UnixTimestampSecond),
+        28 => Some(ComponentName::UnixTimestampMillisecond),
+        29 => Some(ComponentName::End),
+        30 => Some(ComponentName::Ignore),
+        _ => None,
+    }
 }
 
 /// What could have come in a text, by its numbers.

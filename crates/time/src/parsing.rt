@@ -6,5 +6,5 @@ pub use time_read::{Expected, MailPart, NotRead, Profile, iso8601, rfc2822, rfc3
 
 /// Texts of plans.
 pub mod plan {
-    pub use time_read::{Mismatch, NoReader, NotRead, ReadPlan, Readable, Reader};
+    pub use time_read::{ComponentName, Mismatch, NoReader, NotRead, ReadPlan, Readable, Reader};
 }

@@ -1,10 +1,10 @@
 //! What is refused, and where.
 ghost use Rattle.std.specs.Prelude.{◌≤◌, length};
 
+use crate::component_name::ComponentName;
 use std::fmt;
 use thiserror::Error;
 use time_below::Weekday;
-use time_below::format_description::Component;
 
 /// Which texts are read.
 #[derive(Debug, Clone, Copy, PartialEq, Eq)]
@@ -49,9 +49,9 @@ pub enum MailPart {
 #[derive(Debug, Clone, Copy, PartialEq, Eq)]
 pub enum Mismatch {
     /// The text of this component should begin here.
-    Component(Component),
+    Component(ComponentName),
     /// The number of this component, which begins here, is that of no value, as in February 31.
-    NoValue(Component),
+    NoValue(ComponentName),
     /// The value of these numbers is written otherwise from here on, as by another weekday. By a
     /// plan whose texts may have more than 64 bytes, the component begins here that is written
     /// otherwise.
@@ -176,48 +176,6 @@ fn part_in_words(part: MailPart) -> &'static str {
     }
 }
 
-// A component by its name in a description.
-fn name_of(component: Component) -> &'static str {
-    match component.current() {
-        Component::Day(_) => "[day]",
-        Component::MonthShort(_) => "[month repr:short]",
-        Component::MonthLong(_) => "[month repr:long]",
-        Component::MonthNumerical(_) => "[month]",
-        Component::Ordinal(_) => "[ordinal]",
-        Component::WeekdayShort(_) => "[weekday repr:short]",
-        Component::WeekdayLong(_) => "[weekday]",
-        Component::WeekdaySunday(_) => "[weekday repr:sunday]",
-        Component::WeekdayMonday(_) => "[weekday repr:monday]",
-        Component::WeekNumberIso(_) => "[week_number]",
-        Component::WeekNumberSunday(_) => "[week_number repr:sunday]",
-        Component::WeekNumberMonday(_) => "[week_number repr:monday]",
-        Component::Hour12(_) => "[hour repr:12]",
-        Component::Hour24(_) => "[hour]",
-        Component::Minute(_) => "[minute]",
-        Component::Period(_) => "[period]",
-        Component::Second(_) => "[second]",
-        Component::Subsecond(_) => "[subsecond]",
-        Component::OffsetHour(_) => "[offset_hour]",
-        Component::OffsetMinute(_) => "[offset_minute]",
-        Component::OffsetSecond(_) => "[offset_second]",
-        Component::UnixTimestampSecond(_) => "[unix_timestamp]",
-        Component::UnixTimestampMillisecond(_) => "[unix_timestamp precision:millisecond]",
-        Component::CalendarYearFullExtendedRange(_) | Component::CalendarYearFullStandardRange(_) =>
-            "[year]",
-        Component::CalendarYearCenturyExtendedRange(_)
-        | Component::CalendarYearCenturyStandardRange(_) => "[year repr:century]",
-        Component::CalendarYearLastTwo(_) => "[year repr:last_two]",
-        Component::IsoYearFullExtendedRange(_) | Component::IsoYearFullStandardRange(_) => {
-            "[year base:iso_week]"
-        }
-        Component::IsoYearCenturyExtendedRange(_) | Component::IsoYearCenturyStandardRange(_) =>
-            "[year base:iso_week repr:century]",
-        Component::IsoYearLastTwo(_) => "[year base:iso_week repr:last_two]",
-        Component::End(_) => "[end]",
-        _ => "[ignore]",
-    }
-}
-
 impl fmt::Display for Expected {
     fn fmt<W: fmt::Write>(&self, f: &mut fmt::Formatter<W>) -> fmt::Result {
         match *self {
@@ -225,12 +183,12 @@ impl fmt::Display for Expected {
             Expected::Digit(first, last) => write!(f, "a digit from {first} to {last}"),
             Expected::Byte(byte) => write!(f, "`{}`", char::from(byte)),
             Expected::Mail(part) => f.write_str(part_in_words(part)),
-            Expected::Plan(Mismatch::Component(component)) => f.write_str(name_of(component)),
-            Expected::Plan(Mismatch::NoValue(component)) => {
+            Expected::Plan(Mismatch::Component(name)) => f.write_str(name.in_brackets()),
+            Expected::Plan(Mismatch::NoValue(name)) => {
                 write!(
                     f,
                     "another {}, since no value has this one",
-                    name_of(component)
+                    name.in_brackets()
                 )
             }
             other => f.write_str(in_words(other)),

@@ -14,6 +14,7 @@ macro_rules! ok {
 
 // Fields, which stand at the front of a text: each returns its value and what follows it, or a
 // fault.
+mod component_name;
 mod decimals;
 mod digit_runs;
 mod digits;
@@ -43,6 +44,7 @@ pub mod rfc3339;
 pub mod stamp;
 mod written;
 
+pub use component_name::ComponentName;
 pub use fault::{Expected, MailPart, Mismatch, NoReader, NotRead, Profile};
 pub use plan::{
     LiteralRef, ReadPlan, ReadStep, Reader, StepParts, StepsReader, readable_kinds,

@@ -2,27 +2,24 @@
 ghost use Rattle.std.specs.Prelude.{◌≡◌, ◌≤◌, ℕ, Err, IfErr, IfOk, IsOk, IsTrue, List, MatchResult};
 ghost use Rattle.std.specs.Prelude.{Result, length, take};
 ghost use Rattle.movaliren_c.specs.Items.{trees_of};
-ghost use Rattle.movaliren_c.specs.ReadItems.{HasText, HasTextOfMoment, IsKindOf, IsOfUtc, IsPlaceBy};
+ghost use Rattle.movaliren_c.specs.ReadItems.{HasText, HasTextOfMoment, IsOfUtc};
 ghost use Rattle.movaliren_c.specs.ReadItems.{IsReadBy, IsTextOf, IsUnread, LeavesRead, read_tree};
 ghost use Rattle.movaliren_c.specs.declared.answers.reason.Reason.{Reason};
 ghost use Rattle.time_below.specs.Tree.{Tree};
 
 use crate::answers::reason::{Reason, answer_number};
 use crate::described::item::{Item, Part, part_of};
-use crate::described::made_item::item_of;
 use crate::described::{SHORT, first_reason, width, write_items};
 use crate::read::OfValue;
 use crate::read::place::{ReadError, place_of};
 use crate::values::moment::{Moment, UtcMoment};
 use std::default::Default;
 use std::marker::Brand;
-use time_below::format_description::Component;
 use time_below::{OffsetDateTime, UtcDateTime};
 use time_plan::Shown;
 use time_provide::ComponentProvider;
 use time_read::{
-    Expected, Kinds, LiteralRef, Mismatch, NotRead, ReadStep, Readable, StepParts, readable_kinds,
-    reader_by_kinds,
+    Kinds, LiteralRef, NotRead, ReadStep, Readable, StepParts, readable_kinds, reader_by_kinds,
 };
 
 /// Why no moment is read.
@@ -189,30 +186,6 @@ fn tested(items: &[Item], texts: &[u8]) -> Result<(), Reason>
     }
 }
 
-/// The number of a component among the kinds of items.
-fn kind_number(component: Component) -> u8
-    ensures { IsKindOf component result }
-{
-    item_of(component).kind as u8
-}
-
-/// Where a text is not read, as C sees it.
-fn place_by_items(fault: NotRead) -> ReadError
-    ensures { IsPlaceBy fault result }
-{
-    let place = place_of(fault);
-    let (expected, first) = match fault.expected {
-        Expected::Plan(Mismatch::Component(component)) => (24, kind_number(component)),
-        Expected::Plan(Mismatch::NoValue(component)) => (25, kind_number(component)),
-        _ => return place,
-    };
-    ReadError {
-        expected,
-        first,
-        ..place
-    }
-}
-
 /// Keeps the moment, or sets the place of a text that is not read.
 fn leave<M: Copy>(read: Result<M, Unread>, moment: &mut M, error: &mut ReadError) -> isize
     ensures { LeavesRead read result moment.old moment.new error.old error.new }
@@ -224,7 +197,7 @@ fn leave<M: Copy>(read: Result<M, Unread>, moment: &mut M, error: &mut ReadError
         }
         Err(Unread::Never(reason)) => answer_number(Err(reason)),
         Err(Unread::At(fault)) => {
-            *error = place_by_items(fault);
+            *error = place_of(fault);
             answer_number(Err(Reason::NotRead))
         }
     }

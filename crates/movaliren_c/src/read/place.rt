@@ -1,8 +1,9 @@
 //! Where a text is none of its format, as C sees it.
 ghost use Rattle.std.specs.Prelude.{◌≡◌};
-ghost use Rattle.movaliren_c.specs.Place.{lenient_flag, numbers_of, numbers_of_mail, place_of};
+ghost use Rattle.movaliren_c.specs.Place.{lenient_flag, number_of_component, numbers_of};
+ghost use Rattle.movaliren_c.specs.Place.{numbers_of_mail, place_of};
 
-use time_read::{Expected, MailPart, NotRead, Profile};
+use time_read::{ComponentName, Expected, MailPart, Mismatch, NotRead, Profile};
 
 /// Where a text is none of its format, and what could have come there.
 #[repr(C)]
@@ -57,6 +58,13 @@ fn lenient_flag(profile: Profile) -> u8
     }
 }
 
+/// The number of a component's name.
+fn number_of_component(name: ComponentName) -> u8
+    ensures { result ≡ number_of_component name }
+{
+    name as u8
+}
+
 fn numbers_of(expected: Expected) -> Coming
     ensures { result ≡ numbers_of expected }
 {
@@ -69,7 +77,9 @@ fn numbers_of(expected: Expected) -> Coming
         Expected::DigitOrOffset(profile) => (6, 0, 0, lenient_flag(profile)),
         Expected::End => (7, 0, 0, 0),
         Expected::Sign => (8, 0, 0, 0),
-        Expected::Plan(_) => (26, 0, 0, 0),
+        Expected::Plan(Mismatch::Component(name)) => (24, number_of_component(name), 0, 0),
+        Expected::Plan(Mismatch::NoValue(name)) => (25, number_of_component(name), 0, 0),
+        Expected::Plan(Mismatch::Otherwise) => (26, 0, 0, 0),
         Expected::Mail(part) => return numbers_of_mail(part),
     };
     Coming {

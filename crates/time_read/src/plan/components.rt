@@ -1,6 +1,7 @@
 //! The components of a text, one by one.
 //!
 //! Its attribute makes a read one function with what is met often, as those of `steps` do.
+use crate::component_name::ComponentName;
 use crate::digit_runs::{four, two};
 use crate::fault::{Expected, Mismatch, Unexpected};
 use crate::plan::found::{Found, number_of};
@@ -23,7 +24,7 @@ pub(crate) fn read_usual(
     match component {
         Component::Day(m) => {
             fields.day = two_digits(text, m.padding, u8::MAX)?;
-            fields.set_pick(component, text.len());
+            fields.set_pick(ComponentName::Day, text.len());
             Some(2)
         }
         Component::MonthShort(_) => month_short(text, &mut fields.month),
@@ -97,13 +98,13 @@ pub(crate) fn behind_component<'a>(
 ) -> Result<&'a [u8], Unexpected> {
     let current = component.current();
     let Some(count) = read_component(current, behind, text, fields) else {
-        return Err(mismatch(text, Mismatch::Component(component)));
+        return Err(mismatch(text, Mismatch::Component(ComponentName::of(current))));
     };
     if !is_in_range(current, fields) {
-        return Err(mismatch(text, Mismatch::NoValue(component)));
+        return Err(mismatch(text, Mismatch::NoValue(ComponentName::of(current))));
     }
     if picks(current) {
-        fields.set_pick(component, text.len());
+        fields.set_pick(ComponentName::of(current), text.len());
     }
     Ok(text.get(count..).unwrap_or(&[]))
 }

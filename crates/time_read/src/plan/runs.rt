@@ -1,11 +1,10 @@
 //! Dates and times of day that are one step.
+use crate::component_name::ComponentName;
 use crate::digit_runs::{four, two};
 use crate::digits::byte;
 use crate::fault::Unexpected;
 use crate::plan::components::behind_component;
 use crate::values::text_fields::TextFields;
-use time_below::format_description::modifier::Padding;
-use time_below::format_description::{Component, modifier};
 use time_plan::Run;
 
 /// How many bytes an hour, a minute and a second have, with a byte between each two.
@@ -16,11 +15,6 @@ const DATE: usize = 10;
 
 /// How many bytes of a date its day has.
 const DAY: usize = 2;
-
-/// The day of a date.
-const DAY_COMPONENT: Component = Component::Day(modifier::Day {
-    padding: Padding::Zero,
-});
 
 /// Reads an hour, a minute and a second, and returns how many bytes they have.
 ///
@@ -54,7 +48,7 @@ pub(crate) fn read_date(text: &[u8], fields: &mut TextFields) -> Option<usize> {
     fields.year = four(*a, *b, *c, *d);
     fields.month = two(*e, *f);
     fields.day = two(*g, *h);
-    fields.set_pick(DAY_COMPONENT, text.len() - (DATE - DAY));
+    fields.set_pick(ComponentName::Day, text.len() - (DATE - DAY));
     Some(DATE)
 }
 

@@ -1,7 +1,7 @@
 //! The numbers of a text.
+use crate::component_name::ComponentName;
 use crate::fault::{Expected, Mismatch, Unexpected};
 use std::default::Default;
-use time_below::format_description::Component;
 
 /// What was read of a text, and of a base value what no text shows. Anything else is zero.
 #[derive(Clone, Copy, Default)]
@@ -42,11 +42,11 @@ pub struct TextFields {
 impl TextFields {
     /// Keeps where a number begins that picks a date or a moment: the day of a month before others,
     /// and else the first one.
-    pub(crate) fn set_pick(&mut self, component: Component, left: usize) {
-        if self.stop.is_none() || matches!(component, Component::Day(_)) {
+    pub(crate) fn set_pick(&mut self, name: ComponentName, left: usize) {
+        if self.stop.is_none() || matches!(name, ComponentName::Day) {
             self.stop = Some(Unexpected {
                 left,
-                expected: Expected::Plan(Mismatch::NoValue(component)),
+                expected: Expected::Plan(Mismatch::NoValue(name)),
             });
         }
     }
