@@ -59,6 +59,12 @@ impl ReadStep for Item {
         };
         StepParts { shown, literal }
     }
+
+    #[inline(always)]
+    fn shown<'a>(&'a self, texts: &[u8], place: &'a mut Shown) -> &'a Shown {
+        *place = self.parts(texts).shown;
+        place
+    }
 }
 
 /// A moment that is read by a description.

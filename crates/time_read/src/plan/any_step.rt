@@ -38,6 +38,10 @@ pub trait ReadStep {
     fn parts<'a>(&'a self, texts: &'a [u8]) -> StepParts<'a>
         ensures tree { (f : Facts)
             → tree_outcome (tree_of texts.now self.now) f ≡ tree_outcome (parts_tree result) f };
+
+    /// What the step shows, where that lies, or else in this place: a copy costs as much as the
+    /// comparison with a literal.
+    fn shown<'a>(&'a self, texts: &[u8], place: &'a mut Shown) -> &'a Shown;
 }
 
 impl ReadStep for Step {
@@ -50,6 +54,11 @@ impl ReadStep for Step {
             literal: literal_of(&self.literal),
         }
     }
+
+    #[inline(always)]
+    fn shown<'a>(&'a self, _texts: &[u8], _place: &'a mut Shown) -> &'a Shown {
+        &self.shown
+    }
 }
 
 impl ReadStep for StepParts<'_> {
@@ -57,6 +66,10 @@ impl ReadStep for StepParts<'_> {
 
     fn parts<'a>(&'a self, _texts: &'a [u8]) -> StepParts<'a> {
         *self
+    }
+
+    fn shown<'a>(&'a self, _texts: &[u8], _place: &'a mut Shown) -> &'a Shown {
+        &self.shown
     }
 }
 

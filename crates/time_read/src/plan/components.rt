@@ -11,21 +11,22 @@ use crate::values::text_fields::TextFields;
 use time_below::format_description::Component;
 use time_below::format_description::modifier::Padding;
 
-/// Reads a component that is met often, in its usual form, and returns how many bytes it has. Of
-/// any other component, form or text it reads nothing, and returns `None`.
+/// Reads a component that is met often, in its usual form, and returns what follows it. Of any other
+/// component, form or text it reads nothing, and returns `None`.
 ///
 /// Whether bytes are digits is seen when the text of the value is compared.
 #[inline(always)]
-pub(crate) fn read_usual(
-    component: Component,
-    text: &[u8],
+pub(crate) fn read_usual<'a>(
+    component: &Component,
+    text: &'a [u8],
     fields: &mut TextFields,
-) -> Option<usize> {
+) -> Option<&'a [u8]> {
     match component {
         Component::Day(m) => {
-            fields.day = two_digits(text, m.padding, u8::MAX)?;
+            let (day, rest) = two_digits(text, m.padding, u8::MAX)?;
+            fields.day = day;
             fields.set_pick(ComponentName::Day, text.len());
-            Some(2)
+            Some(rest)
         }
         Component::MonthShort(_) => month_short(text, &mut fields.month),
         Component::WeekdayShort(_) => weekday_short(text, &mut fields.weekday),
@@ -34,22 +35,23 @@ pub(crate) fn read_usual(
         }
         Component::OffsetHour(m) => signed_hour(text, m.padding, fields),
         Component::OffsetMinute(m) => {
-            fields.offset_minute = two_digits(text, m.padding, 59)?;
-            Some(2)
+            let (minute, rest) = two_digits(text, m.padding, 59)?;
+            fields.offset_minute = minute;
+            Some(rest)
         }
         _ => None,
     }
 }
 
-/// A number of two digits, which is at most the greatest.
-fn two_digits(text: &[u8], padding: Padding, greatest: u8) -> Option<u8> {
+/// A number of two digits, which is at most the greatest, and what follows it.
+fn two_digits(text: &[u8], padding: Padding, greatest: u8) -> Option<(u8, &[u8])> {
     match (padding, text) {
-        (Padding::Zero, [tens, units, ..]) => {
+        (Padding::Zero, [tens, units, rest @ ..]) => {
             let number = two(*tens, *units);
             if greatest < number {
                 None
             } else {
-                Some(number)
+                Some((number, rest))
             }
         }
         _ => None,
@@ -57,23 +59,27 @@ fn two_digits(text: &[u8], padding: Padding, greatest: u8) -> Option<u8> {
 }
 
 /// Reads a year of four digits.
-fn four_digits(text: &[u8], padding: Padding, year: &mut i32) -> Option<usize> {
+fn four_digits<'a>(text: &'a [u8], padding: Padding, year: &mut i32) -> Option<&'a [u8]> {
     match (padding, text) {
-        (Padding::Zero, [a, b, c, d, ..]) if a.is_ascii_digit() => {
+        (Padding::Zero, [a, b, c, d, rest @ ..]) if a.is_ascii_digit() => {
             *year = four(*a, *b, *c, *d);
-            Some(4)
+            Some(rest)
         }
         _ => None,
     }
 }
 
 /// Reads the hour of an offset by its sign and two digits.
-fn signed_hour(text: &[u8], padding: Padding, fields: &mut TextFields) -> Option<usize> {
-    match text {
-        [b'+' | b'-', digits @ ..] => {
-            fields.offset_hour = two_digits(digits, padding, 25)?;
-            fields.offset_is_negative = text[0] == b'-';
-            Some(3)
+fn signed_hour<'a>(text: &'a [u8], padding: Padding, fields: &mut TextFields) -> Option<&'a [u8]> {
+    match (padding, text) {
+        (Padding::Zero, [sign, tens, units, rest @ ..]) if *sign == b'+' || *sign == b'-' => {
+            let hour = two(*tens, *units);
+            if 25 < hour {
+                return None;
+            }
+            fields.offset_hour = hour;
+            fields.offset_is_negative = *sign == b'-';
+            Some(rest)
         }
         _ => None,
     }
@@ -97,7 +103,7 @@ pub(crate) fn behind_component<'a>(
     fields: &mut TextFields,
 ) -> Result<&'a [u8], Unexpected> {
     let current = component.current();
-    let Some(count) = read_component(current, behind, text, fields) else {
+    let Some(rest) = read_component(current, behind, text, fields) else {
         return Err(mismatch(text, Mismatch::Component(ComponentName::of(current))));
     };
     if !is_in_range(current, fields) {
@@ -106,7 +112,7 @@ pub(crate) fn behind_component<'a>(
     if picks(current) {
         fields.set_pick(ComponentName::of(current), text.len());
     }
-    Ok(text.get(count..).unwrap_or(&[]))
+    Ok(rest)
 }
 
 /// Whether a number that was read is in its own range.
@@ -139,13 +145,13 @@ fn picks(component: Component) -> bool {
     )
 }
 
-/// Reads a component that is not deprecated, and returns how many bytes it has.
-fn read_component(
+/// Reads a component that is not deprecated, and returns what follows it.
+fn read_component<'a>(
     component: Component,
     behind: usize,
-    text: &[u8],
+    text: &'a [u8],
     fields: &mut TextFields,
-) -> Option<usize> {
+) -> Option<&'a [u8]> {
     match component {
         Component::MonthShort(_) => month_short(text, &mut fields.month),
         Component::MonthLong(_) => month_long(text, &mut fields.month),
@@ -155,7 +161,7 @@ fn read_component(
         _ => {
             let found = number_of(shape_of(component), text, behind)?;
             set_number(component, found, fields);
-            Some(found.count)
+            text.get(found.count..)
         }
     }
 }

@@ -1,5 +1,5 @@
 //! Names and literals at the front of a text.
-ghost use Rattle.std.specs.Prelude.{◌≡◌, ◌++◌, IfOk, IfSome};
+ghost use Rattle.std.specs.Prelude.{◌≡◌, ◌++◌, IfOk, IfSome, IsTrue};
 ghost use Rattle.time_read.specs.Parts.{ref_bytes};
 
 use crate::digits::after;
@@ -15,7 +15,20 @@ pub(crate) fn after_all<'a>(text: &'a [u8], bytes: &[u8]) -> Option<&'a [u8]>
         return None;
     }
     let (front, rest) = text.split_at(bytes.len());
-    if front == bytes { Some(rest) } else { None }
+    if are_same(front, bytes) {
+        Some(rest)
+    } else {
+        None
+    }
+}
+
+/// Whether bytes are the same. It is a call: of the few literals with more than a byte the steps
+/// would else have one of their own.
+#[inline(never)]
+fn are_same(bytes: &[u8], others: &[u8]) -> bool
+    ensures { IsTrue result → bytes.now ≡ others.now }
+{
+    bytes == others
 }
 
 /// What follows these bytes, or the first one at which the text is another one.
@@ -61,18 +74,18 @@ pub(crate) fn behind_literal<'a>(
 /// The fault of a text that does not go on by a literal.
 #[cold]
 #[inline(never)]
-fn literal_fault(text: &[u8], literal: LiteralRef<'_>) -> Unexpected {
+pub(crate) fn literal_fault(text: &[u8], literal: LiteralRef<'_>) -> Unexpected {
     match literal {
         LiteralRef::Byte(byte) => fault_between(&[byte], text),
         LiteralRef::Bytes(bytes) => fault_between(bytes, text),
     }
 }
 
-/// Reads the number of a month by the first three letters of its name, and returns how many there
-/// are.
+/// Reads the number of a month by the first three letters of its name, and returns what follows
+/// them.
 #[inline(always)]
-pub(crate) fn month_short(text: &[u8], month: &mut u8) -> Option<usize> {
-    let [first, second, third, ..] = text else {
+pub(crate) fn month_short<'a>(text: &'a [u8], month: &mut u8) -> Option<&'a [u8]> {
+    let [first, second, third, rest @ ..] = text else {
         return None;
     };
     *month = match (*first, *second, *third) {
@@ -90,12 +103,12 @@ pub(crate) fn month_short(text: &[u8], month: &mut u8) -> Option<usize> {
         (b'D', b'e', b'c') => 12,
         _ => return None,
     };
-    Some(3)
+    Some(rest)
 }
 
-/// Reads the number of a month by its name, and returns how many letters that has.
-pub(crate) fn month_long(text: &[u8], month: &mut u8) -> Option<usize> {
-    let count = month_short(text, month)?;
+/// Reads the number of a month by its name, and returns what follows it.
+pub(crate) fn month_long<'a>(text: &'a [u8], month: &mut u8) -> Option<&'a [u8]> {
+    let rest = month_short(text, month)?;
     let ending: &[u8] = match *month {
         1 => b"uary",
         2 => b"ruary",
@@ -109,20 +122,14 @@ pub(crate) fn month_long(text: &[u8], month: &mut u8) -> Option<usize> {
         11 | 12 => b"ember",
         _ => b"",
     };
-    behind_ending(text, count, ending)
+    after_all(rest, ending)
 }
 
-/// How many bytes a name has of which so many were read, if it ends so.
-fn behind_ending(text: &[u8], count: usize, ending: &[u8]) -> Option<usize> {
-    after_all(text.get(count..)?, ending)?;
-    Some(count.saturating_add(ending.len()))
-}
-
-/// Reads the days from Monday by the first three letters of a weekday's name, and returns how many
-/// there are.
+/// Reads the days from Monday by the first three letters of a weekday's name, and returns what
+/// follows them.
 #[inline(always)]
-pub(crate) fn weekday_short(text: &[u8], weekday: &mut u8) -> Option<usize> {
-    let [first, second, third, ..] = text else {
+pub(crate) fn weekday_short<'a>(text: &'a [u8], weekday: &mut u8) -> Option<&'a [u8]> {
+    let [first, second, third, rest @ ..] = text else {
         return None;
     };
     *weekday = match (*first, *second, *third) {
@@ -135,12 +142,12 @@ pub(crate) fn weekday_short(text: &[u8], weekday: &mut u8) -> Option<usize> {
         (b'S', b'u', b'n') => 6,
         _ => return None,
     };
-    Some(3)
+    Some(rest)
 }
 
-/// Reads the days from Monday by a weekday's name, and returns how many letters that has.
-pub(crate) fn weekday_long(text: &[u8], weekday: &mut u8) -> Option<usize> {
-    let count = weekday_short(text, weekday)?;
+/// Reads the days from Monday by a weekday's name, and returns what follows it.
+pub(crate) fn weekday_long<'a>(text: &'a [u8], weekday: &mut u8) -> Option<&'a [u8]> {
+    let rest = weekday_short(text, weekday)?;
     let ending: &[u8] = match *weekday {
         1 => b"sday",
         2 => b"nesday",
@@ -148,15 +155,20 @@ pub(crate) fn weekday_long(text: &[u8], weekday: &mut u8) -> Option<usize> {
         5 => b"urday",
         _ => b"day",
     };
-    behind_ending(text, count, ending)
+    after_all(rest, ending)
 }
 
-/// Reads whether a time is in the second half of the day, and returns how many letters tell it.
-pub(crate) fn half_day(text: &[u8], is_uppercase: bool, is_pm: &mut bool) -> Option<usize> {
+/// Reads whether a time is in the second half of the day, and returns what follows the letters that
+/// tell it.
+pub(crate) fn half_day<'a>(
+    text: &'a [u8],
+    is_uppercase: bool,
+    is_pm: &mut bool,
+) -> Option<&'a [u8]> {
     *is_pm = match (text, is_uppercase) {
         ([b'A', b'M', ..], true) | ([b'a', b'm', ..], false) => false,
         ([b'P', b'M', ..], true) | ([b'p', b'm', ..], false) => true,
         _ => return None,
     };
-    Some(2)
+    text.get(2..)
 }

@@ -7,22 +7,16 @@ use crate::plan::components::behind_component;
 use crate::values::text_fields::TextFields;
 use time_plan::Run;
 
-/// How many bytes an hour, a minute and a second have, with a byte between each two.
-const TIME: usize = 8;
+/// How many bytes a year of four digits and a month have, with a byte behind each.
+const YEAR_AND_MONTH: usize = 8;
 
-/// How many bytes a year of four digits, a month and a day have, with a byte between each two.
-const DATE: usize = 10;
-
-/// How many bytes of a date its day has.
-const DAY: usize = 2;
-
-/// Reads an hour, a minute and a second, and returns how many bytes they have.
+/// Reads an hour, a minute and a second, and returns what follows them.
 ///
 /// Whether these are digits, and those between them the right ones, is seen when the text of the
 /// value is compared.
 #[inline(always)]
-pub(crate) fn read_time(text: &[u8], fields: &mut TextFields) -> Option<usize> {
-    let [a, b, _, c, d, _, e, f, ..] = text else {
+pub(crate) fn read_time<'a>(text: &'a [u8], fields: &mut TextFields) -> Option<&'a [u8]> {
+    let [a, b, _, c, d, _, e, f, rest @ ..] = text else {
         return None;
     };
     let (hour, minute, second) = (two(*a, *b), two(*c, *d), two(*e, *f));
@@ -32,14 +26,14 @@ pub(crate) fn read_time(text: &[u8], fields: &mut TextFields) -> Option<usize> {
     fields.hour_24 = hour;
     fields.minute = minute;
     fields.second = second;
-    Some(TIME)
+    Some(rest)
 }
 
-/// Reads a year, a month and a day, and returns how many bytes they have. They are compared later,
-/// as a time of day.
+/// Reads a year, a month and a day, and returns what follows them. They are compared later, as a time
+/// of day.
 #[inline(always)]
-pub(crate) fn read_date(text: &[u8], fields: &mut TextFields) -> Option<usize> {
-    let [a, b, c, d, _, e, f, _, g, h, ..] = text else {
+pub(crate) fn read_date<'a>(text: &'a [u8], fields: &mut TextFields) -> Option<&'a [u8]> {
+    let [a, b, c, d, _, e, f, _, g, h, rest @ ..] = text else {
         return None;
     };
     if !a.is_ascii_digit() || !is_month(two(*e, *f)) {
@@ -48,8 +42,8 @@ pub(crate) fn read_date(text: &[u8], fields: &mut TextFields) -> Option<usize> {
     fields.year = four(*a, *b, *c, *d);
     fields.month = two(*e, *f);
     fields.day = two(*g, *h);
-    fields.set_pick(ComponentName::Day, text.len() - (DATE - DAY));
-    Some(DATE)
+    fields.set_pick(ComponentName::Day, text.len() - YEAR_AND_MONTH);
+    Some(rest)
 }
 
 /// Whether this is the number of a month.

@@ -2,7 +2,7 @@
 use crate::plan::any_step::ReadStep;
 use crate::plan::behind::StepsFrom;
 use crate::plan::components::{behind_component, read_usual};
-use crate::plan::names::behind_literal;
+use crate::plan::names::{after_literal, literal_fault};
 use crate::plan::runs::{behind_run, read_date, read_time};
 use crate::values::text_fields::TextFields;
 use time_plan::{Run, Shown};
@@ -37,49 +37,56 @@ fn read_step<'a, T: ReadStep>(
     text: &'a [u8],
     fields: &mut TextFields,
 ) -> Option<&'a [u8]> {
-    let shown = steps.step.parts(steps.texts).shown;
-    let rest = read_shown(&shown, steps, text, fields)?;
+    let mut place = Shown::Nothing;
+    let shown = steps.step.shown(steps.texts, &mut place);
+    let rest = match read_shown(shown, text, fields) {
+        Some(rest) => rest,
+        None => {
+            let count = read_otherwise(steps.step, steps.others, steps.texts, text, fields)?;
+            text.get(count..)?
+        }
+    };
     let literal = steps.step.parts(steps.texts).literal;
-    match behind_literal(rest, literal) {
-        Ok(rest) => Some(rest),
-        Err(fault) => {
-            fields.stop = Some(fault);
+    match after_literal(rest, literal) {
+        Some(rest) => Some(rest),
+        None => {
+            stop_at_literal(steps.step, steps.texts, rest, fields);
             None
         }
     }
 }
 
-/// Reads what a step shows into the fields, and returns what follows it.
+/// Keeps the place of a text that does not go on by the literal of a step. It takes the step and not
+/// its literal: else that would lie in memory for this call.
+#[cold]
+#[inline(never)]
+fn stop_at_literal<T: ReadStep>(step: &T, texts: &[u8], text: &[u8], fields: &mut TextFields) {
+    fields.stop = Some(literal_fault(text, step.parts(texts).literal));
+}
+
+/// Reads what a step shows into the fields, if that is met often and in its usual form, and returns
+/// what follows it.
 #[inline(always)]
-fn read_shown<'a, T: ReadStep>(
-    shown: &Shown,
-    steps: StepsFrom<'_, T>,
-    text: &'a [u8],
-    fields: &mut TextFields,
-) -> Option<&'a [u8]> {
-    let count = match shown {
-        Shown::Component(component) => read_usual(*component, text, fields),
+fn read_shown<'a>(shown: &Shown, text: &'a [u8], fields: &mut TextFields) -> Option<&'a [u8]> {
+    match shown {
+        Shown::Component(component) => read_usual(component, text, fields),
         Shown::Run(Run::Time(_)) => read_time(text, fields),
         Shown::Run(Run::Date(_)) => read_date(text, fields),
-        Shown::Nothing => Some(0),
-    };
-    match count {
-        Some(count) => text.get(count..),
-        None => read_otherwise(steps.step, steps.others, steps.texts, text, fields),
+        Shown::Nothing => Some(text),
     }
 }
 
-/// Reads what a step shows, in any form, and returns what follows it. Of a text that is none of it
-/// the fields have the place. It takes the step and not what it shows, and what is behind the step
-/// by its parts: else these would lie in memory for this call.
+/// Reads what a step shows, in any form, and returns how many bytes it has. Of a text that is none of
+/// it the fields have the place. It takes the step and not what it shows, and what is behind the step
+/// by its parts, and returns no slice: else these would lie in memory for this call.
 #[inline(never)]
-fn read_otherwise<'a, T: ReadStep>(
+fn read_otherwise<T: ReadStep>(
     step: &T,
     others: &[T],
     texts: &[u8],
-    text: &'a [u8],
+    text: &[u8],
     fields: &mut TextFields,
-) -> Option<&'a [u8]> {
+) -> Option<usize> {
     let here = StepsFrom {
         step,
         others,
@@ -92,7 +99,7 @@ fn read_otherwise<'a, T: ReadStep>(
         Shown::Nothing => Ok(text),
     };
     match read {
-        Ok(rest) => Some(rest),
+        Ok(rest) => Some(text.len().saturating_sub(rest.len())),
         Err(fault) => {
             fields.stop = Some(fault);
             None
