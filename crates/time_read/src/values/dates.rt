@@ -101,10 +101,12 @@ fn calendar_date(year: i32, number: u8, day: u8) -> Option<Date> {
     if number < 1 || 12 < number {
         return None;
     }
-    match Date::from_calendar_date(year, Month::from_number(number), day) {
-        Ok(date) => Some(date),
-        Err(_) => None,
+    let month = Month::from_number(number);
+    // Any month has 28 days.
+    if year < -999_999 || 999_999 < year || day < 1 || (28 < day && month.length(year) < day) {
+        return None;
     }
+    Some(Date::from_valid_calendar_date(year, month, day))
 }
 
 /// The date of numbers.
