@@ -1,9 +1,9 @@
 -- Lines that become something, one after another.
-use Rattle.std.proofs.Common.{ℕ, ◌≡◌, ◌+◌, ◌-◌, ◌++◌, List, [], ◌∷◌, length, take, drop, map, refl, ap, sym, subst, ◌∙◌, append_assoc, append-nil, length-append, arith}
+use Rattle.std.proofs.Common.{ℕ, ◌≡◌, ◌<◌, ◌+◌, ◌-◌, ◌++◌, List, [], ◌∷◌, length, take, drop, map, refl, ap, sym, subst, ◌∙◌, append_assoc, append-nil, length-append, arith}
 use Rattle.std.proofs.Math.Seq.{drop-append_seam}
 use Rattle.line_streams.specs.Lines.{line_feed, whole_lines_of, unended_of, last_line_of, with_line_feed, EndsAt, IsOneLine}
-use Rattle.line_streams.specs.Filter.{ended_lines_of, Adds, Become, Stays}
-use Rattle.line_streams.proofs.LinesLemmas.{IsOneLine-append, unended_of-one, whole_lines_of-one, slice-end, whole_lines_of-append, unended_of-append, whole_lines_of-fed, unended_of-fed, whole_lines_of-ended, unended_of-ended, whole_lines_of-more, unended_of-more}
+use Rattle.line_streams.specs.Filter.{ended_lines_of, within, Adds, Become, Stays}
+use Rattle.line_streams.proofs.LinesLemmas.{IsOneLine-append, unended_of-one, whole_lines_of-one, slice-end, whole_lines_of-append, unended_of-append, whole_lines_of-fed, unended_of-fed, whole_lines_of-ended, unended_of-ended, unended_of-more}
 
 -- what the lines of two lists become
 pub Become-append : (R : List ℕ → List ℕ → Type 0) (xs ys : List (List ℕ)) (text more : List ℕ)
@@ -35,6 +35,16 @@ pub Stays-then : (R Q S : List ℕ → List ℕ → Type 0) → Stays R Q → St
 Stays-then R Q S p q line text =
     (λ r. (q line text).0 ((p line text).0 r), λ s. (p line text).1 ((q line text).1 s))
 
+-- the same of lines of at most so many bytes
+pub Stays-within : (longest : ℕ) (R Q : List ℕ → List ℕ → Type 0) → Stays R Q → Stays (within longest R) (within longest Q)
+Stays-within longest R Q stays line text =
+    (λ r. (λ short. (stays line text).0 (r.0 short), r.1), λ q. (λ short. (stays line text).1 (q.0 short), q.1))
+
+-- a longer one stays as it is
+pub long_stays : (longest : ℕ) (R : List ℕ → List ℕ → Type 0) (line : List ℕ) → longest < length line
+    → within longest R line line
+long_stays longest R line long = (λ short. absurd (omega arith), λ again. refl)
+
 map-append : (f : List ℕ → List ℕ) (xs ys : List (List ℕ)) → map f (xs ++ ys) ≡ map f xs ++ map f ys
 map-append f [] ys = refl
 map-append f (x ∷ xs) ys = ap (λ zs. f x ∷ zs) (map-append f xs ys)
@@ -46,13 +56,12 @@ ended_lines_of-append old block =
     ap (λ xs. map with_line_feed xs) (whole_lines_of-append old block)
     ∙ map-append with_line_feed (whole_lines_of old) (whole_lines_of (unended_of old ++ block))
 
--- one more line, after a text that ends with a line feed or is empty
-one_more_line : (fed line : List ℕ) → unended_of fed ≡ [] → IsOneLine line
-    → ended_lines_of (fed ++ with_line_feed line) ≡ ended_lines_of fed ++ with_line_feed line ∷ []
-one_more_line fed line none one =
-    ap (λ lines. map with_line_feed lines) (whole_lines_of-fed fed line one)
-    ∙ map-append with_line_feed (whole_lines_of fed) ((unended_of fed ++ line) ∷ [])
-    ∙ rw none refl
+-- bytes up to a line feed end the line that a text has begun
+pub ended_lines_of-fed : (bytes line : List ℕ) → IsOneLine line → ended_lines_of (bytes ++ with_line_feed line)
+    ≡ ended_lines_of bytes ++ with_line_feed (unended_of bytes ++ line) ∷ []
+ended_lines_of-fed bytes line one =
+    ap (λ lines. map with_line_feed lines) (whole_lines_of-fed bytes line one)
+    ∙ map-append with_line_feed (whole_lines_of bytes) ((unended_of bytes ++ line) ∷ [])
 
 -- the bytes of a line and its line feed, taken from what is left
 pub next-line : (bytes fed rest : List ℕ) (end : ℕ) → bytes ≡ fed ++ rest → EndsAt rest end →
@@ -102,18 +111,21 @@ pub none_gone : (R : List ℕ → List ℕ → Type 0) (first text o0 : List ℕ
 none_gone R first text o0 = ([], sym (append-nil o0), λ more h. h)
 
 -- the text of one line more, before what those behind it become
-line_and_more : (R Q : List ℕ → List ℕ → Type 0) (line : List ℕ) (lines : List (List ℕ)) (t more : List ℕ) → Stays R Q
-    → Q line t → Become R lines more → Become R (line ∷ lines) (t ++ more)
-line_and_more R Q line lines t more stays made h = (t, more, refl, (stays line t).1 made, h)
+line_and_more : (longest : ℕ) (R Q : List ℕ → List ℕ → Type 0) (line : List ℕ) (lines : List (List ℕ)) (t more : List ℕ)
+    → Stays R Q → within longest Q line t → Become (within longest R) lines more
+    → Become (within longest R) (line ∷ lines) (t ++ more)
+line_and_more longest R Q line lines t more stays made h =
+    (t, more, refl, (Stays-within longest R Q stays line t).1 made, h)
 
 -- one line was appended, and another is at the front of what is left
-pub line_has_gone : (R Q S : List ℕ → List ℕ → Type 0) (first text line fed rest : List ℕ) (end : ℕ) (o0 o1 o2 : List ℕ)
-    → text ≡ fed ++ rest → unended_of fed ≡ [] → Stays R Q → HasGone R first text line rest o0 o1 → EndsAt rest end
-    → Stays Q S → Adds (Q line) o1 o2
+pub line_has_gone : (longest : ℕ) (R Q S : List ℕ → List ℕ → Type 0) (first text line fed rest : List ℕ) (end : ℕ) (o0 o1 o2 : List ℕ)
+    → text ≡ fed ++ rest → unended_of fed ≡ [] → Stays R Q → HasGone (within longest R) first text line rest o0 o1
+    → EndsAt rest end → Stays Q S → Adds (within longest Q line) o1 o2
     → (more : List ℕ) × (text ≡ more ++ take (length rest - (end + 1)) (drop (end + 1) rest)) × (unended_of more ≡ [])
     × Stays R S
-    × HasGone R first text (take (end + 1) rest) (take (length rest - (end + 1)) (drop (end + 1) rest)) o0 o2
-line_has_gone R Q S first text line fed rest end o0 o1 o2 whole none stays gone ends on made =
+    × HasGone (within longest R) first text (take (end + 1) rest)
+    (take (length rest - (end + 1)) (drop (end + 1) rest)) o0 o2
+line_has_gone longest R Q S first text line fed rest end o0 o1 o2 whole none stays gone ends on made =
     let lines : ended_lines_of rest ≡ take (end + 1) rest ∷ ended_lines_of (take (length rest - (end + 1)) (drop (end + 1) rest)) =
     lines_of_front rest end ends in (
       fed ++ with_line_feed (take end rest),
@@ -123,24 +135,25 @@ line_has_gone R Q S first text line fed rest end o0 o1 o2 whole none stays gone 
       (
         gone.0 ++ made.0,
         made.1 ∙ ap (λ o. o ++ made.0) gone.1 ∙ append_assoc o0 gone.0 made.0,
-        λ more h. subst (λ t. Become R (first ∷ ended_lines_of text) t) (sym (append_assoc gone.0 made.0 more))
+        λ more h. subst (λ t. Become (within longest R) (first ∷ ended_lines_of text) t)
+            (sym (append_assoc gone.0 made.0 more))
             (gone.2 (made.0 ++ more)
-            (line_and_more R Q line (ended_lines_of rest) made.0 more stays made.2
-            (subst (λ ls. Become R ls more) (sym lines) h))),
+            (line_and_more longest R Q line (ended_lines_of rest) made.0 more stays made.2
+            (subst (λ ls. Become (within longest R) ls more) (sym lines) h))),
       ),
     )
 
 -- one line was appended, and no other ends
-pub all_has_gone : (R Q : List ℕ → List ℕ → Type 0) (first text line rest o0 o1 o2 : List ℕ) → Stays R Q
-    → HasGone R first text line rest o0 o1 → IsOneLine rest → Adds (Q line) o1 o2
-    → Adds (Become R (first ∷ ended_lines_of text)) o0 o2
-all_has_gone R Q first text line rest o0 o1 o2 stays gone one made =
+pub all_has_gone : (longest : ℕ) (R Q : List ℕ → List ℕ → Type 0) (first text line rest o0 o1 o2 : List ℕ) → Stays R Q
+    → HasGone (within longest R) first text line rest o0 o1 → IsOneLine rest → Adds (within longest Q line) o1 o2
+    → Adds (Become (within longest R) (first ∷ ended_lines_of text)) o0 o2
+all_has_gone longest R Q first text line rest o0 o1 o2 stays gone one made =
     let none : ended_lines_of rest ≡ [] = ap (λ lines. map with_line_feed lines) (whole_lines_of-one rest one) in (
       gone.0 ++ made.0,
       made.1 ∙ ap (λ o. o ++ made.0) gone.1 ∙ append_assoc o0 gone.0 made.0,
       gone.2 made.0
-          (subst (λ ls. Become R (line ∷ ls) made.0) (sym none)
-          (Become-one R line made.0 ((stays line made.0).1 made.2))),
+          (subst (λ ls. Become (within longest R) (line ∷ ls) made.0) (sym none)
+          (Become-one (within longest R) line made.0 ((Stays-within longest R Q stays line made.0).1 made.2))),
     )
 
 drop_front : (fed rest : List ℕ) → drop (length (fed ++ rest) - length rest) (fed ++ rest) ≡ rest

@@ -1,5 +1,5 @@
 -- What the lines of a text become, one after another.
-use Rattle.std.specs.Prelude.{ℕ, ◌≡◌, ◌↔◌, ◌++◌, List, [], ◌∷◌, map}
+use Rattle.std.specs.Prelude.{ℕ, ◌≡◌, ◌<◌, ◌≤◌, ◌↔◌, ◌++◌, List, [], ◌∷◌, length, map}
 use Rattle.line_streams.specs.Lines.{whole_lines_of, unended_of, last_line_of, with_line_feed}
 
 -- the lines that have ended, each with its line feed
@@ -15,6 +15,10 @@ abbrev pub Become : (List ℕ → List ℕ → Type 0) → List (List ℕ) → L
 Become R [] text = text ≡ []
 Become R (line ∷ lines) text =
     (first : List ℕ) × (others : List ℕ) × (text ≡ first ++ others) × R line first × Become R lines others
+
+-- a line of at most so many bytes, its line feed among them, becomes what it may, and a longer one stays as it is
+abbrev pub within : ℕ → (List ℕ → List ℕ → Type 0) → List ℕ → List ℕ → Type 0
+within longest R line text = (length line ≤ longest → R line text) × (longest < length line → text ≡ line)
 
 -- a line may become the same as before
 abbrev pub Stays : (List ℕ → List ℕ → Type 0) → (List ℕ → List ℕ → Type 0) → Type 0

@@ -63,9 +63,15 @@ pub trait Exchange {
     ghost has_ended: { Self → Type 0 };
 
     /// Reads some bytes of the source into the block: none at the end of the source, or where the
-    /// block is empty. No line that was read to its end may wait for what it becomes.
-    fn read<J: LineJob>(&mut self, job: &J, block: &mut [u8]) -> Result<usize, FilterError>
-        requires prompt { IsPrompt (J.becomes job.now) (got self.old) (put self.old) }
+    /// block is empty. No line that was read to its end may wait for what it becomes, and of no
+    /// line more than so many bytes.
+    fn read<J: LineJob>(
+        &mut self,
+        job: &J,
+        longest: usize,
+        block: &mut [u8],
+    ) -> Result<usize, FilterError>
+        requires prompt { IsPrompt longest (J.becomes job.now) (got self.old) (put self.old) }
         ensures bound { IfOk result (λ n. n ≤ length block.new) }
         ensures got { IfOk result (λ n. Grows (got self.old) (got self.new) (take n block.new)) }
         ensures ended { IfOk result (λ n. n ≡ 0 → 0 < length block.new → has_ended self.new) }

@@ -2,7 +2,7 @@
 ghost use Rattle.std.specs.Prelude.{◌≡◌, ◌==◌, ◌≤◌, ℕ, List, ◌∷◌, length, position, OnOk};
 ghost use Rattle.std.specs.Prelude.{IfOk, drop};
 ghost use Rattle.line_streams.specs.Lines.{unended_of};
-ghost use Rattle.line_streams.specs.Filter.{ended_lines_of, Adds, Become, Stays};
+ghost use Rattle.line_streams.specs.Filter.{ended_lines_of, within, Adds, Become, Stays};
 
 use crate::exchange::FilterError;
 use memchr::memchr;
@@ -28,6 +28,12 @@ pub trait LineJob {
         ensures ready { OnOk result (is_ready self.new) }
         ensures appended { OnOk result
             (Adds (becomes self.old line.now) output.old.items output.new.items) };
+
+    /// Is called for each line that has more than so many bytes, its line feed among them, and so
+    /// passes as it is.
+    fn pass_long(&mut self, longest: usize)
+        ensures stays { Stays (becomes self.old) (becomes self.new) }
+        ensures ready { is_ready self.old → is_ready self.new };
 }
 
 /// Returns the first position of a line feed, by a search that looks at many bytes at a time.
@@ -37,10 +43,31 @@ pub fn place_of_end(bytes: &[u8]) -> Option<usize>
     memchr(b'\n', bytes)
 }
 
+/// Appends what the line becomes, or the line if it has more than so many bytes.
+fn append_line<J: LineJob>(
+    job: &mut J,
+    longest: usize,
+    output: &mut Vec<u8>,
+    line: &[u8],
+) -> Result<(), AllocError>
+    requires ready { J.is_ready job.old }
+    ensures stays { Stays (J.becomes job.old) (J.becomes job.new) }
+    ensures ready { OnOk result (J.is_ready job.new) }
+    ensures appended { OnOk result
+        (Adds (within longest (J.becomes job.old) line.now) output.old.items output.new.items) }
+{
+    if line.len() <= longest {
+        return job.append(output, line);
+    }
+    job.pass_long(longest);
+    output.extend_from_slice(line)
+}
+
 /// Appends what a first line becomes, and what each line of the text that has its line feed
 /// becomes. Returns how many bytes of the text these lines have.
 pub(crate) fn append_lines<J: LineJob>(
     job: &mut J,
+    longest: usize,
     output: &mut Vec<u8>,
     first: &[u8],
     text: &[u8],
@@ -50,13 +77,13 @@ pub(crate) fn append_lines<J: LineJob>(
     ensures inside { IfOk result (λ count. count ≤ length text.now) }
     ensures rest { IfOk result (λ count. drop count text.now ≡ unended_of text.now) }
     ensures appended { OnOk result (Adds
-        (Become (J.becomes job.old) (first.now ∷ ended_lines_of text.now))
+        (Become (within longest (J.becomes job.old)) (first.now ∷ ended_lines_of text.now))
         output.old.items output.new.items) }
 {
     let mut line = first;
     let mut rest = text;
     loop {
-        job.append(output, line)?;
+        append_line(job, longest, output, line)?;
         let Some(end) = place_of_end(rest) else {
             return Ok(text.len() - rest.len());
         };

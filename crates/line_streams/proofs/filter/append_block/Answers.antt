@@ -1,4 +1,5 @@
 use Rattle.std.proofs.Common.{◌∙◌, ◌+◌}
+use Rattle.line_streams.specs.Filter.{within}
 use Rattle.line_streams.proofs.LinesLemmas.{slice-end}
 use Rattle.line_streams.proofs.FilterLemmas.{block_is_appended, block_waits}
 use Rattle.line_streams.proofs.filter.append_block.Goals as goal
@@ -11,7 +12,7 @@ returns-clause-waits g c =
 
 pub returns-clause-appended : goal.returns-clause-appended
 returns-clause-appended g c =
-    block_is_appended (g.J.LineJob.becomes c.args.job.now) c.args.pending.now.items c.args.block.now
+    block_is_appended (within c.args.longest (g.J.LineJob.becomes c.args.job.now)) c.args.pending.now.items c.args.block.now
     c.as_slice.result.now _ c.args.end _ _ c.requires.held c.requires.found
     (c.as_slice.ensures.value ∙ c.in_ok-extend_from_slice.ensures.items) (slice-end (c.args.end + 1) c.args.block.now)
     c.in_ok-whole.ensures.appended
