@@ -1,5 +1,5 @@
 //! What is done with each line.
-ghost use Rattle.std.specs.Prelude.{◌≡◌, ◌==◌, ◌≤◌, ℕ, List, ◌∷◌, length, position, OnOk};
+ghost use Rattle.std.specs.Prelude.{◌≡◌, ◌==◌, ◌≤◌, ℕ, List, ◌∷◌, ◌++◌, length, position, OnOk};
 ghost use Rattle.std.specs.Prelude.{IfOk, drop};
 ghost use Rattle.line_streams.specs.Lines.{unended_of};
 ghost use Rattle.line_streams.specs.Filter.{ended_lines_of, within, Adds, Become, Stays};
@@ -43,6 +43,22 @@ pub fn place_of_end(bytes: &[u8]) -> Option<usize>
     memchr(b'\n', bytes)
 }
 
+/// Appends a line that has more than so many bytes.
+#[cold]
+fn append_long<J: LineJob>(
+    job: &mut J,
+    longest: usize,
+    output: &mut Vec<u8>,
+    line: &[u8],
+) -> Result<(), AllocError>
+    ensures stays { Stays (J.becomes job.old) (J.becomes job.new) }
+    ensures ready { J.is_ready job.old → J.is_ready job.new }
+    ensures appended { OnOk result (output.new.items ≡ output.old.items ++ line.now) }
+{
+    job.pass_long(longest);
+    output.extend_from_slice(line)
+}
+
 /// Appends what the line becomes, or the line if it has more than so many bytes.
 fn append_line<J: LineJob>(
     job: &mut J,
@@ -56,11 +72,10 @@ fn append_line<J: LineJob>(
     ensures appended { OnOk result
         (Adds (within longest (J.becomes job.old) line.now) output.old.items output.new.items) }
 {
-    if line.len() <= longest {
-        return job.append(output, line);
+    if line.len() > longest {
+        return append_long(job, longest, output, line);
     }
-    job.pass_long(longest);
-    output.extend_from_slice(line)
+    job.append(output, line)
 }
 
 /// Appends what a first line becomes, and what each line of the text that has its line feed

@@ -53,6 +53,8 @@ pub struct Task<'a> {
     pub texts: Texts<'a>,
     /// Lines are JSON, and stay so.
     pub is_json: bool,
+    /// A line of more bytes passes as it is.
+    pub longest: usize,
     /// Nothing is said of lines that passed as they were.
     pub is_quiet: bool,
     /// The files that are read, where `-` is standard input. With none that is read.
@@ -74,6 +76,9 @@ pub struct Asked<'a> {
 /// The digits that a number has at least, where nothing else is asked for: in seconds, those of
 /// 2001 and later.
 const LEAST_DIGITS: usize = 10;
+
+/// How many bytes a line has at most, where nothing else is asked for: 64 MiB.
+const LONGEST: usize = 64 << 20;
 
 /// The description, where nothing else is asked for.
 const USUAL: &str = "rfc3339";
@@ -187,6 +192,14 @@ const DIGIT_COUNT: Takes = Takes {
     names: &["N"],
     is_signed: false,
     parser: ValueParser::Signed(1, 19),
+};
+
+/// How many bytes a line has at most.
+const BYTE_COUNT: Takes = Takes {
+    action: ArgAction::Set,
+    names: &["BYTES"],
+    is_signed: false,
+    parser: ValueParser::Unsigned(1, u64::MAX),
 };
 
 /// A year of four digits.
@@ -354,6 +367,14 @@ const NANOSECONDS: OptionRow = OptionRow {
     help: "Numbers are nanoseconds",
 };
 
+const LONGEST_LINE: OptionRow = OptionRow {
+    name: "longest",
+    letter: None,
+    groups: &[],
+    takes: BYTE_COUNT,
+    help: "A line of more bytes passes as it is, and is not kept in memory [default: 67108864]",
+};
+
 const QUIET: OptionRow = OptionRow {
     name: "quiet",
     letter: Some('q'),
@@ -403,7 +424,15 @@ const JOBS: &[JobRow] = &[
     JobRow {
         name: "now",
         about: "Puts the time at which it was read before each line",
-        options: &[&UTC, &OFFSET, &ZONE, &LOCAL, &NOW_DECIMALS],
+        options: &[
+            &UTC,
+            &OFFSET,
+            &ZONE,
+            &LOCAL,
+            &NOW_DECIMALS,
+            &LONGEST_LINE,
+            &QUIET,
+        ],
         takes_files: false,
         descriptions: NOW_DESCRIPTIONS,
     },
@@ -427,6 +456,7 @@ const JOBS: &[JobRow] = &[
             &MILLISECONDS,
             &MICROSECONDS,
             &NANOSECONDS,
+            &LONGEST_LINE,
             &QUIET,
         ],
         takes_files: true,
@@ -437,7 +467,17 @@ const JOBS: &[JobRow] = &[
         about: "Replaces the first text of each line that is a time, by default one of RFC 3339 \
             such as 2023-11-14T22:13:20Z or 2023-11-14 22:13:20+00:00",
         options: &[
-            &UTC, &OFFSET, &ZONE, &LOCAL, &DECIMALS, &FROM, &FROM_ZONE, &YEAR, &READ_JSON, &QUIET,
+            &UTC,
+            &OFFSET,
+            &ZONE,
+            &LOCAL,
+            &DECIMALS,
+            &FROM,
+            &FROM_ZONE,
+            &YEAR,
+            &READ_JSON,
+            &LONGEST_LINE,
+            &QUIET,
         ],
         takes_files: true,
         descriptions: READ_DESCRIPTIONS,
@@ -610,6 +650,7 @@ fn asked_of<'a>(
             after: words.get_str("after"),
             texts: texts_of(words),
             is_json: words.get_flag("json"),
+            longest: words.get_one::<usize>("longest").unwrap_or(LONGEST),
             is_quiet: words.get_flag("quiet"),
             files,
             has_no_description: description.is_none(),

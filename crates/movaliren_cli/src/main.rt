@@ -30,7 +30,6 @@ use say::{fail, refuse};
 use std::alloc::AllocError;
 use std::env;
 use std::process::ExitCode;
-use streams::Streams;
 use time_below::Timestamp;
 use time_fmt::Formattable;
 use time_fmt::parts::UNIX_TIMESTAMP;
@@ -42,17 +41,14 @@ use time_lines::{
 };
 
 /// Puts before each line what is shown of the moment at which it was read.
-fn run_now<S: Shows + Drop>(rt: &HostRuntime, shown: S) -> ExitCode {
+fn run_now<S: Shows + Drop>(rt: &HostRuntime, task: &Task, shown: S) -> ExitCode {
     let mut job = NowJob {
         clock: rt,
         shown,
         stamp: Vec::new(rt.alloc()),
+        passed: Passed::new(),
     };
-    let mut streams = Streams::new(rt);
-    match line_streams::run(rt.alloc(), &mut job, &mut streams) {
-        Ok(()) => ExitCode::SUCCESS,
-        Err(fault) => say::fail_of(rt, fault, &streams.fault),
-    }
+    sources::run(rt, task, &mut job)
 }
 
 /// Replaces the first number of each line that is Unix time, or each.
@@ -184,7 +180,7 @@ fn run<S: Shows + Drop>(rt: &HostRuntime, task: &Task, mut shown: S) -> ExitCode
         }
     }
     match task.job {
-        Job::Now => run_now(rt, shown),
+        Job::Now => run_now(rt, task, shown),
         Job::Unix(numbers) => run_unix(rt, task, numbers, shown),
         Job::Read => run_read(rt, task, shown),
     }

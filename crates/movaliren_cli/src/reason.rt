@@ -90,6 +90,9 @@ impl Display for Reason<'_> {
                 write!(f, "an offset follows its time: add {conversion}")
             }
             (Why::NoText, _) => f.write_str("the description has no text for its time"),
+            (Why::TooLong(longest), _) => {
+                write!(f, "it has more than {longest} bytes: see --longest")
+            }
         }
     }
 }

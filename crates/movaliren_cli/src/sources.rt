@@ -6,7 +6,8 @@ use crate::streams::{Source, Streams};
 use line_streams::{FilterError, LineJob};
 use std::io::{self, ErrorKind};
 use std::process::ExitCode;
-use time_lines::{Passed, ReadJob, Reads, Shows, UnixJob};
+use std::time::Clock;
+use time_lines::{NowJob, Passed, ReadJob, Reads, Shows, UnixJob};
 
 /// A job that counts lines that passed as they were.
 pub trait CountingJob: LineJob {
@@ -14,6 +15,16 @@ pub trait CountingJob: LineJob {
 
     /// The beginning of the first such line, or of what follows its time.
     fn example(&self) -> &[u8];
+}
+
+impl<C: Clock, S: Shows + Drop> CountingJob for NowJob<'_, C, S> {
+    fn passed(&mut self) -> &mut Passed {
+        &mut self.passed
+    }
+
+    fn example(&self) -> &[u8] {
+        &[]
+    }
 }
 
 impl<S: Shows + Drop> CountingJob for UnixJob<'_, S> {
@@ -48,12 +59,13 @@ struct Progress {
 /// Does the job for each line of an open source. Says whether all of it was read.
 fn run_source<J: CountingJob>(
     rt: &HostRuntime,
+    task: &Task,
     job: &mut J,
     streams: &mut Streams,
     name: &str,
 ) -> Result<bool, FilterError> {
     job.passed().lines = 0;
-    match line_streams::run(rt.alloc(), job, streams) {
+    match line_streams::run(rt.alloc(), job, task.longest, streams) {
         Ok(()) => Ok(true),
         Err(FilterError::Read) => {
             if let Some(fault) = &streams.fault {
@@ -81,6 +93,7 @@ fn say_unopened(rt: &HostRuntime, name: &str, may_be_name: bool, fault: &io::Err
 /// of it was read.
 fn run_file<J: CountingJob>(
     rt: &HostRuntime,
+    task: &Task,
     job: &mut J,
     streams: &mut Streams,
     name: &str,
@@ -89,7 +102,7 @@ fn run_file<J: CountingJob>(
     match Source::open(rt, name) {
         Ok(source) => {
             streams.go_on(source);
-            run_source(rt, job, streams, name)
+            run_source(rt, task, job, streams, name)
         }
         Err(fault) => {
             if fault.kind() == ErrorKind::OutOfMemory {
@@ -114,7 +127,7 @@ fn run_each<J: CountingJob>(
     for at in 0..names.len() {
         let had_first = job.passed().first.is_some();
         let may_be_name = at == 0 && task.has_no_description;
-        let is_read = run_file(rt, job, streams, names[at], may_be_name)?;
+        let is_read = run_file(rt, task, job, streams, names[at], may_be_name)?;
         if !is_read {
             progress.has_unread = true;
         }
@@ -129,7 +142,7 @@ fn run_each<J: CountingJob>(
 /// were.
 fn run_standard<J: CountingJob>(rt: &HostRuntime, task: &Task, job: &mut J) -> ExitCode {
     let mut streams = Streams::new(rt);
-    match run_source(rt, job, &mut streams, "-") {
+    match run_source(rt, task, job, &mut streams, "-") {
         Ok(true) => {
             if !task.is_quiet {
                 say_passed(rt, *job.passed(), job.example(), None);

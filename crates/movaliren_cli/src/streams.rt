@@ -104,7 +104,12 @@ impl Exchange for Streams {
 
     ghost has_ended = { λ _. Unit {0} };
 
-    fn read<J: LineJob>(&mut self, _job: &J, block: &mut [u8]) -> Result<usize, FilterError> {
+    fn read<J: LineJob>(
+        &mut self,
+        _job: &J,
+        _longest: usize,
+        block: &mut [u8],
+    ) -> Result<usize, FilterError> {
         match self.input.read(block) {
             Ok(count) => Ok(count),
             Err(error) => {

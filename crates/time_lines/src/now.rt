@@ -3,6 +3,7 @@ ghost use Rattle.std.specs.Prelude.{◌≡◌, OnOk};
 ghost use Rattle.time_lines.specs.Now.{IsStamp, NowBecomes, spaced};
 ghost use Rattle.time_lines.specs.Shown.{SameShown};
 
+use crate::passed::Passed;
 use crate::shown::Shows;
 use line_streams::{FilterError, LineJob};
 use std::alloc::AllocError;
@@ -17,6 +18,7 @@ pub struct NowJob<'a, C: Clock, S: Shows + Drop> {
     pub shown: S,
     /// What stands before a line.
     pub stamp: Vec<u8>,
+    pub passed: Passed,
 }
 
 /// Appends a space, unless the text is empty or ends with one.
@@ -64,8 +66,13 @@ impl<C: Clock, S: Shows + Drop> LineJob for NowJob<'_, C, S> {
     }
 
     fn append(&mut self, output: &mut Vec<u8>, line: &[u8]) -> Result<(), AllocError> {
+        self.passed.begin_line();
         output.extend_from_slice(self.stamp.as_slice())?;
         output.extend_from_slice(line)?;
         Ok(())
+    }
+
+    fn pass_long(&mut self, longest: usize) {
+        self.passed.pass_long(longest);
     }
 }

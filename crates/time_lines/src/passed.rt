@@ -1,7 +1,7 @@
 //! The lines of a run that passed as they were.
 ghost use Rattle.std.specs.Prelude.{◌≡◌, ◌↔◌, None, true, IfNone, IfSome, if◌then◌else◌};
 ghost use Rattle.time_lines.specs.Passed.{begun, first_kept, up};
-ghost use Rattle.time_lines.specs.declared.passed.Why.TheVariants.{NoText};
+ghost use Rattle.time_lines.specs.declared.passed.Why.TheVariants.{NoText, TooLong};
 
 /// Why a line passed as it was.
 #[derive(Clone, Copy, Debug, PartialEq, Eq)]
@@ -28,6 +28,8 @@ pub enum Why {
     Offset,
     /// The description has no text for its moment.
     NoText,
+    /// It has more than so many bytes, its line feed among them.
+    TooLong(usize),
 }
 
 /// A line that passed as it was.
@@ -95,6 +97,17 @@ impl Passed {
         if let Some(why) = stays {
             self.pass(why);
         }
+    }
+
+    /// Counts a line that passed as it was, since it has more than so many bytes.
+    pub(crate) fn pass_long(&mut self, longest: usize)
+        ensures lines { self.new.lines ≡ up self.old.lines }
+        ensures count { self.new.count ≡ up self.old.count }
+        ensures first { self.new.first ≡ first_kept self.old.first
+            (record { line = up self.old.lines; why = TooLong longest }) }
+    {
+        self.begin_line();
+        self.pass(Why::TooLong(longest));
     }
 }
 

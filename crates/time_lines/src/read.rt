@@ -234,4 +234,8 @@ impl<S: Shows + Drop, R: Reads + Drop> LineJob for ReadJob<S, R> {
         note(&mut self.passed, &mut self.example, stays, behind)?;
         Ok(())
     }
+
+    fn pass_long(&mut self, longest: usize) {
+        self.passed.pass_long(longest);
+    }
 }

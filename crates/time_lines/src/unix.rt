@@ -458,4 +458,8 @@ impl<S: Shows + Drop> LineJob for UnixJob<'_, S> {
             append_usual(&mut self.shown, numbers, passed, output, line)
         }
     }
+
+    fn pass_long(&mut self, longest: usize) {
+        self.passed.pass_long(longest);
+    }
 }
