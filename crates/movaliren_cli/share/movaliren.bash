@@ -18,12 +18,12 @@ _movaliren() {
             mapfile -t COMPREPLY < <(compgen -W "rfc3339 clf syslog log4j rfc2822 iso8601" -- "$word")
             return
             ;;
-        --offset | --decimals | --year | --years | --digits | -d | --after | -a) return ;;
+        --offset | --decimals | --year | --years | --digits | -d | --after | -a | --longest) return ;;
     esac
-    options="--utc --offset --zone --local --decimals --help"
+    options="--utc --offset --zone --local --decimals --longest --quiet --help"
     case $job in
-        unix) options+=" --after --all --json --digits --years --seconds --milliseconds --microseconds --nanoseconds --quiet" ;;
-        read) options+=" --from --from-zone --year --json --quiet" ;;
+        unix) options+=" --after --all --json --digits --years --seconds --milliseconds --microseconds --nanoseconds" ;;
+        read) options+=" --from --from-zone --year --json" ;;
     esac
     if [[ $word == -* ]]; then
         mapfile -t COMPREPLY < <(compgen -W "$options" -- "$word")

@@ -35,4 +35,5 @@ complete -c movaliren -n "__fish_seen_subcommand_from unix" -l seconds -d 'Numbe
 complete -c movaliren -n "__fish_seen_subcommand_from unix" -l milliseconds -d 'Numbers are milliseconds'
 complete -c movaliren -n "__fish_seen_subcommand_from unix" -l microseconds -d 'Numbers are microseconds'
 complete -c movaliren -n "__fish_seen_subcommand_from unix" -l nanoseconds -d 'Numbers are nanoseconds'
-complete -c movaliren -n "__fish_seen_subcommand_from unix read" -s q -l quiet -d 'Do not print how many lines passed'
+complete -c movaliren -n "__fish_seen_subcommand_from $jobs" -l longest -x -d 'A line of more bytes passes as it is'
+complete -c movaliren -n "__fish_seen_subcommand_from $jobs" -s q -l quiet -d 'Do not print how many lines passed'
