@@ -123,7 +123,7 @@ const READ_DESCRIPTIONS: &str = descriptions_and_files!(
 
 Texts that --from reads:
   rfc3339        2023-11-14T22:13:20.123Z, of any number of decimals, also with a space for T
-                 or with +hhmm, and then of none, 3, 6 or 9 decimals; the default
+                 or with +hhmm or +hh, and then of none, 3, 6 or 9 decimals; the default
   clf            14/Nov/2023:22:13:20 +0000, of nginx and Apache
   syslog         Nov 14 22:13:20
   log4j          2023-11-14 22:13:20,123, also of Python's logging

@@ -21,12 +21,34 @@ struct NameRow {
 /// Decimals of a second behind a point, the longest first, or none.
 const AFTER_POINT: &[&str] = &[".%9N", ".%6N", ".%3N", ""];
 
+/// The same behind a point or a comma.
+const AFTER_POINT_OR_COMMA: &[&str] = &[".%9N", ".%6N", ".%3N", ",%9N", ",%6N", ",%3N", ""];
+
+/// Those behind a point in brackets, as has the offset in hours alone, which `strftime` does not have.
+const AFTER_POINT_IN_BRACKETS: &[&str] = &[
+    ".[subsecond digits:9]",
+    ".[subsecond digits:6]",
+    ".[subsecond digits:3]",
+    "",
+];
+
+const HOURS: &[&str] = &["[offset_hour sign:mandatory]"];
+
 const NAMES: &[NameRow] = &[
     NameRow {
         name: "rfc3339",
         texts: &["%Y-%m-%dT%H:%M:%S", "%Y-%m-%d %H:%M:%S"],
         decimals: AFTER_POINT,
         offsets: &["%:z", "%z", "Z"],
+    },
+    NameRow {
+        name: "rfc3339",
+        texts: &[
+            "[year]-[month]-[day]T[hour]:[minute]:[second]",
+            "[year]-[month]-[day] [hour]:[minute]:[second]",
+        ],
+        decimals: AFTER_POINT_IN_BRACKETS,
+        offsets: HOURS,
     },
     NameRow {
         name: "clf",
@@ -60,8 +82,28 @@ const NAMES: &[NameRow] = &[
     NameRow {
         name: "iso8601",
         texts: &["%Y-%m-%dT%H:%M:%S"],
-        decimals: &[".%9N", ".%6N", ".%3N", ",%9N", ",%6N", ",%3N", ""],
-        offsets: &["%:z", "%z", "Z", ""],
+        decimals: AFTER_POINT_OR_COMMA,
+        offsets: &["%:z", "%z", "Z"],
+    },
+    NameRow {
+        name: "iso8601",
+        texts: &["[year]-[month]-[day]T[hour]:[minute]:[second]"],
+        decimals: &[
+            ".[subsecond digits:9]",
+            ".[subsecond digits:6]",
+            ".[subsecond digits:3]",
+            ",[subsecond digits:9]",
+            ",[subsecond digits:6]",
+            ",[subsecond digits:3]",
+            "",
+        ],
+        offsets: HOURS,
+    },
+    NameRow {
+        name: "iso8601",
+        texts: &["%Y-%m-%dT%H:%M:%S"],
+        decimals: AFTER_POINT_OR_COMMA,
+        offsets: &[""],
     },
 ];
 
@@ -126,26 +168,27 @@ impl Plans {
         Ok(())
     }
 
-    /// The plans of a name.
-    fn of_name(alloc: Global, row: &NameRow) -> Result<Plans, NotReadBy> {
-        let mut plans = Plans::none(alloc);
+    /// Adds the plans of a row.
+    fn push_texts(&mut self, alloc: Global, row: &NameRow) -> Result<(), NotReadBy> {
         for text in row.texts {
             for decimals in row.decimals {
-                plans.push_each(alloc, text, decimals, row.offsets)?;
+                self.push_each(alloc, text, decimals, row.offsets)?;
             }
         }
-        Ok(plans)
+        Ok(())
     }
 
     /// The plans of a name, or of a description.
     pub fn of(alloc: Global, word: &str) -> Result<Plans, NotReadBy> {
+        let mut plans = Plans::none(alloc);
         for row in NAMES {
             if row.name == word {
-                return Plans::of_name(alloc, row);
+                plans.push_texts(alloc, row)?;
             }
         }
-        let mut plans = Plans::none(alloc);
-        push_plan(alloc, &mut plans.plans, word)?;
+        if plans.plans.is_empty() {
+            push_plan(alloc, &mut plans.plans, word)?;
+        }
         Ok(plans)
     }
 

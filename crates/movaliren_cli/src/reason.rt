@@ -14,10 +14,11 @@ pub struct Reason<'a> {
 }
 
 impl<'a> Reason<'a> {
-    /// The reason of a line that begins so, or of one whose time is followed so.
-    pub fn of(alloc: Global, why: Why, example: &'a [u8]) -> Reason<'a> {
+    /// The reason of a line that begins so, or of one whose time is followed so, where the texts of
+    /// this description are read.
+    pub fn of(alloc: Global, why: Why, from: &str, example: &'a [u8]) -> Reason<'a> {
         let looks = match why {
-            Why::NoTime => hints::find(alloc, example),
+            Why::NoTime => hints::find(alloc, from, example),
             _ => Looks::Unknown,
         };
         Reason {
@@ -64,6 +65,9 @@ impl Display for Reason<'_> {
                 write!(f, "it looks like {word}: use --from '{word}'")
             }
             (Why::NoTime, Looks::Second60) => f.write_str("its second is 60, which no moment has"),
+            (Why::NoTime, Looks::Nearly(fault)) => {
+                write!(f, "a text in it is nearly a time: {fault}")
+            }
             (Why::NoTime, Looks::Unknown) => f.write_str("no time is in it"),
             (Why::NoPlace, _) => f.write_str("the text of --after is not in it"),
             (Why::NoUnit(count), _) => write!(

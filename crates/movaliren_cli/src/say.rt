@@ -89,12 +89,18 @@ pub fn unread() -> ExitCode {
 }
 
 /// Says how many lines passed as they were, if any did, and why the first of them did, which is one
-/// of the file of this name.
-pub fn say_passed(rt: &HostRuntime, passed: Passed, example: &[u8], file: Option<&str>) {
+/// of the file of this name, where the texts of this description are read.
+pub fn say_passed(
+    rt: &HostRuntime,
+    passed: Passed,
+    from: &str,
+    example: &[u8],
+    file: Option<&str>,
+) {
     let Some(first) = passed.first else {
         return;
     };
-    let why = Reason::of(rt.alloc(), first.why, example);
+    let why = Reason::of(rt.alloc(), first.why, from, example);
     let (line, count) = (first.line, passed.count);
     let (of, name) = match file {
         Some(name) => (" of ", name),

@@ -145,7 +145,7 @@ fn run_standard<J: CountingJob>(rt: &HostRuntime, task: &Task, job: &mut J) -> E
     match run_source(rt, task, job, &mut streams, "-") {
         Ok(true) => {
             if !task.is_quiet {
-                say_passed(rt, *job.passed(), job.example(), None);
+                say_passed(rt, *job.passed(), task.texts.from, job.example(), None);
             }
             ExitCode::SUCCESS
         }
@@ -169,7 +169,7 @@ fn run_files<J: CountingJob>(rt: &HostRuntime, task: &Task, job: &mut J) -> Exit
             Some(at) => task.files.get(at).copied(),
             None => None,
         };
-        say_passed(rt, *job.passed(), job.example(), name);
+        say_passed(rt, *job.passed(), task.texts.from, job.example(), name);
     }
     if progress.has_unread {
         say::unread()

@@ -15,9 +15,10 @@ use crate::front::{Front, Reads, moment_of_value};
 use crate::passed::Why;
 use crate::until::Years;
 use crate::years::{lack_in, yearless_moment};
+use time_below::format_description::Component;
 use time_below::{OffsetDateTime, PlainDateTime, Timestamp};
 use time_fmt::ComponentProvider;
-use time_plan::Plan;
+use time_plan::{Plan, Shown};
 use time_read::{Readable, Reader};
 
 /// A place, whose clock shows dates and times at moments.
@@ -61,7 +62,25 @@ pub struct FormRow<'a> {
     pub form: Form<'a>,
     /// How many decimals of a second they have, unless they have as many as their moment needs.
     decimals: Option<usize>,
+    /// They show an offset by its hours alone.
+    is_in_hours: bool,
     pub(crate) begins: Begins,
+}
+
+/// Whether texts of the plan show an offset by its hours alone.
+fn is_in_hours(plan: &Plan) -> bool {
+    let mut has_hours = false;
+    for step in plan.steps() {
+        let Shown::Component(component) = &step.shown else {
+            continue;
+        };
+        match component.current() {
+            Component::OffsetHour(_) => has_hours = true,
+            Component::OffsetMinute(_) => return false,
+            _ => {}
+        }
+    }
+    has_hours
 }
 
 impl<'a> FormRow<'a> {
@@ -70,10 +89,12 @@ impl<'a> FormRow<'a> {
         ensures { result.form ≡ form.entry }
     {
         let decimals = decimals_of(form.plan());
+        let is_in_hours = is_in_hours(form.plan());
         let begins = Begins::of(form.plan().steps());
         FormRow {
             form,
             decimals,
+            is_in_hours,
             begins,
         }
     }
@@ -303,7 +324,16 @@ fn front_of(meant: Meant, more: Option<Why>, decimals: usize) -> Front
     }
 }
 
-/// The text of a form at the front of a text, if there is one and it does not end inside a number.
+/// Whether minutes follow the hours of an offset.
+fn has_minutes(text: &[u8]) -> bool {
+    match text {
+        [b':', next, ..] => next.is_ascii_digit(),
+        _ => false,
+    }
+}
+
+/// The text of a form at the front of a text, if there is one and it does not end inside a number
+/// or an offset.
 fn read_row<Z: Zone>(row: &FormRow<'_>, zone: &Z, years: &Years, text: &[u8]) -> Option<Front>
     ensures { IfSome result (ReadsRow (Z.has_moment zone.now) years.now row.now text.now) }
 {
@@ -312,6 +342,9 @@ fn read_row<Z: Zone>(row: &FormRow<'_>, zone: &Z, years: &Years, text: &[u8]) ->
     }
     let meant = read_form(&row.form, zone, years, text)?;
     if is_cut(text, meant.count) {
+        return None;
+    }
+    if row.is_in_hours && has_minutes(&text[meant.count..]) {
         return None;
     }
     let more = more_behind(row, text, meant.count);
