@@ -63,8 +63,8 @@ pub trait Exchange {
     ghost has_ended: { Self → Type 0 };
 
     /// Reads some bytes of the source into the block: none at the end of the source, or where the
-    /// block is empty. No line that was read to its end may wait for what it becomes, and of no
-    /// line more than so many bytes.
+    /// block is empty. No line that was read to its end may wait for its text, and at most
+    /// `longest` bytes of another line may wait.
     fn read<J: LineJob>(
         &mut self,
         job: &J,

@@ -70,8 +70,8 @@ fn take_block<J: LineJob, S: Exchange>(
     Ok(())
 }
 
-/// Goes on with a line that passes, if one does: writes its bytes of the block. Returns at which
-/// byte lines begin again, unless it goes on behind the block.
+/// Writes the bytes of the block that belong to a line that passes, if one does. Returns the
+/// position at which the next line begins, or `None` if the line goes on behind the block.
 fn pass_on<S: Exchange>(
     is_passing: bool,
     block: &[u8],
@@ -95,7 +95,7 @@ fn pass_on<S: Exchange>(
     Ok(Some(end + 1))
 }
 
-/// Writes what waits of a line, if it has more than so many bytes. Says whether it does.
+/// Writes what waits of a line, if that is more than `longest` bytes, and returns whether it is.
 fn pass_early<J: LineJob, S: Exchange>(
     job: &mut J,
     longest: usize,
@@ -147,10 +147,10 @@ fn take_last<J: LineJob, S: Exchange>(
 /// How many bytes are read at a time.
 const BLOCK_SIZE: usize = 65_536;
 
-/// Writes what each line of the input becomes, to the end of the input. A line of more than so many
-/// bytes, its line feed among them, passes as it is. Each read is made when no line that has its
-/// end waits for what it becomes, and no more than so many bytes of another one wait. After an
-/// error what some first lines become was written, that of the last one of them perhaps in part.
+/// Writes what each line of the input becomes, to the end of the input. A line of more than
+/// `longest` bytes, its line feed among them, passes as it is. When a read is made, no line that
+/// has ended waits for its text, and at most `longest` bytes of another line wait. After an error
+/// what some first lines become was written, that of the last one of them perhaps in part.
 pub fn run<J: LineJob, S: Exchange>(
     alloc: Global,
     job: &mut J,

@@ -29,8 +29,8 @@ pub trait LineJob {
         ensures appended { OnOk result
             (Adds (becomes self.old line.now) output.old.items output.new.items) };
 
-    /// Is called for each line that has more than so many bytes, its line feed among them, and so
-    /// passes as it is.
+    /// Is called for each line of more than `longest` bytes, its line feed among them, which passes
+    /// as it is.
     fn pass_long(&mut self, longest: usize)
         ensures stays { Stays (becomes self.old) (becomes self.new) }
         ensures ready { is_ready self.old → is_ready self.new };
@@ -43,7 +43,7 @@ pub fn place_of_end(bytes: &[u8]) -> Option<usize>
     memchr(b'\n', bytes)
 }
 
-/// Appends a line that has more than so many bytes.
+/// Appends a line of more than `longest` bytes as it is.
 #[cold]
 fn append_long<J: LineJob>(
     job: &mut J,
@@ -59,7 +59,7 @@ fn append_long<J: LineJob>(
     output.extend_from_slice(line)
 }
 
-/// Appends what the line becomes, or the line if it has more than so many bytes.
+/// Appends what the line becomes, or the line itself if it has more than `longest` bytes.
 fn append_line<J: LineJob>(
     job: &mut J,
     longest: usize,

@@ -15,11 +15,11 @@ pub enum Refused {
     YearOutOfRange,
     /// A well-known format has no place for the year.
     InvalidYear,
-    /// It has no place for the hours of the offset.
+    /// A well-known format has no place for the hours of the offset.
     InvalidOffsetHour,
-    /// It has no place for the minutes of the offset.
+    /// A well-known format has no place for the minutes of the offset.
     InvalidOffsetMinute,
-    /// It has no place for the seconds of the offset.
+    /// A well-known format has no place for the seconds of the offset.
     InvalidOffsetSecond,
 }
 
