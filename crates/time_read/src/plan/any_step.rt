@@ -40,7 +40,8 @@ pub trait ReadStep {
             → tree_outcome (tree_of texts.now self.now) f ≡ tree_outcome (parts_tree result) f };
 
     /// What the step shows, where that lies, or else in this place: a copy costs as much as the
-    /// comparison with a literal.
+    /// comparison with a literal. No clause of a reader rests on it, since the text of the value
+    /// that was read is compared afterwards.
     fn shown<'a>(&'a self, texts: &[u8], place: &'a mut Shown) -> &'a Shown;
 }
 
